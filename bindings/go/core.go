@@ -83,61 +83,8 @@ static int64_t core_write_through(core *c, uint32_t id, const uint8_t *bytes, si
     return (int64_t)done;
 }
 
-// What a call waits for until the connection has taken it, and what is known of that.
-typedef struct ask {
-    uint32_t id;    // its stream
-    int32_t what;   // YMX_NEXT_DATA: all that was written. Else a kind of frame, and those that go before it
-    int32_t is_out; // 1 where it was emitted, `at` bytes behind the beginning of the emission; -1 where it never will be
-    int32_t begun;  // 1 where it was emitted but for the rest of its last frame
-    int64_t at;
-    int64_t unsent; // of data, before the emission: bytes that weren't emitted, or -1 where a part of a frame was
-} ask;
-
-// The longest frame that is emitted, with its header.
-enum { longest_frame = 12 + 16384 };
-
-// Looks whether it was emitted, behind an emission of so many bytes.
-static void core_look_for(core *c, ask *a, size_t emitted) {
-    int64_t next = ymx_next_of(c->session, a->id);
-    int64_t kind = next & ~(int64_t)YMX_NEXT_REST;
-    int has_rest = (next & YMX_NEXT_REST) != 0;
-    if (a->begun) {
-        a->is_out = !has_rest || emitted >= longest_frame;
-        return;
-    }
-    if (a->what == YMX_NEXT_DATA ? ymx_unsent(c->session, a->id) > 0 : kind != YMX_NEXT_RESET && kind > 0 && kind <= a->what) return;
-    if (a->what == YMX_NEXT_DATA && ymx_is_reset(c->session, a->id) == 1)
-        a->is_out = -1;
-    else if (has_rest)
-        a->begun = 1; // and goes with what is emitted next
-    else
-        a->is_out = 1;
-}
-
-// How many of the bytes written to a stream weren't emitted, or -1 where that can't be told.
-static int64_t core_unsent(core *c, uint32_t id) {
-    if (ymx_is_reset(c->session, id) == 1 || ymx_next_of(c->session, id) >= YMX_NEXT_REST) return -1;
-    return ymx_unsent(c->session, id);
-}
-
-// Fills the buffer with bytes for the peer, and says of each ask where among them it is out. It emits piece by piece, so
-// that nobody waits for the whole of a long block.
-static int64_t core_emit(core *c, uint8_t *buffer, size_t len, ask *asks, size_t count) {
-    size_t piece = count == 0 ? len : 2 * longest_frame, filled = 0;
-    for (size_t i = 0; i < count; i++)
-        if (asks[i].what == YMX_NEXT_DATA) asks[i].unsent = core_unsent(c, asks[i].id);
-    while (filled < len) {
-        size_t room = len - filled < piece ? len - filled : piece;
-        size_t made = (size_t)ymx_emit(c->session, buffer + filled, room);
-        filled += made;
-        for (size_t i = 0; i < count; i++) {
-            if (asks[i].is_out != 0) continue;
-            core_look_for(c, &asks[i], made);
-            asks[i].at = (int64_t)filled;
-        }
-        if (made < room) break;
-    }
-    return (int64_t)filled;
+static int64_t core_emit(core *c, uint8_t *buffer, size_t len) {
+    return ymx_emit(c->session, buffer, len);
 }
 
 static int64_t core_unread(core *c, uint32_t id) {
@@ -211,53 +158,9 @@ func (core core) isDue() bool { return core.c.due == 1 }
 
 func (core core) status() int64 { return int64(core.c.status) }
 
-// ask is what a call waits for until the connection has taken it.
-type ask C.ask
-
-// What of a stream a call may wait for: its first frame, credit, all that was written, and its end.
-const (
-	itsFirst  = C.YMX_NEXT_FIRST
-	itsCredit = C.YMX_NEXT_CREDIT
-	itsData   = C.YMX_NEXT_DATA
-	itsEnd    = C.YMX_NEXT_END
-)
-
-func newAsk(id uint32, what int32) ask {
-	return ask{id: C.uint32_t(id), what: C.int32_t(what), unsent: -1}
-}
-
-func (a *ask) stream() uint32 { return uint32(a.id) }
-func (a *ask) kind() int32    { return int32(a.what) }
-func (a *ask) isOfData() bool { return a.what == itsData }
-
-// isOut says whether it was emitted, and how many bytes behind the beginning of the last emission.
-func (a *ask) isOut() (bool, uint64) { return a.is_out > 0, uint64(a.at) }
-
-// isVoid says whether it never will be: the stream was reset.
-func (a *ask) isVoid() bool { return a.is_out < 0 }
-
-// unsentBefore says how many bytes weren't emitted before the last emission, where that can be told.
-func (a *ask) unsentBefore() (uint64, bool) { return uint64(a.unsent), a.unsent >= 0 }
-
 // emit fills the buffer with bytes for the peer. Where it is not full, nothing is left due.
-func (core core) emit(buffer []byte, asks []ask) int {
-	var some *C.ask
-	if len(asks) > 0 {
-		some = (*C.ask)(&asks[0])
-	}
-	return int(C.core_emit(core.c, first(buffer), C.size_t(len(buffer)), some, C.size_t(len(asks))))
-}
-
-// lookFor says whether what an ask waits for was emitted already.
-func (core core) lookFor(a *ask) {
-	a.at = 0
-	C.core_look_for(core.c, (*C.ask)(a), 0)
-}
-
-// unsent says how many of the bytes written to a stream weren't emitted, where that can be told.
-func (core core) unsent(id uint32) (uint64, bool) {
-	count := int64(C.core_unsent(core.c, C.uint32_t(id)))
-	return uint64(count), count >= 0
+func (core core) emit(buffer []byte) int {
+	return int(C.core_emit(core.c, first(buffer), C.size_t(len(buffer))))
 }
 
 func (core core) open() int64   { return int64(C.ymx_open(core.c.session)) }

@@ -43,35 +43,33 @@ type Session struct {
 	offered   int64 // streams that wait for AcceptStream
 	unacked   int   // own streams that the peer has not acknowledged
 	streams   map[uint32]*Stream
-	kept      []*Stream // the peer's, which came before the session ended, and wait for AcceptStream
+	leaving   map[uint32]*Stream // forgotten by the library, but their end is not out
+	kept      []*Stream          // the peer's, which came before the session ended, and wait for AcceptStream
 	pings     map[uint32]*ping
 	block     *[blockSize]byte // for what is emitted; nil while nothing is
 	rest      []byte           // what of it the connection has not taken
-	emitted   uint64           // bytes that the library has emitted
-	outside   uint64           // how many of them the connection has taken
-	filled    uint64           // blocks that were filled with what was due
-	written   uint64           // how many of them the connection has taken
-	waiters   []*waiter        // calls that wait for their bytes to be out
-	asks      []ask            // what the library is asked for them, at an emission
-	asking    []*waiter        // and who asks
-	turns     []*Stream        // of which a Write waits for the connection, the first to come first
-	away      ownFrame         // our Go Away
-	watching  bool             // a look at those who wait for the connection to take their bytes is planned
-	opening   patience         // own streams that the peer has not acknowledged
-	closing   patience         // streams that are closed here, and not ended by the peer
-	timer     *time.Timer      // for what is sent soon; nil before the first time
-	isPlanned bool             // the timer will send it
+	out       outgoing
+	drains    uint64      // emissions after which nothing was due
+	outside   uint64      // how many of them the connection has taken
+	flushing  []*Stream   // of which calls wait for their bytes to be out
+	turns     []*Stream   // of which a Write waits for the connection, the first to come first
+	away      bool        // our Go Away is out
+	watching  bool        // a look at those who wait for the connection to take their bytes is planned
+	opening   patience    // own streams that the peer has not acknowledged
+	closing   patience    // streams that are closed here, and not ended by the peer
+	timer     *time.Timer // for what is sent soon; nil before the first time
+	isPlanned bool        // the timer will send it
 
 	sender     *sync.Cond // the writing goroutine has something to do
-	taking     *sync.Cond // bytes were emitted, so a feed may take more
+	emitted    *sync.Cond // bytes were emitted
 	acceptable *sync.Cond // a stream waits for AcceptStream
 	openable   *sync.Cond // a stream was acknowledged, or is gone
-	said       *sync.Cond // our Go Away is out
+	written    *sync.Cond // a Go Away was written
 }
 
 type ping struct {
-	back  chan struct{} // closed once the answer is back
-	frame ownFrame
+	back chan struct{} // closed once the answer is back
+	sent bool
 }
 
 func newSession(config *Config, connection io.ReadWriteCloser, client bool) (*Session, error) {
@@ -97,12 +95,13 @@ func newSession(config *Config, connection io.ReadWriteCloser, client bool) (*Se
 		pingSeats:  make(chan struct{}, 16),
 		core:       core,
 		streams:    make(map[uint32]*Stream),
+		leaving:    make(map[uint32]*Stream),
 		pings:      make(map[uint32]*ping),
 	}
 	s.source = newSource(connection, s.socket)
 	s.opening = patience{lock: &s.lock, limit: config.StreamOpenTimeout, tired: (*Stream).openTimedOut}
 	s.closing = patience{lock: &s.lock, limit: config.StreamCloseTimeout, tired: (*Stream).closeTimedOut}
-	for _, cond := range []**sync.Cond{&s.sender, &s.taking, &s.acceptable, &s.openable, &s.said} {
+	for _, cond := range []**sync.Cond{&s.sender, &s.emitted, &s.acceptable, &s.openable, &s.written} {
 		*cond = sync.NewCond(&s.lock)
 	}
 	go s.receive()
@@ -155,9 +154,6 @@ func (s *Session) end(reason error) {
 	if s.failure == nil {
 		s.failure = reason
 	}
-	for _, w := range s.waiters {
-		w.stream.count(w)
-	}
 	s.over = true
 	for _, stream := range s.streams {
 		stream.abandon()
@@ -165,7 +161,7 @@ func (s *Session) end(reason error) {
 	if reason != ErrSessionShutdown {
 		s.keepOffered()
 	}
-	s.wakeWaiters() // also of streams that the library has forgotten
+	s.wakeFlushing() // also of streams that the library has forgotten
 	s.core.free()
 	s.giveBlock()
 	s.opening.stop()
@@ -174,7 +170,7 @@ func (s *Session) end(reason error) {
 		s.timer.Stop()
 	}
 	close(s.done)
-	for _, cond := range []*sync.Cond{s.sender, s.taking, s.acceptable, s.openable, s.said} {
+	for _, cond := range []*sync.Cond{s.sender, s.emitted, s.acceptable, s.openable, s.written} {
 		cond.Broadcast()
 	}
 	s.lock.Unlock()
@@ -206,8 +202,8 @@ func (s *Session) silence(reason error) bool {
 	for _, stream := range s.streams {
 		stream.writable.Broadcast()
 	}
-	s.wakeWaiters()
-	for _, cond := range []*sync.Cond{s.taking, s.openable, s.said} {
+	s.wakeFlushing()
+	for _, cond := range []*sync.Cond{s.emitted, s.openable, s.written} {
 		cond.Broadcast()
 	}
 	time.AfterFunc(lastReads, func() { s.end(reason) })
@@ -261,7 +257,7 @@ func (s *Session) feed(bytes []byte) (goesOn bool, fault error) {
 			s.discard() // nobody will send the answers
 			continue
 		}
-		s.taking.Wait() // as many answers are unsent as the library keeps
+		s.emitted.Wait() // as many answers are unsent as the library keeps
 	}
 	return false, nil
 }
@@ -269,7 +265,7 @@ func (s *Session) feed(bytes []byte) (goesOn bool, fault error) {
 // discard takes what is due out of the library, for nobody.
 func (s *Session) discard() {
 	block := blocks.Get().(*[blockSize]byte)
-	for s.core.emit(block[:], nil) == blockSize {
+	for s.core.emit(block[:]) == blockSize {
 	}
 	blocks.Put(block)
 }
@@ -389,11 +385,14 @@ func (s *Session) fill() bool {
 		return false
 	}
 	s.takeBlock()
-	count := s.emit(s.block[:])
+	count := s.core.emit(s.block[:])
 	s.rest = s.block[:count]
 	s.due = count == blockSize
-	s.taking.Broadcast()
-	s.tellWaiters()
+	if !s.due {
+		s.drains++
+	}
+	s.emitted.Broadcast()
+	s.drained()
 	s.giveBlock()
 	return count > 0
 }
@@ -422,7 +421,9 @@ func (s *Session) through(id uint32, bytes []byte) int {
 	s.takeBlock()
 	taken, filled := s.core.writeThrough(id, bytes, s.block[:])
 	s.rest = s.block[:filled]
-	s.emitted += uint64(filled)
+	if filled > 0 {
+		s.drains++ // nothing is due behind it
+	}
 	s.giveBlock()
 	return taken
 }
@@ -437,8 +438,8 @@ func (s *Session) writeRest(write func([]byte) (int, error)) error {
 	s.busy = false
 	if !s.over {
 		s.rest = rest[count:]
-		s.outside += uint64(count)
-		s.tellWaiters()
+		s.sent(rest[:count])
+		s.drained()
 		if s.failure != nil && !s.due && len(s.rest) == 0 {
 			go s.end(s.failure)
 		}
@@ -494,6 +495,25 @@ func (s *Session) leaveTurns(stream *Stream) {
 	}
 }
 
+// drained notes that all that was emitted is out, if it is, and wakes those who wait for no more than that.
+func (s *Session) drained() {
+	if s.outside == s.drains || len(s.rest) > 0 {
+		return
+	}
+	s.outside = s.drains
+	s.wakeFlushing()
+}
+
+// wakeFlushing wakes all who wait for their bytes to be out. Who goes on waiting enters the list anew.
+func (s *Session) wakeFlushing() {
+	for _, stream := range s.flushing {
+		stream.isFlushing = false
+		stream.readable.Broadcast()
+		stream.writable.Broadcast()
+	}
+	s.flushing = s.flushing[:0]
+}
+
 // overdue says whether who has waited since then for the connection to take its bytes should give up. It plans a look.
 func (s *Session) overdue(since time.Time) bool {
 	if time.Since(since) >= s.config.ConnectionWriteTimeout {
@@ -511,8 +531,8 @@ func (s *Session) look() {
 	s.lock.Lock()
 	defer s.lock.Unlock()
 	s.watching = false
-	s.said.Broadcast()
-	s.wakeWaiters()
+	s.written.Broadcast()
+	s.wakeFlushing()
 	for _, stream := range s.turns {
 		stream.writable.Broadcast()
 	}
@@ -645,9 +665,8 @@ func (s *Session) GoAway() error {
 	if answer := s.core.goAway(); answer < 0 {
 		return refusal(answer)
 	}
-	s.away.ask(s)
 	s.wakeWriter()
-	for since := time.Now(); !s.away.isOut(s); s.said.Wait() {
+	for since := time.Now(); !s.away; s.written.Wait() {
 		if s.isDown() {
 			return ErrSessionShutdown
 		}
@@ -676,7 +695,7 @@ func (s *Session) Ping() (time.Duration, error) {
 	}
 	s.lock.Lock()
 	defer s.lock.Unlock()
-	if !ping.frame.isOut(s) {
+	if !ping.sent {
 		return 0, ErrConnectionWriteTimeout
 	}
 	return 0, ErrTimeout
@@ -703,7 +722,6 @@ func (s *Session) beginPing(timeout <-chan time.Time) (*ping, error) {
 		return nil, refusal(answer)
 	}
 	ping := &ping{back: make(chan struct{})}
-	ping.frame.ask(s)
 	s.pings[uint32(answer)] = ping
 	s.wakeWriter()
 	return ping, nil

@@ -34,10 +34,13 @@ type Stream struct {
 
 	waiting int    // bytes of a Write that waits, which the library hasn't taken
 	taken   uint64 // bytes that the library took from Write
-	gone    uint64 // how many of them are out at least
-	writer  waiter // of Write
+	gone    uint64 // how many of them are out
+	begins  bool   // its first frame is out
+	ends    bool   // our end is out
+	credits uint64 // how many credits are out
 
-	hasTurn bool // its Write may have the connection
+	isFlushing bool // it is in the session's list of those
+	hasTurn    bool // its Write may have the connection
 }
 
 func newStream(session *Session, id uint32) *Stream {
@@ -56,7 +59,7 @@ func (st *Stream) begin() error {
 		return nil
 	}
 	s.due = true
-	return st.flush(itsFirst, &st.writable, func() bool { return false })
+	return st.flush(&st.writable, func() bool { return st.begins })
 }
 
 // Session gives the stream's session.
@@ -154,7 +157,8 @@ func (st *Stream) credit() error {
 		return nil
 	}
 	s.due = true
-	err := st.flush(itsCredit, &st.readable, func() bool { return st.closed || st.reading.isPast() })
+	wanted := st.credits + 1
+	err := st.flush(&st.readable, func() bool { return st.credits >= wanted || st.closed || st.reading.isPast() })
 	if err == ErrSessionShutdown {
 		return nil // the bytes have come, and the next call tells it
 	}
@@ -212,16 +216,9 @@ func (st *Stream) Write(bytes []byte) (int, error) {
 		return 0, ErrTimeout
 	}
 	before, all := st.taken, len(bytes)
-	w := &st.writer
-	w.await(st, itsData, &st.writable)
 	err := st.hand(bytes)
 	st.waiting = 0
-	if err != nil || len(bytes) == 0 {
-		w.look() // for what the library has taken all the same
-	}
-	fault := w.flush(func() bool { return st.closed || st.writing.isPast() })
-	st.count(w)
-	w.leave()
+	fault := st.flush(&st.writable, func() bool { return st.gone >= st.taken || st.closed || st.writing.isPast() })
 	if err == nil {
 		err = fault
 	}
@@ -275,14 +272,12 @@ func (st *Stream) hand(bytes []byte) error {
 			if count := s.through(st.id, bytes); count > 0 {
 				st.taken += uint64(count)
 				bytes = bytes[count:]
-				st.writer.isOutWith(s.emitted)
 				continue
 			}
 			answer := s.core.write(st.id, bytes)
 			if answer > 0 {
 				st.taken += uint64(answer)
 				bytes = bytes[answer:]
-				st.writer.again()
 				s.due = true
 				st.stalled = len(bytes) > 0
 				continue
@@ -364,28 +359,25 @@ func (st *Stream) refused(answer int64) error {
 	return err
 }
 
-// flush waits until this of the stream is out, or never will be, or the call is over.
-func (st *Stream) flush(what int32, cond *sync.Cond, isOver func() bool) error {
-	w := new(waiter)
-	w.await(st, what, cond)
-	defer w.leave()
-	w.look()
-	return w.flush(isOver)
-}
-
-func (w *waiter) flush(isOver func() bool) error {
-	s := w.stream.session
+// flush waits until it holds that these bytes of the stream are out, or all that was due is: a reset or the peer's end
+// may have made them needless.
+func (st *Stream) flush(cond *sync.Cond, areOut func() bool) error {
+	s := st.session
+	enough := s.drains
+	if s.due {
+		enough++
+	}
 	var since time.Time
-	for ; !w.isDone() && !isOver(); w.cond.Wait() {
+	for ; !areOut() && s.outside < enough; cond.Wait() {
 		for s.writeHere() {
-			if w.isDone() || isOver() {
+			if areOut() || s.outside >= enough {
 				return nil
 			}
 		}
 		if s.isDown() {
 			return ErrSessionShutdown
 		}
-		if w.isDone() || isOver() {
+		if areOut() || s.outside >= enough {
 			return nil
 		}
 		if since.IsZero() {
@@ -394,25 +386,36 @@ func (w *waiter) flush(isOver func() bool) error {
 		if s.overdue(since) {
 			return ErrConnectionWriteTimeout
 		}
+		if !st.isFlushing {
+			st.isFlushing = true
+			s.flushing = append(s.flushing, st)
+		}
 	}
 	return nil
 }
 
-// count notes how many bytes of Write are out, as far as that is known.
-func (st *Stream) count(w *waiter) {
-	s := st.session
-	if !w.ask.isOfData() {
-		return
+// sent notes that so many bytes of Write are out.
+func (st *Stream) sent(count uint64) {
+	st.gone += count
+	if st.gone >= st.taken {
+		st.writable.Broadcast()
 	}
-	if w.isKnown && s.outside >= w.at {
-		st.gone = st.taken
-		return
+}
+
+// sentFrame notes what a frame that is out, or its header, says beside its payload.
+func (st *Stream) sentFrame(kind byte, flags uint16, length uint32) {
+	if flags&(flagSYN|flagACK) != 0 {
+		st.begins = true
+		st.writable.Broadcast()
 	}
-	if s.over || st.end != nil || s.outside < s.emitted {
-		return
+	if flags&flagFIN != 0 {
+		st.ends = true
+		st.writable.Broadcast()
+		delete(st.session.leaving, st.id)
 	}
-	if left, isKnown := s.core.unsent(st.id); isKnown {
-		st.gone = st.taken - left
+	if kind == frameWindowUpdate && length > 0 {
+		st.credits++
+		st.readable.Broadcast()
 	}
 }
 
@@ -485,7 +488,7 @@ func (st *Stream) finish() error {
 	}
 	st.session.due = true
 	st.writable.Broadcast()
-	return st.flush(itsEnd, &st.writable, func() bool { return false })
+	return st.flush(&st.writable, func() bool { return st.ends })
 }
 
 // Reset breaks the stream off, both ways. Both sides' calls return ErrConnectionReset.
@@ -558,6 +561,9 @@ func (st *Stream) leave(reason error) {
 		s.wakeWriter() // there is a reset to send
 	}
 	delete(s.streams, st.id)
+	if st.finished && !st.ends {
+		s.leaving[st.id] = st
+	}
 	st.over(reason)
 }
 

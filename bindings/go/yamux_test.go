@@ -20,12 +20,6 @@ import (
 	"time"
 )
 
-// Of the wire: how long a frame's header is, and the number of a Go Away.
-const (
-	headerSize  = 12
-	frameGoAway = 3
-)
-
 func quiet() *Config {
 	config := DefaultConfig()
 	config.LogOutput = io.Discard
