@@ -11,4 +11,4 @@ mod reading;
 
 pub use options::TunnelCommand;
 pub use reading::{CommandFault, Task, parse};
-pub use ymx_policy::{LocalOptions, PeerAddress, RemoteOptions};
+pub use ymx_policy::{LocalOptions, Networks, PeerAddress, RemoteOptions};

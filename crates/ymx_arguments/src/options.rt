@@ -7,7 +7,7 @@ ghost use Rattle.ymx_arguments.specs.CommandLine.{AreBadTimes, AreBothGiven, Are
 use crate::arguments::{BadOption, number_of};
 use clap::ArgMatches;
 use std::net::SocketAddrV4;
-use ymx_policy::{LocalOptions, PeerAddress, RemoteOptions};
+use ymx_policy::{LocalOptions, Networks, PeerAddress, RemoteOptions};
 
 /// How many bytes of a stream may be unread where the command line says nothing.
 const DEFAULT_WINDOW: u32 = 262_144;
@@ -85,7 +85,10 @@ fn local_options<'a>(found: &ArgMatches<'a>) -> Result<TunnelCommand, BadOption<
         ping,
         keepalive: times.keepalive,
         timeout: times.timeout,
+        from: Networks::all(),
+        status: None,
         is_verbose: found.get_flag("verbose"),
+        has_times: false,
     }))
 }
 
@@ -124,7 +127,10 @@ fn remote_options<'a>(found: &ArgMatches<'a>) -> Result<TunnelCommand, BadOption
         ping,
         keepalive: times.keepalive,
         timeout: times.timeout,
+        from: Networks::all(),
+        status: None,
         is_verbose: found.get_flag("verbose"),
+        has_times: false,
     }))
 }
 

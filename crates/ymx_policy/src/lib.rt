@@ -27,7 +27,7 @@ pub use laws::{
     pool_does_as_told, pool_links, pool_places, pool_reasons_are_told, pool_says_late,
     pool_statuses, pools, reasons_are_told, remote_options, serves_peers, statuses,
 };
-pub use options::{LocalOptions, PeerAddress, RemoteOptions};
+pub use options::{LocalOptions, Network, Networks, PeerAddress, RemoteOptions};
 pub use plan::{Plan, Role, Terms};
 pub use pool::{Pool, PoolStage};
 pub use reason::Reason;

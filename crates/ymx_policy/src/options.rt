@@ -1,6 +1,6 @@
 //! What the two ends of a tunnel are told to do, as the words of a command line gave it.
 
-use std::net::SocketAddrV4;
+use std::net::{Ipv4Addr, SocketAddrV4};
 
 /// Where an end of the tunnel meets its peer.
 #[derive(Clone, Copy)]
@@ -9,6 +9,38 @@ pub enum PeerAddress {
     Connect(SocketAddrV4),
     /// It listens at this address for the peer.
     Listen(SocketAddrV4),
+}
+
+/// A network: the addresses whose first bits are those of this one.
+#[derive(Clone, Copy)]
+pub struct Network {
+    /// One of its addresses.
+    pub address: Ipv4Addr,
+    /// How many bits its addresses have in common, 0 to 32.
+    pub bits: u8,
+}
+
+/// How many networks there are at most from which peers may call.
+pub const NETWORKS: usize = 8;
+
+/// From where peers may call: from the networks here, in any order, one of which may stand here several times.
+#[derive(Clone, Copy)]
+pub struct Networks {
+    /// The networks.
+    pub networks: [Network; NETWORKS],
+}
+
+impl Networks {
+    /// From everywhere.
+    pub fn all() -> Networks {
+        let all = Network {
+            address: Ipv4Addr::UNSPECIFIED,
+            bits: 0,
+        };
+        Networks {
+            networks: [all; NETWORKS],
+        }
+    }
 }
 
 /// The options of `ymx local`.
@@ -33,8 +65,14 @@ pub struct LocalOptions {
     pub keepalive: u32,
     /// How many seconds a call to the peer may take, 1 to 3,600. None if the command line doesn't say.
     pub timeout: Option<u32>,
+    /// From where its peer may call, where it listens for it.
+    pub from: Networks,
+    /// Where it answers requests for what it counts. None if nowhere.
+    pub status: Option<SocketAddrV4>,
     /// Whether it says that it is ready, and how each connection ended.
     pub is_verbose: bool,
+    /// Whether each line on standard error begins with the time.
+    pub has_times: bool,
 }
 
 /// The options of `ymx remote`.
@@ -59,6 +97,12 @@ pub struct RemoteOptions {
     pub keepalive: u32,
     /// How many seconds a call to the peer may take, 1 to 3,600. None if the command line doesn't say.
     pub timeout: Option<u32>,
+    /// From where its peer may call, where it listens for it.
+    pub from: Networks,
+    /// Where it answers requests for what it counts. None if nowhere.
+    pub status: Option<SocketAddrV4>,
     /// Whether it says that it is ready, and how each connection ended.
     pub is_verbose: bool,
+    /// Whether each line on standard error begins with the time.
+    pub has_times: bool,
 }
