@@ -293,9 +293,9 @@ def many_through(*words):
 def bad_words():
     """A number out of its range, or links to a peer that is awaited."""
     for words, said in (
-        (("--links", "0", "--peer", ANY), "error: invalid value '0' for '--links <N>'"),
-        (("--links", "65", "--peer", ANY), "error: invalid value '65' for '--links <N>'"),
-        (("--links", "+2", "--peer", ANY), "error: invalid value '+2' for '--links': a number is decimal digits alone"),
+        (("--links", "0", "--peer", ANY), "error: invalid value '0' for '--links': a number is decimal digits alone, from 1 to 64"),
+        (("--links", "65", "--peer", ANY), "error: invalid value '65' for '--links': a number is decimal digits alone, from 1 to 64"),
+        (("--links", "+2", "--peer", ANY), "error: invalid value '+2' for '--links': a number is decimal digits alone, from 1 to 64"),
         (("--links", "2", "--bind", ANY), "error: the argument '--links <N>' cannot be used with '--bind <ADDRESS>'"),
     ):
         status, text = Program("local", "--listen", ANY, *words).end()

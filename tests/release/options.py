@@ -155,7 +155,7 @@ def parts_of_fish():
         if not line.startswith("complete "):
             continue
         end = " with a value" if " -x" in line else ""
-        found = {("-" if kind == "s" else "--") + word + end for kind, word in re.findall(r" -([sl]) (\w+)", line)}
+        found = {("-" if kind == "s" else "--") + word + end for kind, word in re.findall(r" -([sl]) ([\w-]+)", line)}
         seen = re.search(r"'__fish_seen_subcommand_from ([\w ]+)'", line)
         if seen:
             for command in seen.group(1).split():

@@ -1,19 +1,16 @@
 -- What clap makes of words that ask for frames or for a script.
 use Rattle.std.proofs.Common.{◌≡◌, ◌==◌, ◌++◌, ◌<◌, ◌≤◌, ℕ, true, false, List, [], ◌∷◌, Option, Some, None, arith, rules, refl, ap, codes, decimal, inl, inr, get_or}
-use Rattle.std.specs.Prelude.{◌≢◌, pos, option_and_then, slice_get}
+use Rattle.std.specs.Prelude.{◌≢◌, option_and_then, slice_get}
 use Rattle.std.specs.Fmt.{digits}
 use Rattle.std.specs.Str.{bytes_eq}
-use Rattle.std.specs.Str.Parse.{IsNumeral, digits_value}
+use Rattle.std.specs.Str.Parse.{IsNumeral}
 use Rattle.std.proofs.lemmas.Bool.{ne_eqb}
 use Rattle.std.proofs.lemmas.Fmt.{decimal_is_IsNumeral, first_decimal}
 use Rattle.std.proofs.lemmas.Str.Parse.{digit_from_value}
 use Rattle.clap.specs.Faults.{is_simple_and_free}
 use Rattle.clap.specs.Lexer.{strip_byte}
-use Rattle.clap.specs.Words.{Accepts, Text, is_simple, subcommand_of, takes}
-use Rattle.clap.specs.ValueTests.{accepts}
-use Rattle.clap.specs.declared.builder.value_parser.ValueParser.TheVariants as parser
+use Rattle.clap.specs.Words.{Text, is_simple, subcommand_of, takes}
 use Rattle.clap.proofs.OnLiterals.{clap_on_literals}
-use Rattle.clap.proofs.ValueTestLemmas.{Accepts-accepts}
 use Rattle.ymx_arguments.specs.CommandLine.{AsksFrames, AsksScript, GivesFile, GivesLimit, file_of, named_words, ymx_app}
 
 pub is_simple-ymx : is_simple ymx_app ≡ true
@@ -27,10 +24,6 @@ is_simple_and_free-ymx = refl
 -- it is no flag
 abbrev IsPlain : Text → Type 0
 IsPlain word = (strip_byte 45 word ≡ None) × (bytes_eq word (45 ∷ 45 ∷ []) ≡ false)
-
--- it passes the parser of `--limit`
-abbrev Passes : Text → Type 0
-Passes text = accepts false (parser.Signed (pos 262144) (pos 16777216)) text ≡ true
 
 plain : (word : Text) → slice_get word 0 ≢ Some 45 → IsPlain word
 plain [] other = (refl, refl)
@@ -58,55 +51,46 @@ default_file : (name file : Text) → IsPlain file → IsTaken name (file ∷ []
 unfolding clap_on_literals
 default_file name file p = (rw (p.0, p.1, p.0) refl, rw (p.0, p.1, p.0) refl)
 
-limit_input : (name text : Text) → IsPlain text → Passes text → IsTaken name (codes "--limit" ∷ text ∷ []) text None
+limit_input : (name text : Text) → IsPlain text → IsTaken name (codes "--limit" ∷ text ∷ []) text None
 unfolding clap_on_literals
-limit_input name text p a = (rw (p.0, p.1, p.0, a) refl, rw (p.0, p.1, p.0) refl)
+limit_input name text p = (rw (p.0, p.1, p.0) refl, rw (p.0, p.1, p.0) refl)
 
-limit_dash : (name text : Text) → IsPlain text → Passes text → IsTaken name (codes "--limit" ∷ text ∷ codes "-" ∷ []) text (Some (codes "-"))
+limit_dash : (name text : Text) → IsPlain text → IsTaken name (codes "--limit" ∷ text ∷ codes "-" ∷ []) text (Some (codes "-"))
 unfolding clap_on_literals
-limit_dash name text p a = (rw (p.0, p.1, p.0, a) refl, rw (p.0, p.1, p.0) refl)
+limit_dash name text p = (rw (p.0, p.1, p.0) refl, rw (p.0, p.1, p.0) refl)
 
-limit_file : (name text file : Text) → IsPlain text → Passes text → IsPlain file → IsTaken name (codes "--limit" ∷ text ∷ file ∷ []) text (Some file)
+limit_file : (name text file : Text) → IsPlain text → IsPlain file → IsTaken name (codes "--limit" ∷ text ∷ file ∷ []) text (Some file)
 unfolding clap_on_literals
-limit_file name text file p a q = (rw (p.0, p.1, p.0, q.0, q.1, q.0, a) refl, rw (p.0, p.1, p.0, q.0, q.1, q.0) refl)
+limit_file name text file p q = (rw (p.0, p.1, p.0, q.0, q.1, q.0) refl, rw (p.0, p.1, p.0, q.0, q.1, q.0) refl)
 
-attached_input : (name text : Text) → IsPlain text → Passes text → IsTaken name ((codes "--limit=" ++ text) ∷ []) text None
+attached_input : (name text : Text) → IsTaken name ((codes "--limit=" ++ text) ∷ []) text None
 unfolding clap_on_literals
-attached_input name text p a = (rw a refl, refl)
+attached_input name text = (refl, refl)
 
-attached_dash : (name text : Text) → IsPlain text → Passes text → IsTaken name ((codes "--limit=" ++ text) ∷ codes "-" ∷ []) text (Some (codes "-"))
+attached_dash : (name text : Text) → IsTaken name ((codes "--limit=" ++ text) ∷ codes "-" ∷ []) text (Some (codes "-"))
 unfolding clap_on_literals
-attached_dash name text p a = (rw a refl, refl)
+attached_dash name text = (refl, refl)
 
-attached_file : (name text file : Text) → IsPlain text → Passes text → IsPlain file → IsTaken name ((codes "--limit=" ++ text) ∷ file ∷ []) text (Some file)
+attached_file : (name text file : Text) → IsPlain file → IsTaken name ((codes "--limit=" ++ text) ∷ file ∷ []) text (Some file)
 unfolding clap_on_literals
-attached_file name text file p a q = (rw (a, q.0, q.1, q.0) refl, rw (q.0, q.1, q.0) refl)
+attached_file name text file q = (rw (q.0, q.1, q.0) refl, rw (q.0, q.1, q.0) refl)
 
 -- ---- a limit in decimal digits
 
 no_minus : (d : ℕ) → 49 ≤ d → d ≤ 57 → (d == 45) ≡ false
 no_minus d low high = ne_eqb _ _ (λ e. omega arith)
 
-no_plus : (d : ℕ) → 49 ≤ d → d ≤ 57 → (d == 43) ≡ false
-no_plus d low high = ne_eqb _ _ (λ e. omega arith)
-
--- digits of a number in the range pass the argument's parser
-passes : (d : ℕ) (ds : Text) (limit : ℕ) → 49 ≤ d → d ≤ 57 → IsNumeral 10 (d ∷ ds) → digits_value 10 (d ∷ ds) ≡ limit → 262144 ≤ limit → limit ≤ 16777216 →
-    Accepts false (parser.Signed (pos 262144) (pos 16777216)) (d ∷ ds)
-passes d ds limit first last h e low high =
-    rw (no_minus d first last, no_plus d first last, e) (h, record { sfits = omega arith }, search rules, search rules)
-
-numeral_taken : (text : Text) (limit : ℕ) → IsNumeral 10 text → 48 < get_or text 0 0 → digits_value 10 text ≡ limit → 262144 ≤ limit → limit ≤ 16777216 → IsPlain text × Passes text
-numeral_taken [] limit h first e low high = absurd (omega arith)
-numeral_taken (d ∷ ds) limit h first e low high =
+numeral_plain : (text : Text) → IsNumeral 10 text → 48 < get_or text 0 0 → IsPlain text
+numeral_plain [] h first = absurd (omega arith)
+numeral_plain (d ∷ ds) h first =
     let last = digit_from_value d h.1.0 in
     let no : (d == 45) ≡ false = no_minus d (omega arith) (omega (arith, last)) in
-    ((rw no refl, rw no refl), Accepts-accepts false (parser.Signed (pos 262144) (pos 16777216)) (d ∷ ds) (passes d ds limit (omega arith) (omega (arith, last)) h e low high))
+    (rw no refl, rw no refl)
 
-decimal_taken : (limit : ℕ) → 262144 ≤ limit → limit ≤ 16777216 → IsPlain (decimal limit) × Passes (decimal limit)
-decimal_taken limit low high =
+decimal_plain : (limit : ℕ) → 262144 ≤ limit → limit ≤ 16777216 → IsPlain (decimal limit)
+decimal_plain limit low high =
     let numeral = decimal_is_IsNumeral limit (omega arith) in
-    numeral_taken (decimal limit) limit numeral.0 (first_decimal limit (omega arith) (omega arith)) numeral.1 low high
+    numeral_plain (decimal limit) numeral.0 (first_decimal limit (omega arith) (omega arith))
 
 -- ---- words that ask for frames
 
@@ -134,25 +118,22 @@ limit_read : (name : Text) (files : List Text) (limit : ℕ) (file : Option Text
     IsRead name (codes "--limit" ∷ decimal limit ∷ files) limit file
 limit_read name files limit file low high = go file
   where
-    taken : IsPlain (decimal limit) × Passes (decimal limit)
-    taken = decimal_taken limit low high
+    plainly : IsPlain (decimal limit)
+    plainly = decimal_plain limit low high
 
     go : (file : Option Text) → GivesFile files file → IsRead name (codes "--limit" ∷ decimal limit ∷ files) limit file
-    go None (inl e) = rw e (None, refl, limit_input name (decimal limit) taken.0 taken.1)
-    go None (inr e) = rw e (Some (codes "-"), refl, limit_dash name (decimal limit) taken.0 taken.1)
-    go (Some f) (e, other) = rw e (Some f, own_file f other, limit_file name (decimal limit) f taken.0 taken.1 (plain f other))
+    go None (inl e) = rw e (None, refl, limit_input name (decimal limit) plainly)
+    go None (inr e) = rw e (Some (codes "-"), refl, limit_dash name (decimal limit) plainly)
+    go (Some f) (e, other) = rw e (Some f, own_file f other, limit_file name (decimal limit) f plainly (plain f other))
 
 attached_read : (name : Text) (files : List Text) (limit : ℕ) (file : Option Text) → 262144 ≤ limit → limit ≤ 16777216 → GivesFile files file →
     IsRead name ((codes "--limit=" ++ decimal limit) ∷ files) limit file
 attached_read name files limit file low high = go file
   where
-    taken : IsPlain (decimal limit) × Passes (decimal limit)
-    taken = decimal_taken limit low high
-
     go : (file : Option Text) → GivesFile files file → IsRead name ((codes "--limit=" ++ decimal limit) ∷ files) limit file
-    go None (inl e) = rw e (None, refl, attached_input name (decimal limit) taken.0 taken.1)
-    go None (inr e) = rw e (Some (codes "-"), refl, attached_dash name (decimal limit) taken.0 taken.1)
-    go (Some f) (e, other) = rw e (Some f, own_file f other, attached_file name (decimal limit) f taken.0 taken.1 (plain f other))
+    go None (inl e) = rw e (None, refl, attached_input name (decimal limit))
+    go None (inr e) = rw e (Some (codes "-"), refl, attached_dash name (decimal limit))
+    go (Some f) (e, other) = rw e (Some f, own_file f other, attached_file name (decimal limit) f (plain f other))
 
 words_read : (name : Text) (limits files : List Text) (limit : ℕ) (file : Option Text) → GivesLimit limits limit → GivesFile files file → IsRead name (limits ++ files) limit file
 words_read name limits files limit file (inl (e, is)) given = rw (e, is) (default_read name files file given)

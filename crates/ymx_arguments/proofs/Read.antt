@@ -6,14 +6,14 @@ use Rattle.std.proofs.lemmas.Fmt.{decimal_is_IsNumeral}
 use Rattle.clap.specs.declared.parser.matches.ArgMatches.{ArgMatches}
 use Rattle.clap.specs.declared.parser.matches.ArgMatches.TheViews.{out-ArgMatches}
 use Rattle.clap.specs.Words.{Row, Text, first_value, one_of, one_text, rows_of, subcommand_name_of, subcommand_rows_of}
-use Rattle.clap.specs.Walk.{first_of}
-use Rattle.clap.proofs.WalkLemmas.{first_value-rows, one_text-rows}
+use Rattle.clap.specs.Walk.{all_of, first_of}
+use Rattle.clap.proofs.WalkLemmas.{first_value-rows, one_text-rows, raw_values-rows}
 use Rattle.std.proofs.Math.Path.{fun_ext}
 use Rattle.clap.specs.declared.parser.matches.Found.{Found}
 use Rattle.ymx_arguments.specs.declared.options.TunnelCommand.{TunnelCommand}
 use Rattle.ymx_arguments.specs.declared.options.TunnelCommand.TheVariants as tunnel
 use Rattle.ymx_arguments.specs.declared.reading.Task.TheVariants.{Tunnel as ATunnel}
-use Rattle.ymx_arguments.specs.CommandLine.{AreBothGiven, HasBadOption, HasOptions, HasBadTimes, IsBad, IsBadEnd, IsLocalOf, IsNotSaid, IsNumberIn, IsRemoteOf, IsToldBy, IsUndecided, ReadsAs, named_words}
+use Rattle.ymx_arguments.specs.CommandLine.{AreBothGiven, HasBadOption, HasOptions, HasBadTimes, HasBadWatchRows, IsBad, IsBadEnd, IsLocalOf, IsNotSaid, IsNumberIn, IsRemoteOf, IsToldBy, IsUndecided, ReadsAs, named_words, texts_of}
 
 -- the rows of a subcommand that was met have its limit
 pub named_text : (rows : List Row) (met : Option (Text × List Row)) (name : Text) (text word : Option Text) → Some rows ≡ option_map (λ p. p.1) met →
@@ -98,7 +98,7 @@ frames_numbers rows (inr (inr h)) = absurd (differ (codes "frames") (codes "remo
 pub local_mistakes : (rows : List Row) → IsBadEnd (codes "local") rows →
     IsBad 0 4294967295 (first_of (codes "count") rows) ⊎ (IsBad 262144 16777216 (first_of (codes "window") rows)
     ⊎ (IsBad 1 3600 (first_of (codes "ping") rows) ⊎ (IsBad 1 64 (first_of (codes "links") rows)
-    ⊎ (IsUndecided (first_of (codes "peer") rows) (first_of (codes "bind") rows) ⊎ (AreBothGiven (first_of (codes "links") rows) (first_of (codes "bind") rows) ⊎ HasBadTimes rows)))))
+    ⊎ (IsUndecided (first_of (codes "peer") rows) (first_of (codes "bind") rows) ⊎ (AreBothGiven (first_of (codes "links") rows) (first_of (codes "bind") rows) ⊎ (HasBadTimes rows ⊎ HasBadWatchRows rows))))))
 local_mistakes rows (inl h) = h.1
 local_mistakes rows (inr h) = absurd (differ (codes "local") (codes "remote") h.0 (λ e. omega arith))
 
@@ -106,7 +106,7 @@ local_mistakes rows (inr h) = absurd (differ (codes "local") (codes "remote") h.
 pub remote_mistakes : (rows : List Row) → IsBadEnd (codes "remote") rows →
     IsBad 262144 16777216 (first_of (codes "window") rows) ⊎ (IsBad 1 1024 (first_of (codes "workers") rows)
     ⊎ (IsBad 1 3600 (first_of (codes "ping") rows) ⊎ (IsBad 1 256 (first_of (codes "peers") rows)
-    ⊎ (IsUndecided (first_of (codes "peer") rows) (first_of (codes "bind") rows) ⊎ (AreBothGiven (first_of (codes "peers") rows) (first_of (codes "peer") rows) ⊎ HasBadTimes rows)))))
+    ⊎ (IsUndecided (first_of (codes "peer") rows) (first_of (codes "bind") rows) ⊎ (AreBothGiven (first_of (codes "peers") rows) (first_of (codes "peer") rows) ⊎ (HasBadTimes rows ⊎ HasBadWatchRows rows))))))
 remote_mistakes rows (inl h) = absurd (differ (codes "remote") (codes "local") h.0 (λ e. omega arith))
 remote_mistakes rows (inr h) = h.1
 
@@ -141,22 +141,38 @@ given_rows found = fun_ext (λ n. first_value-rows found n)
 flags_rows : (found : Found) → one_text found ≡ (λ n. one_of n (rows_of found))
 flags_rows found = fun_ext (λ n. one_text-rows found n)
 
+-- the same of options that may be given several times
+texts_rows : (found : Found) → texts_of found ≡ (λ n. all_of n (rows_of found))
+texts_rows found = fun_ext (λ n. raw_values-rows found n)
+
+-- a fact of options, of which each was given a text, several texts, or a flag's
+abbrev Facts : Type 1
+Facts = (Text → Option Text) → (Text → Option Text) → (Text → Option (List Text)) → Type 0
+
 -- options that were read of the matches are those of their rows
-by_rows : (found : Found) (P : (Text → Option Text) → (Text → Option Text) → Type 0) → P (first_value found) (one_text found) → P (λ n. first_of n (rows_of found)) (λ n. one_of n (rows_of found))
+by_rows : (found : Found) (P : Facts) → P (first_value found) (one_text found) (texts_of found) → P (λ n. first_of n (rows_of found)) (λ n. one_of n (rows_of found)) (λ n. all_of n (rows_of found))
 by_rows found P h =
-    subst (λ (given : Text → Option Text). P given (λ n. one_of n (rows_of found))) (given_rows found)
-    (subst (λ (flag : Text → Option Text). P (first_value found) flag) (flags_rows found) h)
+    subst (λ (given : Text → Option Text). P given (λ n. one_of n (rows_of found)) (λ n. all_of n (rows_of found))) (given_rows found)
+    (subst (λ (flag : Text → Option Text). P (first_value found) flag (λ n. all_of n (rows_of found))) (flags_rows found)
+    (subst (λ (many : Text → Option (List Text)). P (first_value found) (one_text found) many) (texts_rows found) h))
+
+-- what holds of the rows holds of the matches
+pub by_matches : (found : Found) (P : Facts) → P (λ n. first_of n (rows_of found)) (λ n. one_of n (rows_of found)) (λ n. all_of n (rows_of found)) → P (first_value found) (one_text found) (texts_of found)
+by_matches found P h =
+    subst (λ (given : Text → Option Text). P given (one_text found) (texts_of found)) (sym (given_rows found))
+    (subst (λ (flag : Text → Option Text). P (λ n. first_of n (rows_of found)) flag (texts_of found)) (sym (flags_rows found))
+    (subst (λ (many : Text → Option (List Text)). P (λ n. first_of n (rows_of found)) (λ n. one_of n (rows_of found)) many) (sym (texts_rows found)) h))
 
 -- `local` has the options that were given
-pub local_has : (found : Found) (name : Text) (command : TunnelCommand) → name ≡ codes "local" → IsLocalOf (first_value found) (one_text found) command → HasOptions name (rows_of found) command
-local_has found name (tunnel.Local o) is h = (is, by_rows found (λ given flag. IsLocalOf given flag (tunnel.Local o)) h)
+pub local_has : (found : Found) (name : Text) (command : TunnelCommand) → name ≡ codes "local" → IsLocalOf (first_value found) (one_text found) (texts_of found) command → HasOptions name (rows_of found) command
+local_has found name (tunnel.Local o) is h = (is, by_rows found (λ given flag many. IsLocalOf given flag many (tunnel.Local o)) h)
 local_has found name (tunnel.Remote o) is h = absurd h
 local_has found name tunnel.Selftest is h = tt
 
 -- so has `remote`
-pub remote_has : (found : Found) (name : Text) (command : TunnelCommand) → name ≡ codes "remote" → IsRemoteOf (first_value found) (one_text found) command → HasOptions name (rows_of found) command
+pub remote_has : (found : Found) (name : Text) (command : TunnelCommand) → name ≡ codes "remote" → IsRemoteOf (first_value found) (one_text found) (texts_of found) command → HasOptions name (rows_of found) command
 remote_has found name (tunnel.Local o) is h = absurd h
-remote_has found name (tunnel.Remote o) is h = (is, by_rows found (λ given flag. IsRemoteOf given flag (tunnel.Remote o)) h)
+remote_has found name (tunnel.Remote o) is h = (is, by_rows found (λ given flag many. IsRemoteOf given flag many (tunnel.Remote o)) h)
 remote_has found name tunnel.Selftest is h = tt
 
 -- the options of the subcommand that was met are those of its name and its rows

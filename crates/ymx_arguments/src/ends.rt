@@ -3,9 +3,9 @@
 ghost use Rattle.std.specs.Prelude.{◌≡◌, false, IfOk};
 ghost use Rattle.clap.specs.Words.{app_of, rule_of, shape_of};
 ghost use Rattle.clap.specs.declared.builder.command.Command.TheViews.{out-Command as fields_of};
-ghost use Rattle.ymx_arguments.specs.CommandLine.{address_rule, count_rule, keep_rule, keepalive_rule, links_rule, local_lasting, local_shape, local_start, needed_address_rule, peers_rule, ping_rule, remote_lasting, remote_shape, remote_start, renamed_address_rule, timeout_rule, verbose_rule, window_rule, workers_rule};
+ghost use Rattle.ymx_arguments.specs.CommandLine.{count_rule, flag_rule, from_rule, keepalive_rule, links_rule, local_lasting, local_shape, local_start, needed_address_rule, peers_rule, ping_rule, remote_lasting, remote_shape, remote_start, renamed_address_rule, timeout_rule, value_rule, verbose_rule, window_rule, with_watch, workers_rule};
 
-use crate::arguments::{bytes_argument, number_argument, titled};
+use crate::arguments::{bytes_argument, flag_argument, titled, value_argument};
 use clap::{Arg, ArgAction, Command};
 use std::alloc::{AllocError, Global};
 
@@ -13,7 +13,7 @@ use std::alloc::{AllocError, Global};
 pub(crate) fn local_command<'a>(alloc: Global) -> Result<Command<'a>, AllocError>
     ensures { IfOk result (λ command. (shape_of command ≡ local_shape) × ((fields_of command).has_globals ≡ false)) }
 {
-    local_lasting(alloc)?
+    watched(alloc, local_lasting(alloc)?)?
         .arg(window_argument(alloc))?
         .arg(verbose_argument(alloc))
 }
@@ -23,7 +23,7 @@ fn local_lasting<'a>(alloc: Global) -> Result<Command<'a>, AllocError>
     ensures { IfOk result (λ command. (app_of command ≡ local_lasting) × ((fields_of command).has_globals ≡ false)) }
 {
     local_addresses(alloc)?
-        .arg(keep_argument(alloc, "Meet the peer again, once it was lost"))?
+        .arg(flag_argument(alloc, "keep", "Meet the peer again, once it was lost"))?
         .arg(links_argument(alloc))?
         .arg(ping_argument(alloc))?
         .arg(keepalive_argument(alloc))?
@@ -64,7 +64,7 @@ fn local_addresses<'a>(alloc: Global) -> Result<Command<'a>, AllocError>
 pub(crate) fn remote_command<'a>(alloc: Global) -> Result<Command<'a>, AllocError>
     ensures { IfOk result (λ command. (shape_of command ≡ remote_shape) × ((fields_of command).has_globals ≡ false)) }
 {
-    remote_lasting(alloc)?
+    watched(alloc, remote_lasting(alloc)?)?
         .arg(window_argument(alloc))?
         .arg(workers_argument(alloc))?
         .arg(verbose_argument(alloc))
@@ -75,7 +75,7 @@ fn remote_lasting<'a>(alloc: Global) -> Result<Command<'a>, AllocError>
     ensures { IfOk result (λ command. (app_of command ≡ remote_lasting) × ((fields_of command).has_globals ≡ false)) }
 {
     remote_addresses(alloc)?
-        .arg(keep_argument(alloc, "Go on once a peer has gone"))?
+        .arg(flag_argument(alloc, "keep", "Go on once a peer has gone"))?
         .arg(peers_argument(alloc))?
         .arg(ping_argument(alloc))?
         .arg(keepalive_argument(alloc))?
@@ -124,49 +124,63 @@ fn renamed_address<'a>(
 
 /// An argument that is an address.
 fn address<'a>(alloc: Global, name: &'a str, help: &'a str) -> Arg<'a>
-    ensures { (rule_of result ≡ address_rule name.entry.now) × (result.global ≡ false) }
+    ensures { (rule_of result ≡ value_rule name.entry.now) × (result.global ≡ false) }
 {
-    Arg::new(alloc, name)
-        .long(name)
-        .value_name("ADDRESS")
-        .action(ArgAction::Set)
-        .help(help)
+    value_argument(alloc, name, "ADDRESS", help)
 }
 
-/// The argument `--keep`, a flag.
-fn keep_argument<'a>(alloc: Global, help: &'a str) -> Arg<'a>
-    ensures { (rule_of result ≡ keep_rule) × (result.global ≡ false) }
+/// A subcommand that also has what says from where its peer may call, and how it is watched.
+fn watched<'a>(alloc: Global, command: Command<'a>) -> Result<Command<'a>, AllocError>
+    ensures { IfOk result (λ r. (app_of r ≡ with_watch (app_of command.entry))
+        × ((fields_of command.entry).has_globals ≡ false → (fields_of r).has_globals ≡ false)) }
 {
-    Arg::new(alloc, "keep")
-        .long("keep")
-        .action(ArgAction::SetTrue)
-        .help(help)
+    command
+        .arg(from_argument(alloc))?
+        .arg(address(
+            alloc,
+            "status",
+            "Where to answer requests for what is counted, as 127.0.0.1:9100",
+        ))?
+        .arg(flag_argument(
+            alloc,
+            "status-anywhere",
+            "Take a --status address that is not of the loopback",
+        ))?
+        .arg(flag_argument(
+            alloc,
+            "times",
+            "Begin each line on standard error with the time",
+        ))
+}
+
+/// The argument `--from`, which may be given several times.
+fn from_argument<'a>(alloc: Global) -> Arg<'a>
+    ensures { (rule_of result ≡ from_rule) × (result.global ≡ false) }
+{
+    value_argument(
+        alloc,
+        "from",
+        "NETWORK",
+        "From where a peer may call with --bind, as 192.0.2.0/24; up to 8 times",
+    )
+    .action(ArgAction::Append)
 }
 
 /// The argument `--count` of `local`.
 fn count_argument<'a>(alloc: Global) -> Arg<'a>
     ensures { (rule_of result ≡ count_rule) × (result.global ≡ false) }
 {
-    number_argument(
-        alloc,
-        "count",
-        "N",
-        0,
-        4_294_967_295,
-        "End after so many connections",
-    )
+    value_argument(alloc, "count", "N", "End after so many connections")
 }
 
 /// The argument `--links` of `local`.
 fn links_argument<'a>(alloc: Global) -> Arg<'a>
     ensures { (rule_of result ≡ links_rule) × (result.global ≡ false) }
 {
-    number_argument(
+    value_argument(
         alloc,
         "links",
         "N",
-        1,
-        64,
         "How many connections to the peer it keeps, from 1 to 64, a thread each",
     )
 }
@@ -175,12 +189,10 @@ fn links_argument<'a>(alloc: Global) -> Arg<'a>
 fn ping_argument<'a>(alloc: Global) -> Arg<'a>
     ensures { (rule_of result ≡ ping_rule) × (result.global ≡ false) }
 {
-    number_argument(
+    value_argument(
         alloc,
         "ping",
         "SECONDS",
-        1,
-        3600,
         "Give up a peer that is silent for twice so long, from 1 to 3600",
     )
 }
@@ -189,12 +201,10 @@ fn ping_argument<'a>(alloc: Global) -> Arg<'a>
 fn keepalive_argument<'a>(alloc: Global) -> Arg<'a>
     ensures { (rule_of result ≡ keepalive_rule) × (result.global ≡ false) }
 {
-    number_argument(
+    value_argument(
         alloc,
         "keepalive",
         "SECONDS",
-        0,
-        3600,
         "After how long a silence the system looks for the other side, or 0 for never",
     )
     .default_value("60")
@@ -204,12 +214,10 @@ fn keepalive_argument<'a>(alloc: Global) -> Arg<'a>
 fn timeout_argument<'a>(alloc: Global) -> Arg<'a>
     ensures { (rule_of result ≡ timeout_rule) × (result.global ≡ false) }
 {
-    number_argument(
+    value_argument(
         alloc,
         "timeout",
         "SECONDS",
-        1,
-        3600,
         "How long a call to the peer may take, from 1 to 3600",
     )
 }
@@ -218,12 +226,10 @@ fn timeout_argument<'a>(alloc: Global) -> Arg<'a>
 fn peers_argument<'a>(alloc: Global) -> Arg<'a>
     ensures { (rule_of result ≡ peers_rule) × (result.global ≡ false) }
 {
-    number_argument(
+    value_argument(
         alloc,
         "peers",
         "N",
-        1,
-        256,
         "How many peers are served at once, from 1 to 256; 16 with --keep, and else 1",
     )
 }
@@ -243,12 +249,10 @@ fn window_argument<'a>(alloc: Global) -> Arg<'a>
 fn workers_argument<'a>(alloc: Global) -> Arg<'a>
     ensures { (rule_of result ≡ workers_rule) × (result.global ≡ false) }
 {
-    number_argument(
+    value_argument(
         alloc,
         "workers",
         "N",
-        1,
-        1024,
         "How many streams are served at once, from 1 to 1024",
     )
     .default_value("1024")

@@ -6,6 +6,7 @@
 mod arguments;
 mod command;
 mod ends;
+mod networks;
 mod options;
 mod reading;
 

@@ -1,10 +1,11 @@
 //! What the two ends of a tunnel are told to do.
 
-ghost use Rattle.std.specs.Prelude.{◌≡◌, ◌⊎◌, codes, IfErr, IfOk, IsErr, MatchResult};
+ghost use Rattle.std.specs.Prelude.{[], ◌≡◌, ◌⊎◌, codes, unwrap_or, IfErr, IfOk, IsErr, MatchResult};
 ghost use Rattle.clap.specs.Words.{first_value, found_of, one_text, rows_of};
-ghost use Rattle.ymx_arguments.specs.CommandLine.{AreBadTimes, AreBothGiven, AreTimesOf, HasOptions, IsAddressOf, IsBad, IsBadEnd, IsBadLocal, IsBadPeer, IsBadRemote, IsClash, IsEnd, IsLocalOf, IsNoAddress, IsNotSaid, IsNotVerbose, IsPeerOf, IsRemoteOf, IsUndecided, ReadsOr};
+ghost use Rattle.ymx_arguments.specs.CommandLine.{AreBadTimes, AreBothGiven, AreNetworksOf, AreTimesOf, HasBadWatch, HasOptions, IsAddressOf, IsBad, IsBadEnd, IsBadLocal, IsBadNetwork, IsBadPeer, IsBadRemote, IsBadStatus, IsBadWatch, IsClash, IsEnd, IsLocalOf, IsNoAddress, IsNotSaid, IsNotVerbose, IsPeerOf, IsRemoteOf, IsStatusOf, IsUndecided, IsWatchOf, ReadsOr, texts_of};
 
 use crate::arguments::{BadOption, number_of};
+use crate::networks::networks_in;
 use clap::ArgMatches;
 use std::net::SocketAddrV4;
 use ymx_policy::{LocalOptions, Networks, PeerAddress, RemoteOptions};
@@ -63,8 +64,9 @@ fn local_options<'a>(found: &ArgMatches<'a>) -> Result<TunnelCommand, BadOption<
     ensures peer { IsUndecided (first_value (found_of found.now) (codes "peer")) (first_value (found_of found.now) (codes "bind")) → IsErr result }
     ensures awaited { AreBothGiven (first_value (found_of found.now) (codes "links")) (first_value (found_of found.now) (codes "bind")) → IsErr result }
     ensures uncalled { AreBothGiven (first_value (found_of found.now) (codes "timeout")) (first_value (found_of found.now) (codes "bind")) → IsErr result }
-    ensures read { MatchResult result (IsLocalOf (first_value (found_of found.now)) (one_text (found_of found.now)))
-        (IsBadLocal (first_value (found_of found.now))) }
+    ensures watch { HasBadWatch (first_value (found_of found.now)) (one_text (found_of found.now)) (texts_of (found_of found.now)) → IsErr result }
+    ensures read { MatchResult result (IsLocalOf (first_value (found_of found.now)) (one_text (found_of found.now)) (texts_of (found_of found.now)))
+        (IsBadLocal (first_value (found_of found.now)) (one_text (found_of found.now)) (texts_of (found_of found.now))) }
 {
     let count = number_of(found, "count", 0, u32::MAX)?;
     let window = window_of(found)?;
@@ -73,6 +75,7 @@ fn local_options<'a>(found: &ArgMatches<'a>) -> Result<TunnelCommand, BadOption<
     check_peer(found)?;
     check_apart(found, "links", "bind")?;
     let times = times_of(found)?;
+    let watch = watch_of(found)?;
     let listen = address_of(found, "listen")?;
     let peer = peer_of(found)?;
     Ok(TunnelCommand::Local(LocalOptions {
@@ -85,10 +88,10 @@ fn local_options<'a>(found: &ArgMatches<'a>) -> Result<TunnelCommand, BadOption<
         ping,
         keepalive: times.keepalive,
         timeout: times.timeout,
-        from: Networks::all(),
-        status: None,
+        from: watch.from,
+        status: watch.status,
         is_verbose: found.get_flag("verbose"),
-        has_times: false,
+        has_times: found.get_flag("times"),
     }))
 }
 
@@ -105,8 +108,9 @@ fn remote_options<'a>(found: &ArgMatches<'a>) -> Result<TunnelCommand, BadOption
     ensures peer { IsUndecided (first_value (found_of found.now) (codes "peer")) (first_value (found_of found.now) (codes "bind")) → IsErr result }
     ensures called { AreBothGiven (first_value (found_of found.now) (codes "peers")) (first_value (found_of found.now) (codes "peer")) → IsErr result }
     ensures uncalled { AreBothGiven (first_value (found_of found.now) (codes "timeout")) (first_value (found_of found.now) (codes "bind")) → IsErr result }
-    ensures read { MatchResult result (IsRemoteOf (first_value (found_of found.now)) (one_text (found_of found.now)))
-        (IsBadRemote (first_value (found_of found.now))) }
+    ensures watch { HasBadWatch (first_value (found_of found.now)) (one_text (found_of found.now)) (texts_of (found_of found.now)) → IsErr result }
+    ensures read { MatchResult result (IsRemoteOf (first_value (found_of found.now)) (one_text (found_of found.now)) (texts_of (found_of found.now)))
+        (IsBadRemote (first_value (found_of found.now)) (one_text (found_of found.now)) (texts_of (found_of found.now))) }
 {
     let window = window_of(found)?;
     let workers = number_of(found, "workers", 1, 1024)?;
@@ -115,6 +119,7 @@ fn remote_options<'a>(found: &ArgMatches<'a>) -> Result<TunnelCommand, BadOption
     check_peer(found)?;
     check_apart(found, "peers", "peer")?;
     let times = times_of(found)?;
+    let watch = watch_of(found)?;
     let peer = peer_of(found)?;
     let target = address_of(found, "target")?;
     Ok(TunnelCommand::Remote(RemoteOptions {
@@ -127,10 +132,10 @@ fn remote_options<'a>(found: &ArgMatches<'a>) -> Result<TunnelCommand, BadOption
         ping,
         keepalive: times.keepalive,
         timeout: times.timeout,
-        from: Networks::all(),
-        status: None,
+        from: watch.from,
+        status: watch.status,
         is_verbose: found.get_flag("verbose"),
-        has_times: false,
+        has_times: found.get_flag("times"),
     }))
 }
 
@@ -170,6 +175,62 @@ fn times_of<'a>(found: &ArgMatches<'a>) -> Result<Times, BadOption<'a>>
         keepalive: keepalive.unwrap_or(DEFAULT_KEEPALIVE),
         timeout,
     })
+}
+
+/// From where a peer may call, and where the status is asked for.
+#[derive(Clone, Copy)]
+struct Watch {
+    /// The networks from which a peer may call.
+    from: Networks,
+    /// The address for requests, if any.
+    status: Option<SocketAddrV4>,
+}
+
+/// The values of `--from`, which is not for a peer that is called, and of `--status`.
+fn watch_of<'a>(found: &ArgMatches<'a>) -> Result<Watch, BadOption<'a>>
+    ensures read { MatchResult result
+        (λ watch. IsWatchOf (first_value (found_of found.now)) (one_text (found_of found.now)) (texts_of (found_of found.now)) watch.from watch.status)
+        (IsBadWatch (first_value (found_of found.now)) (one_text (found_of found.now)) (texts_of (found_of found.now))) }
+{
+    check_apart(found, "from", "peer")?;
+    let from = from_of(found)?;
+    let status = status_of(found)?;
+    Ok(Watch { from, status })
+}
+
+/// The networks of `--from`: all addresses, if it wasn't given.
+fn from_of<'a>(found: &ArgMatches<'a>) -> Result<Networks, BadOption<'a>>
+    ensures { MatchResult result (λ from. AreNetworksOf (unwrap_or (texts_of (found_of found.now) (codes "from")) []) from.networks)
+        (IsBadNetwork (unwrap_or (texts_of (found_of found.now) (codes "from")) [])) }
+{
+    match found.get_strs("from") {
+        Some(texts) => networks_in(texts),
+        None => networks_in(&[]),
+    }
+}
+
+/// The address that `--status` was given, if it was given one: of the loopback, unless `--status-anywhere` was given too.
+fn status_of<'a>(found: &ArgMatches<'a>) -> Result<Option<SocketAddrV4>, BadOption<'a>>
+    ensures { MatchResult result (IsStatusOf (first_value (found_of found.now) (codes "status")) (one_text (found_of found.now) (codes "status-anywhere")))
+        (IsBadStatus (first_value (found_of found.now) (codes "status")) (one_text (found_of found.now) (codes "status-anywhere"))) }
+{
+    let is_anywhere = found.get_flag("status-anywhere");
+    let Some(text) = found.get_str("status") else {
+        return if is_anywhere {
+            Err(BadOption::NoStatus)
+        } else {
+            Ok(None)
+        };
+    };
+    let address = address_of(found, "status")?;
+    if is_anywhere {
+        return Ok(Some(address));
+    }
+    if address.ip().is_loopback() {
+        Ok(Some(address))
+    } else {
+        Err(BadOption::FarStatus { text })
+    }
 }
 
 /// Whether the option of this name wasn't given beside the other, as it is not for a peer that is met so.

@@ -23,6 +23,20 @@ const NO_PEER: &str =
 /// What is said where two ways to meet the peer were given.
 const TWO_PEERS: &str = "the argument '--peer <ADDRESS>' cannot be used with '--bind <ADDRESS>'";
 
+/// What a network is.
+const NETWORK_FORM: &str =
+    "it wants an IPv4 address, or one with '/' and a number from 0 to 32, as 192.0.2.0/24";
+
+/// What is said where there are too many networks.
+const MANY_NETWORKS: &str = "the argument '--from <NETWORK>' can be given 8 times at most";
+
+/// Which addresses the status is asked for at.
+const STATUS_FORM: &str =
+    "it wants an address of the loopback, as 127.0.0.1:9100, unless '--status-anywhere' is given";
+
+/// What is said where the status may be asked for anywhere, and is asked for nowhere.
+const NO_STATUS: &str = "the argument '--status-anywhere' is only for '--status <ADDRESS>'";
+
 /// What a command line asks for.
 #[derive(Clone, Copy)]
 pub enum Task<'a> {
@@ -108,9 +122,14 @@ fn fault_for<'a>(
     ensures mistake { IfOk result SaysMistake }
 {
     match bad {
-        BadOption::Number { name: option, text } => {
+        BadOption::Number {
+            name: option,
+            text,
+            least,
+            most,
+        } => {
             let message = format!(in alloc;
-                "invalid value '{text}' for '--{option}': a number is decimal digits alone"
+                "invalid value '{text}' for '--{option}': a number is decimal digits alone, from {least} to {most}"
             )?;
             clap_fault(alloc, name, ErrorKind::ValueValidation, message.as_str())
         }
@@ -127,6 +146,20 @@ fn fault_for<'a>(
             clap_fault(alloc, name, ErrorKind::ArgumentConflict, message.as_str())
         }
         BadOption::Address { name: option, text } => Ok(CommandFault::BadAddress(option, text)),
+        BadOption::Network { text } => {
+            let message = format!(in alloc; "invalid value '{text}' for '--from': {NETWORK_FORM}")?;
+            clap_fault(alloc, name, ErrorKind::ValueValidation, message.as_str())
+        }
+        BadOption::ManyNetworks => clap_fault(alloc, name, ErrorKind::TooManyValues, MANY_NETWORKS),
+        BadOption::FarStatus { text } => {
+            let message = format!(in alloc;
+                "invalid value '{text}' for '--status': {STATUS_FORM}"
+            )?;
+            clap_fault(alloc, name, ErrorKind::ValueValidation, message.as_str())
+        }
+        BadOption::NoStatus => {
+            clap_fault(alloc, name, ErrorKind::MissingRequiredArgument, NO_STATUS)
+        }
     }
 }
 
@@ -134,6 +167,7 @@ fn fault_for<'a>(
 fn value_of(option: &str) -> &'static str {
     match option {
         "timeout" => "SECONDS",
+        "from" => "NETWORK",
         _ => "N",
     }
 }

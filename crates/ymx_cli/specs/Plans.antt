@@ -1,6 +1,6 @@
 -- What words that name an end of a tunnel come to (this project's own).
 use Rattle.std.specs.Prelude.{◌≡◌, ⊤, ℕ, List, Option, Some, None, codes}
-use Rattle.clap.specs.Walk.{first_of}
+use Rattle.clap.specs.Walk.{all_of, first_of}
 use Rattle.clap.specs.Words.{Row, Text, one_of}
 use Rattle.ymx_arguments.specs.CommandLine.{IsLocalOf, IsRemoteOf}
 use Rattle.ymx_arguments.specs.declared.options.TunnelCommand.{TunnelCommand}
@@ -14,8 +14,8 @@ use Rattle.ymx_cli.specs.Outcomes.{status_of}
 
 -- the plan of `local` or `remote` has the options that the words of this subcommand gave
 abbrev pub IsPlanOf : Option (Text × List Row) → Plan → Type 0
-IsPlanOf (Some (name, rows)) (Local o) = (name ≡ codes "local") × IsLocalOf (λ n. first_of n rows) (λ n. one_of n rows) (command.Local o)
-IsPlanOf (Some (name, rows)) (Remote o) = (name ≡ codes "remote") × IsRemoteOf (λ n. first_of n rows) (λ n. one_of n rows) (command.Remote o)
+IsPlanOf (Some (name, rows)) (Local o) = (name ≡ codes "local") × IsLocalOf (λ n. first_of n rows) (λ n. one_of n rows) (λ n. all_of n rows) (command.Local o)
+IsPlanOf (Some (name, rows)) (Remote o) = (name ≡ codes "remote") × IsRemoteOf (λ n. first_of n rows) (λ n. one_of n rows) (λ n. all_of n rows) (command.Remote o)
 IsPlanOf (Some (name, rows)) (Link o) = ⊥
 IsPlanOf None plan = ⊥
 

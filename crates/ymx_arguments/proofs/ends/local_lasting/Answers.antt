@@ -8,8 +8,8 @@ pub returns : goal.returns
 returns c =
     let either : Bool → Bool → Bool = λ x y. x || y in
     let start = c.in_ok-local_addresses.ensures in
-    let one = c.in_ok-arg.ensures.shape c.keep_argument.ensures.1 ∙ ap₂ with_rule start.0 c.keep_argument.ensures.0 in
-    let local_one = c.in_ok-arg.ensures.globals ∙ ap₂ either start.1 c.keep_argument.ensures.1 in
+    let one = c.in_ok-arg.ensures.shape c.flag_argument.ensures.1 ∙ ap₂ with_rule start.0 c.flag_argument.ensures.0 in
+    let local_one = c.in_ok-arg.ensures.globals ∙ ap₂ either start.1 c.flag_argument.ensures.1 in
     let two = c.in_ok-arg-2.ensures.shape c.links_argument.ensures.1 ∙ ap₂ with_rule one c.links_argument.ensures.0 in
     let local_two = c.in_ok-arg-2.ensures.globals ∙ ap₂ either local_one c.links_argument.ensures.1 in
     let three = c.in_ok-arg-3.ensures.shape c.ping_argument.ensures.1 ∙ ap₂ with_rule two c.ping_argument.ensures.0 in

@@ -5,6 +5,6 @@ use Rattle.ymx_arguments.proofs.ends.workers_argument.Goals as goal
 
 pub returns : goal.returns
 returns c = (
-  ap rule_of c.default_value.ensures ∙ ap (λ (r : Rule). record r { defaults = codes "1024" ∷ [] }) c.number_argument.ensures.0,
-  ap (λ (a : Arg). a.global) c.default_value.ensures ∙ c.number_argument.ensures.1,
+  ap rule_of c.default_value.ensures ∙ ap (λ (r : Rule). record r { defaults = codes "1024" ∷ [] }) c.value_argument.ensures.0,
+  ap (λ (a : Arg). a.global) c.default_value.ensures ∙ c.value_argument.ensures.1,
 )

@@ -1,8 +1,8 @@
 use Rattle.std.proofs.Common.{inl, inr, subst, sym, codes}
 use Rattle.clap.specs.Words.{Text, found_of, rows_of}
 use Rattle.clap.proofs.WalkLemmas.{first_value-rows}
-use Rattle.ymx_arguments.specs.CommandLine.{IsBad, IsBadEnd}
-use Rattle.ymx_arguments.proofs.Read.{local_has, local_mistakes, remote_has, remote_mistakes, told_ok}
+use Rattle.ymx_arguments.specs.CommandLine.{HasBadWatch, IsBad, IsBadEnd}
+use Rattle.ymx_arguments.proofs.Read.{by_matches, local_has, local_mistakes, remote_has, remote_mistakes, told_ok}
 use Rattle.ymx_arguments.proofs.options.tunnel_command.Goals as goal
 
 pub returns-in-local-clause-options : goal.returns-in-local-clause-options
@@ -16,9 +16,10 @@ returns-in-local-clause-options c = λ bad.
       | inr (inr (inr (inl h))) ↦ c.local_options.ensures.links (subst (IsBad 1 64) (sym (first_value-rows found (codes "links"))) h)
       | inr (inr (inr (inr (inl h)))) ↦ c.local_options.ensures.peer (rw (first_value-rows found (codes "peer"), first_value-rows found (codes "bind")) h)
       | inr (inr (inr (inr (inr (inl h))))) ↦ c.local_options.ensures.awaited (rw (first_value-rows found (codes "links"), first_value-rows found (codes "bind")) h)
-      | inr (inr (inr (inr (inr (inr (inl h)))))) ↦ c.local_options.ensures.keepalive (subst (IsBad 0 3600) (sym (first_value-rows found (codes "keepalive"))) h)
-      | inr (inr (inr (inr (inr (inr (inr (inl h))))))) ↦ c.local_options.ensures.timeout (subst (IsBad 1 3600) (sym (first_value-rows found (codes "timeout"))) h)
-      | inr (inr (inr (inr (inr (inr (inr (inr h))))))) ↦ c.local_options.ensures.uncalled (rw (first_value-rows found (codes "timeout"), first_value-rows found (codes "bind")) h)
+      | inr (inr (inr (inr (inr (inr (inl (inl h))))))) ↦ c.local_options.ensures.keepalive (subst (IsBad 0 3600) (sym (first_value-rows found (codes "keepalive"))) h)
+      | inr (inr (inr (inr (inr (inr (inl (inr (inl h)))))))) ↦ c.local_options.ensures.timeout (subst (IsBad 1 3600) (sym (first_value-rows found (codes "timeout"))) h)
+      | inr (inr (inr (inr (inr (inr (inl (inr (inr h)))))))) ↦ c.local_options.ensures.uncalled (rw (first_value-rows found (codes "timeout"), first_value-rows found (codes "bind")) h)
+      | inr (inr (inr (inr (inr (inr (inr h)))))) ↦ c.local_options.ensures.watch (by_matches found HasBadWatch h)
     ]
 
 pub returns-in-remote-clause-options : goal.returns-in-remote-clause-options
@@ -32,9 +33,10 @@ returns-in-remote-clause-options c = λ bad.
       | inr (inr (inr (inl h))) ↦ c.remote_options.ensures.peers (subst (IsBad 1 256) (sym (first_value-rows found (codes "peers"))) h)
       | inr (inr (inr (inr (inl h)))) ↦ c.remote_options.ensures.peer (rw (first_value-rows found (codes "peer"), first_value-rows found (codes "bind")) h)
       | inr (inr (inr (inr (inr (inl h))))) ↦ c.remote_options.ensures.called (rw (first_value-rows found (codes "peers"), first_value-rows found (codes "peer")) h)
-      | inr (inr (inr (inr (inr (inr (inl h)))))) ↦ c.remote_options.ensures.keepalive (subst (IsBad 0 3600) (sym (first_value-rows found (codes "keepalive"))) h)
-      | inr (inr (inr (inr (inr (inr (inr (inl h))))))) ↦ c.remote_options.ensures.timeout (subst (IsBad 1 3600) (sym (first_value-rows found (codes "timeout"))) h)
-      | inr (inr (inr (inr (inr (inr (inr (inr h))))))) ↦ c.remote_options.ensures.uncalled (rw (first_value-rows found (codes "timeout"), first_value-rows found (codes "bind")) h)
+      | inr (inr (inr (inr (inr (inr (inl (inl h))))))) ↦ c.remote_options.ensures.keepalive (subst (IsBad 0 3600) (sym (first_value-rows found (codes "keepalive"))) h)
+      | inr (inr (inr (inr (inr (inr (inl (inr (inl h)))))))) ↦ c.remote_options.ensures.timeout (subst (IsBad 1 3600) (sym (first_value-rows found (codes "timeout"))) h)
+      | inr (inr (inr (inr (inr (inr (inl (inr (inr h)))))))) ↦ c.remote_options.ensures.uncalled (rw (first_value-rows found (codes "timeout"), first_value-rows found (codes "bind")) h)
+      | inr (inr (inr (inr (inr (inr (inr h)))))) ↦ c.remote_options.ensures.watch (by_matches found HasBadWatch h)
     ]
 
 pub returns-in-local-clause-told : goal.returns-in-local-clause-told

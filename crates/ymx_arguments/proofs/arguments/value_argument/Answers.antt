@@ -2,7 +2,7 @@ use Rattle.std.proofs.Common.{◌∙◌, Bool, Some, ap}
 use Rattle.clap.specs.Words.{Rule, rule_of}
 use Rattle.clap.specs.declared.builder.action.ArgAction.TheVariants.{Set}
 use Rattle.clap.specs.declared.builder.arg.Arg.{Arg}
-use Rattle.ymx_arguments.proofs.ends.address.Goals as goal
+use Rattle.ymx_arguments.proofs.arguments.value_argument.Goals as goal
 
 -- the rule so far, and that it isn't for all subcommands
 pub returns : goal.returns
