@@ -1,44 +1,99 @@
 -- How a tunnel goes on: who is served, and whose turn comes.
-use Rattle.std.proofs.Common.{◌≡◌, ◌⊎◌, inl, inr, ◌++◌, ℕ, List, [], ◌∷◌, Bool, true, false, ◌||◌, refl, ap, ◌∙◌, subst}
+use Rattle.std.proofs.Common.{◌≡◌, ◌⊎◌, inl, inr, ◌++◌, ℕ, ◌+◌, ◌<◌, ◌≤◌, List, [], ◌∷◌, Bool, true, false, ◌||◌, Some, refl, sym, ap, ◌∙◌, subst, arith}
+use Rattle.std.specs.Prelude.{nat_eq}
 use Rattle.std.specs.List.{list_all}
 use Rattle.std.proofs.lemmas.List.Folds.{list_all-append}
 use Rattle.ymx_machine.specs.shared.Events.{Reply}
 use Rattle.ymx_model.specs.session.Events.{Event}
+use Rattle.ymx_model.specs.session.Sessions.{is_running}
 use Rattle.ymx_engine.specs.Exchanges.{has_bytes}
+use Rattle.ymx_engine.specs.Joins.{Leaves}
 use Rattle.ymx_engine.specs.Moves.{Moves}
 use Rattle.ymx_engine.specs.Runs.{Runs}
 use Rattle.ymx_engine.specs.Served.{Serving}
 use Rattle.ymx_engine.specs.Passes.{is_of_reading}
 use Rattle.ymx_engine.specs.Steps.{Keeps, ReadsOn, WritesOnce}
 use Rattle.ymx_engine.specs.Tunnels.{Tunnel}
-use Rattle.ymx_engine.specs.Turns.{Extends}
+use Rattle.ymx_engine.specs.Turns.{Line, line_of, Extends, IsBehind, IsIdle, LeavesQueues}
+use Rattle.ymx_engine.specs.Ways.{is_over}
 use Rattle.ymx_engine.specs.Wires.{is_of_flush, has_starved}
-use Rattle.ymx_engine.specs.Work.{Attends, FirstTurn, ServesOne, ServesFirst, Reads, Writes, HasRead, HasWritten, may_have_bytes}
+use Rattle.ymx_engine.specs.Work.{Attends, ComesNearer, HadTurn, HasLeft, ServesOne, ServesFirst, Reads, Writes, HasRead, HasWritten, may_have_bytes}
 use Rattle.ymx_engine.proofs.Carrying.{memory_then, memory_same}
-use Rattle.ymx_engine.proofs.Queueing.{extends_same, extends_then, extends_idle, keeps_same, keeps_then}
+use Rattle.ymx_engine.proofs.Entries.{eq_ids}
+use Rattle.ymx_engine.proofs.Queueing.{extends_same, keeps_same, keeps_then}
 use Rattle.ymx_engine.proofs.Running.{moves_same, moves_same_so, moves_then, moves_then_so}
+use Rattle.ymx_engine.proofs.Turning.{extends_behind, left_behind, none_behind}
 
 -- ---- one call behind another
 
-first_then : (a b c : Tunnel) → FirstTurn a b → Moves b c → FirstTurn a c
-first_then a b c x m = record { id = x.id; gave = x.gave; before = x.before; after = x.after; to = x.to; waits = x.waits; turn = x.turn; behind = moves_then x.after b c x.behind m }
+had_then : (id : ℕ) (a b c : Tunnel) → HadTurn id a b → Moves b c → HadTurn id a c
+had_then id a b c x m = record { gave = x.gave; before = x.before; after = x.after; to = x.to; turn = x.turn; behind = moves_then x.after b c x.behind m }
 
-first_behind : (a b c : Tunnel) → Moves a b → Extends a.lines b.lines → FirstTurn b c → FirstTurn a c
-first_behind a b c m e x = record { id = x.id; gave = x.gave; before = x.before; after = x.after; to = moves_then a b x.before m x.to; waits = extends_then a.lines b.lines x.before.lines e x.waits; turn = x.turn; behind = x.behind }
+then_had : (id : ℕ) (a b c : Tunnel) → Moves a b → HadTurn id b c → HadTurn id a c
+then_had id a b c m x = record { gave = x.gave; before = x.before; after = x.after; to = moves_then a b x.before m x.to; turn = x.turn; behind = x.behind }
+
+left_then : (id : ℕ) (a b c : Tunnel) → HasLeft id a b → Moves b c → HasLeft id a c
+left_then id a b c x m = record { before = x.before; after = x.after; to = x.to; over = x.over; left = x.left; behind = moves_then x.after b c x.behind m }
+
+then_left : (id : ℕ) (a b c : Tunnel) → Moves a b → HasLeft id b c → HasLeft id a c
+then_left id a b c m x = record { before = x.before; after = x.after; to = moves_then a b x.before m x.to; over = x.over; left = x.left; behind = x.behind }
+
+-- each comes nearer by what both say
+pub nearer_then : (j k : ℕ) (a b c : Tunnel) → Moves a b → Moves b c → ComesNearer j a b → ComesNearer k b c → ComesNearer (j + k) a c
+nearer_then j k a b c m n x y id far behind = first (x id far behind)
+  where
+    second : (near : ℕ) → near + j ≤ far → HadTurn id b c ⊎ (HasLeft id b c ⊎ ((last : ℕ) × (last + k ≤ near) × IsBehind id last c.lines)) →
+        HadTurn id a c ⊎ (HasLeft id a c ⊎ ((last : ℕ) × (last + (j + k) ≤ far) × IsBehind id last c.lines))
+    second near few (inl had) = inl (then_had id a b c m had)
+    second near few (inr (inl left)) = inr (inl (then_left id a b c m left))
+    second near few (inr (inr (last, fewer, at))) = inr (inr (last, omega (arith, few, fewer), at))
+
+    first : HadTurn id a b ⊎ (HasLeft id a b ⊎ ((near : ℕ) × (near + j ≤ far) × IsBehind id near b.lines)) →
+        HadTurn id a c ⊎ (HasLeft id a c ⊎ ((last : ℕ) × (last + (j + k) ≤ far) × IsBehind id last c.lines))
+    first (inl had) = inl (had_then id a b c had n)
+    first (inr (inl left)) = inr (inl (left_then id a b c left n))
+    first (inr (inr (near, few, at))) = second near few (y id near at)
+
+-- others that came to wait stand behind
+nearer_extends : (a b : Tunnel) → Extends a.lines b.lines → ComesNearer 0 a b
+nearer_extends a b e id n far = inr (inr (n, omega arith, extends_behind id n a.lines b.lines e far))
+
+-- the first had its turn
+nearer_turn : (a b : Tunnel) (id gave : ℕ) → ServesFirst id gave a b → ComesNearer 1 a b
+nearer_turn a b id gave turn other n far = by (turn.first.comes other n far)
+  where
+    by : (other ≡ id) ⊎ ((m : ℕ) × (m < n) × IsBehind other m turn.taken) → HadTurn other a b ⊎ (HasLeft other a b ⊎ ((m : ℕ) × (m + 1 ≤ n) × IsBehind other m b.lines))
+    by (inl same) = inl (subst (λ (x : ℕ). HadTurn x a b) (sym same) (record { gave = gave; before = a; after = b; to = moves_same a; turn = turn; behind = moves_same b }))
+    by (inr (m, less, near)) = inr (inr (m, omega (arith, less), extends_behind other m turn.taken b.lines turn.waits near))
+
+nearer_weaker : (a b : Tunnel) → ComesNearer 1 a b → ComesNearer 0 a b
+nearer_weaker a b x id n far = by (x id n far)
+  where
+    by : HadTurn id a b ⊎ (HasLeft id a b ⊎ ((m : ℕ) × (m + 1 ≤ n) × IsBehind id m b.lines)) → HadTurn id a b ⊎ (HasLeft id a b ⊎ ((m : ℕ) × (m + 0 ≤ n) × IsBehind id m b.lines))
+    by (inl had) = inl had
+    by (inr (inl left)) = inr (inl left)
+    by (inr (inr (m, less, near))) = inr (inr (m, omega (arith, less), near))
+
+-- nothing of it was left to move
+abbrev pub IsDone : ℕ → Tunnel → Type 0
+IsDone id a = (l : Line) → line_of id a.lines ≡ Some l → (is_over l.ways ≡ true) ⊎ (is_running a.engine.session.status ≡ false)
+
+-- one was let go of
+nearer_left : (a b : Tunnel) (id : ℕ) → IsDone id a → Leaves id a b → LeavesQueues id a.lines b.lines → ComesNearer 0 a b
+nearer_left a b id over left q other n far = by (nat_eq id other) refl
+  where
+    by : (t : Bool) → nat_eq id other ≡ t → HadTurn other a b ⊎ (HasLeft other a b ⊎ ((m : ℕ) × (m + 0 ≤ n) × IsBehind other m b.lines))
+    by true t = inr (inl (subst (λ (x : ℕ). HasLeft x a b) (sym (eq_ids id other t)) (record { before = a; after = b; to = moves_same a; over = over; left = left; behind = moves_same b })))
+    by false t = inr (inr (left_behind id other n a.lines b.lines t q far))
 
 pub attends_same : (a : Tunnel) → Attends a a
-attends_same a = record { serves = λ s. s; turns = inl (extends_same a.lines) }
+attends_same a = record { serves = λ s. s; turns = nearer_extends a a (extends_same a.lines) }
 
 pub attends_on : (a b : Tunnel) → (Serving a → Serving b) → Extends a.lines b.lines → Attends a b
-attends_on a b serves e = record { serves = serves; turns = inl e }
-
-turns_then : (a b c : Tunnel) → Moves a b → Moves b c → Extends a.lines b.lines ⊎ FirstTurn a b → Extends b.lines c.lines ⊎ FirstTurn b c → Extends a.lines c.lines ⊎ FirstTurn a c
-turns_then a b c m n (inl e) (inl f) = inl (extends_then a.lines b.lines c.lines e f)
-turns_then a b c m n (inl e) (inr y) = inr (first_behind a b c m e y)
-turns_then a b c m n (inr x) y = inr (first_then a b c x n)
+attends_on a b serves e = record { serves = serves; turns = nearer_extends a b e }
 
 pub attends_then : (a b c : Tunnel) → Moves a b → Moves b c → Attends a b → Attends b c → Attends a c
-attends_then a b c m n x y = record { serves = λ s. y.serves (x.serves s); turns = turns_then a b c m n x.turns y.turns }
+attends_then a b c m n x y = record { serves = λ s. y.serves (x.serves s); turns = nearer_then 0 0 a b c m n x.turns y.turns }
 
 pub runs_same : (a : Tunnel) → Runs a a
 runs_same a = record { moves = moves_same a; attends = attends_same a }
@@ -55,28 +110,29 @@ runs_keep a b x = runs_on a b x.moves x.serves x.lines.queues
 
 -- the first had its turn
 pub runs_turn : (a b : Tunnel) (id gave : ℕ) → Moves a b → (Serving a → Serving b) → ServesFirst id gave a b → Runs a b
-runs_turn a b id gave m serves turn = record {
-  moves = m;
-  attends = record { serves = serves; turns = inr (record { id = id; gave = gave; before = a; after = b; to = moves_same a; waits = extends_same a.lines; turn = turn; behind = moves_same b }) };
-}
+runs_turn a b id gave m serves turn = record { moves = m; attends = record { serves = serves; turns = nearer_weaker a b (nearer_turn a b id gave turn) } }
+
+-- one was let go of
+pub runs_left_one : (a b : Tunnel) (id : ℕ) → Moves a b → (Serving a → Serving b) → IsDone id a → Leaves id a b → LeavesQueues id a.lines b.lines → Runs a b
+runs_left_one a b id m serves over left q = record { moves = m; attends = record { serves = serves; turns = nearer_left a b id over left q } }
 
 pub runs_from : (a b c : Tunnel) → a ≡ b → Runs a c → Runs b c
 runs_from a b c e x = subst (λ (v : Tunnel). Runs v c) e x
 
 -- ---- one that waits
 
-pub serves_first : (a b : Tunnel) (id gave : ℕ) → ServesFirst id gave a b → FirstTurn a b
-serves_first a b id gave turn = record { id = id; gave = gave; before = a; after = b; to = moves_same a; waits = extends_same a.lines; turn = turn; behind = moves_same b }
+pub serves_first : (a b : Tunnel) (id gave : ℕ) → ServesFirst id gave a b → ServesOne a b
+serves_first a b id gave turn = nearer_turn a b id gave turn
 
-pub one_then : (a b c : Tunnel) → ServesOne a b → Moves b c → ServesOne a c
-one_then a b c x m h = first_then a b c (x h) m
+pub one_then : (a b c : Tunnel) → Runs a b → ServesOne a b → Runs b c → ServesOne a c
+one_then a b c r x y = nearer_then 1 0 a b c r.moves y.moves x y.attends.turns
 
 pub then_one : (a b c : Tunnel) → Runs a b → Runs b c → ServesOne b c → ServesOne a c
-then_one a b c x y one h = by x.attends.turns
-  where
-    by : Extends a.lines b.lines ⊎ FirstTurn a b → FirstTurn a c
-    by (inl e) = first_behind a b c x.moves e (one (extends_idle a.lines b.lines e h))
-    by (inr f) = first_then a b c f y.moves
+then_one a b c x y one = nearer_then 0 1 a b c x.moves y.moves x.attends.turns one
+
+-- none waited
+pub serves_none : (a b : Tunnel) → IsIdle a.lines → ServesOne a b
+serves_none a b idle id n far = none_behind id n a.lines idle far
 
 -- ---- the steps of a tunnel
 

@@ -38,14 +38,14 @@ use Rattle.ymx_engine.specs.Runs.{Runs, Stays}
 use Rattle.ymx_engine.specs.Served.{Serving, GainsNone}
 use Rattle.ymx_engine.specs.Tunnels.{Tunnel}
 use Rattle.ymx_engine.specs.Ways.{new_ways}
-use Rattle.ymx_engine.specs.Turns.{Line, Entry, Lines, line_of, look, Awaits, Puts, SameLines, SameQueues, Extends, KeepsLines, Notes}
-use Rattle.ymx_engine.proofs.Attending.{runs_on}
+use Rattle.ymx_engine.specs.Turns.{Line, Entry, Lines, line_of, look, Awaits, Puts, SameLines, LeavesQueues, Extends, KeepsLines, Notes}
+use Rattle.ymx_engine.proofs.Attending.{IsDone, runs_on, runs_left_one}
 use Rattle.ymx_engine.proofs.Carrying.{gives_from, loses_in}
 use Rattle.ymx_engine.proofs.Gaining.{gains_then}
 use Rattle.ymx_engine.proofs.Entries.{eq_ids}
 use Rattle.ymx_engine.proofs.Listing.{LeavesWire}
 use Rattle.ymx_engine.proofs.Quiet.{IsQuiet}
-use Rattle.ymx_engine.proofs.Queueing.{extends_same, extends_then, extends_added, extends_queues, keeps_same, puts_behind_same}
+use Rattle.ymx_engine.proofs.Queueing.{extends_same, extends_then, extends_added, keeps_same, puts_behind_same}
 use Rattle.ymx_engine.proofs.Running.{SameSeen, puts_look, moves_idle, moves_called, moves_opened, moves_accepted, moves_not_opened, moves_not_accepted, moves_forgot, moves_noted, moves_wire_noted, moves_ended, moves_shut, moves_pinged}
 use Rattle.ymx_engine.proofs.Tending.{Calms, CalmsBut, calms_same, serving_kept, serving_session, serving_lines, serving_all, served_none, serving_but, but_of, serving_joined, serving_dropped, serving_gone, serving_noted, opened_calm, opened_fresh, accepted_calm, accepted_fresh, forgotten_calm, IsMute, pinged_calm, ponged_calm, ends_within}
 use Rattle.ymx_engine.proofs.Trading.{life_quiet}
@@ -138,10 +138,12 @@ stays_from a b c e x = subst (λ (v : Tunnel). Stays v c) e x
 
 -- ---- a connection leaves
 
-pub runs_forgot : (a b : Tunnel) (id : ℕ) (told : Reply) → Gives in_turn a.engine.session (event.Call (call.Forget id)) told b.engine.session → KeepsWire a.engine b.engine → b.wire ≡ a.wire → Puts id None a.lines b.lines → SameQueues a.lines b.lines → Runs a b
-runs_forgot a b id told g keeps wire puts q =
-    runs_on a b (moves_forgot a b id told g keeps wire (λ other. puts_look id other None a.lines b.lines puts))
-    (λ h. serving_gone id a b (forgotten_calm id told a.engine.session b.engine.session g) puts q (but_of id a h)) (extends_queues a.lines b.lines q)
+pub runs_forgot : (a b : Tunnel) (id : ℕ) (told : Reply) → IsDone id a → Gives in_turn a.engine.session (event.Call (call.Forget id)) told b.engine.session → KeepsWire a.engine b.engine → b.wire ≡ a.wire → b.is_wire_over ≡ a.is_wire_over → Puts id None a.lines b.lines →
+    LeavesQueues id a.lines b.lines → Runs a b
+runs_forgot a b id told over g keeps wire wire_over puts q =
+    runs_left_one a b id (moves_forgot a b id told g keeps wire (λ other. puts_look id other None a.lines b.lines puts))
+    (λ h. serving_gone id a b (forgotten_calm id told a.engine.session b.engine.session g) puts q (but_of id a h)) over
+    (record { left = record { told = told; forgotten = g }; keeps = keeps; wire = wire; over = wire_over; lines = puts }) q
 
 -- a stream that was forgotten takes no bytes, and none wait on it
 lingers : (lost : Bool) (e : End) → (end_forget lost e).phase ≡ Lingering

@@ -195,6 +195,9 @@ unwritten_seen seen id x ms ns found put other = seen_at seen ns other ∙ ap (o
 
 -- ---- marks
 
+pub mark_found : {D : Type 0} (seen : D → Seen) (es : List (ℕ × KeptEntry D)) (id : ℕ) (x : KeptEntry D) → lookup (nat_eq id) es ≡ Some x → option_map (λ (e : Entry). e.is_queued) (lookup (nat_eq id) (entries_seen seen es)) ≡ Some x.is_queued
+mark_found seen es id x found = ap (option_map (λ (e : Entry). e.is_queued)) (seen_at seen es id ∙ ap (option_map (entry_seen seen)) found)
+
 -- the marks of one that was found
 pub queue_mark_found : {D : Type 0} (seen : D → Seen) (es : List (ℕ × KeptEntry D)) (id : ℕ) (x : KeptEntry D) (t : Lines) → entries_seen seen es ≡ t.by_id → lookup (nat_eq id) es ≡ Some x → queue_mark id t ≡ Some x.is_queued
 queue_mark_found seen es id x t is found = ap (λ (v : List (ℕ × Entry)). option_map (λ e. e.is_queued) (lookup (nat_eq id) v)) (sym is) ∙ ap (option_map (λ e. e.is_queued)) (seen_at seen es id ∙ ap (option_map (entry_seen seen)) found)

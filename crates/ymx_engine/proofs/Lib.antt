@@ -14,6 +14,7 @@ pub mod Hearing
 pub mod Asking
 pub mod Steady
 pub mod Entries
+pub mod Once
 pub mod Marking
 pub mod Queueing
 pub mod Turning

@@ -38,14 +38,15 @@ use Rattle.ymx_engine.specs.Served.{IsServed, Serving, ServingBut, GainsNone}
 use Rattle.ymx_engine.specs.Serves.{is_of_turn, is_silent, is_stopped, Turn}
 use Rattle.ymx_engine.specs.Steps.{TakesPart}
 use Rattle.ymx_engine.specs.Tunnels.{Tunnel}
-use Rattle.ymx_engine.specs.Turns.{Line, Lines, line_of, Awaits, Attended, SameLines, SameQueues, Puts, KeepsLines, KeepsOthers, TakesTurn, IsFirst, takes_busy, Notes}
+use Rattle.ymx_engine.specs.Turns.{Line, Lines, line_of, Awaits, Attended, SameLines, LeavesQueues, Puts, KeepsLines, KeepsOthers, TakesTurn, IsFirst, takes_busy, Notes}
 use Rattle.ymx_engine.specs.Ways.{is_open, may_push, may_pull}
 use Rattle.ymx_engine.proofs.Coming.{Goes, exchanges_calm}
 use Rattle.ymx_engine.proofs.Ending.{none_there, offered_there}
 use Rattle.ymx_engine.proofs.Gaining.{NoneGain, gains_then, gains_none, gains_still, gains_same, turn_gains, reset_gains}
 use Rattle.ymx_engine.proofs.Entries.{eq_ids, is_some_at}
 use Rattle.ymx_engine.proofs.Marking.{popped}
-use Rattle.ymx_engine.proofs.Queueing.{keeps_same, keeps_then, attended_on, attended_held, line_put_at, extends_queues, extends_added, others_put}
+use Rattle.ymx_engine.proofs.Turning.{left_waits}
+use Rattle.ymx_engine.proofs.Queueing.{keeps_same, keeps_then, await_on, attended_on, attended_held, line_put_at, line_put_other, extends_added, others_put}
 use Rattle.ymx_engine.proofs.Steady.{steady_all, turn_steady, settled_status, called_status, reset_stays}
 
 -- the session keeps its limits, no stream gained anything, and it runs on if it ran
@@ -290,9 +291,14 @@ given_up_calm id s t x w =
     but_then id s x.between t r (forgotten_calm id x.told_forget x.between t x.forgotten r.within)
 
 -- its connection is there no more
-pub serving_gone : (id : ℕ) (a b : Tunnel) → (IsWithin a.engine.session → CalmsBut id a.engine.session b.engine.session) → Puts id None a.lines b.lines → SameQueues a.lines b.lines → ServingBut id a → Serving b
-serving_gone id a b calm puts q =
-    serving_with id a b calm (others_put id None a.lines b.lines puts (extends_queues a.lines b.lines q) (λ m. q.missed ∙ m) (λ other h. subst (λ (v : List ℕ). Contains v other) (sym q.held) h)) (λ w. served_none id b (line_put_at id None a.lines b.lines puts))
+pub serving_gone : (id : ℕ) (a b : Tunnel) → (IsWithin a.engine.session → CalmsBut id a.engine.session b.engine.session) → Puts id None a.lines b.lines → LeavesQueues id a.lines b.lines → ServingBut id a → Serving b
+serving_gone id a b calm puts q h =
+    let w = calm h.within in record { within = w.within; each = λ other. by w other (nat_eq id other) refl }
+  where
+    by : CalmsBut id a.engine.session b.engine.session → (other : ℕ) (t : Bool) → nat_eq id other ≡ t → IsServed other b
+    by w other true t = subst (λ (n : ℕ). IsServed n b) (sym (eq_ids id other t)) (served_none id b (line_put_at id None a.lines b.lines puts))
+    by w other false t =
+        served_at other a b (w.came other t) w.runs (line_put_other id other None a.lines b.lines puts t) (λ some. await_on other a.lines b.lines (left_waits id other a.lines b.lines t q) (λ m. q.missed ∙ m)) (λ some c. attended_held a.lines b.lines q.held other c) (h.each other t)
 
 -- a stream that has no connection was given up
 pub serving_dropped : (id : ℕ) (a b : Tunnel) → DropsOut id a b → ServingBut id a → Serving b

@@ -1,6 +1,6 @@
 -- One turn of a connection, and that of the first that waits, seen from the tunnel.
 use Rattle.std.proofs.Common.{◌≡◌, ◌⊎◌, inl, inr, ℕ, Bool, true, false, not, ◌&&◌, Option, None, Some, refl, sym, ap, ◌∙◌, subst, cond}
-use Rattle.std.specs.Prelude.{nat_eq, option_map, is_some}
+use Rattle.std.specs.Prelude.{nat_eq, option_map, is_some, IsSome}
 use Rattle.ymx_engine.specs.Events.{has_stop}
 use Rattle.ymx_engine.specs.Devices.{Seen}
 use Rattle.ymx_engine.specs.Moves.{Moves}
@@ -95,18 +95,27 @@ turned_rests id gave a b x = record {
 pub record IsFirstServed (id gave : ℕ) (a b : Tunnel) (taken : Lines) : Type 0 where
   pub lines : SameLines a.lines taken
   pub first : TakesTurn id a.lines taken
+  pub there : IsSome (line_of id a.lines)
   pub missed : taken.missed ≡ a.lines.missed
   pub held : taken.held ≡ a.lines.held
   pub turned : IsTurned id gave (record a { lines = taken }) b
 
+some_line : (o : Option Line) → IsSome o → (l : Line) × (o ≡ Some l)
+some_line (Some l) h = (l, refl)
+some_line None h = let no : ⊥ = cc in absurd no
+
 first_serves : (id gave : ℕ) (a b : Tunnel) (taken : Lines) → IsFirstServed id gave a b taken → ServesFirst id gave a b
-first_serves id gave a b taken x = record {
-  taken = taken;
-  first = x.first;
-  waits = x.turned.others.queues;
-  served = λ was there. let y = x.turned.served was (x.lines id ∙ there) in record { now = y.now; there = y.there; more = y.more; turn = y.turn; rests = y.rests; alone = y.alone };
-  none = λ h. let n = x.turned.none (x.lines id ∙ h) in (n.1, (ap (λ (v : Tunnel). v.lines.fresh) n.0, ap (λ (v : Tunnel). v.lines.busy) n.0));
-}
+first_serves id gave a b taken x =
+    let was = some_line (line_of id a.lines) x.there in
+    let y = x.turned.served was.0 (x.lines id ∙ was.1) in
+    record {
+      taken = taken;
+      first = x.first;
+      waits = x.turned.others.queues;
+      was = was.0;
+      there = was.1;
+      served = record { now = y.now; there = y.there; more = y.more; turn = y.turn; rests = y.rests; alone = y.alone };
+    }
 
 first_runs : (id gave : ℕ) (a b : Tunnel) (taken : Lines) → IsFirstServed id gave a b taken → Runs a b
 first_runs id gave a b taken x =

@@ -1,11 +1,12 @@
 -- Whose turn it is, and that each that waits comes nearer to its own.
-use Rattle.std.proofs.Common.{◌≡◌, ◌⊎◌, inl, inr, ℕ, zero, suc, ◌+◌, ◌*◌, ◌<◌, ◌==◌, List, [], ◌∷◌, ◌++◌, length, Bool, true, false, ◌&&◌, ◌||◌, not, Some, refl, sym, ap, ◌∙◌, subst, arith}
+use Rattle.std.proofs.Common.{◌≡◌, ◌⊎◌, inl, inr, ℕ, zero, suc, ◌+◌, ◌*◌, ◌<◌, ◌≤◌, ◌==◌, List, [], ◌∷◌, ◌++◌, length, Bool, true, false, ◌&&◌, ◌||◌, not, Some, refl, sym, ap, ◌∙◌, subst, arith}
 use Rattle.std.specs.Prelude.{nat_eq, slice_get, Contains, if◌then◌else◌}
-use Rattle.std.proofs.lemmas.Option.{slice_get_within, slice_get-get_or}
+use Rattle.std.proofs.lemmas.Option.{slice_get_within}
 use Rattle.std.proofs.lemmas.Bool.Decides.{nat_tests}
-use Rattle.ymx_engine.specs.Turns.{Lines, Waits, IsBehind, HasTurnSoon, IsFirst, TakesTurn, takes_busy, Extends}
-use Rattle.ymx_engine.proofs.Entries.{some_is}
-use Rattle.ymx_engine.proofs.Marking.{Stands, popped}
+use Rattle.ymx_engine.specs.Turns.{Lines, Waits, IsIdle, IsBehind, HasTurnSoon, IsFirst, TakesTurn, takes_busy, Extends, LeavesQueues}
+use Rattle.ymx_engine.proofs.Entries.{some_is, no_some}
+use Rattle.ymx_engine.proofs.Marking.{Taken}
+use Rattle.ymx_engine.proofs.Once.{stands_at, without_place, without_stands}
 
 -- it stands so far behind in two queues that take turns
 abbrev Behind : (for_busy : Bool) (fresh busy : List ℕ) (id others : ℕ) → Type 0
@@ -72,20 +73,10 @@ takes_turn id old new busy fresh = by (takes_busy old) refl
 pub turn_from : (id : ℕ) (a b c : Lines) → a ≡ b → TakesTurn id a c → TakesTurn id b c
 turn_from id a b c e x = subst (λ (t : Lines). TakesTurn id t c) e x
 
-both_ways : (b : Bool) → (b ≡ true) ⊎ (b ≡ false)
-both_ways true = inl refl
-both_ways false = inr refl
-
--- each other that stood in a queue stands there still
-pub turned_stands : (id : ℕ) (b : Bool) (f g f2 g2 : List ℕ) {P Q : Type 0} → (b ≡ true → (g ≡ id ∷ g2) × (f2 ≡ f) × P) → (b ≡ false → (f ≡ id ∷ f2) × (g2 ≡ g) × Q) →
-    (other : ℕ) → nat_eq id other ≡ false → Stands f g other → Stands f2 g2 other
-turned_stands id b f g f2 g2 busy fresh other ne stands = by (both_ways b) stands
-  where
-    by : (b ≡ true) ⊎ (b ≡ false) → Stands f g other → Stands f2 g2 other
-    by (inl t) (inl h) = inl (subst (λ (v : List ℕ). Contains v other) (sym (busy t).1) h)
-    by (inl t) (inr h) = inr (popped g g2 id other (busy t).0 ne h)
-    by (inr t) (inl h) = inl (popped f f2 id other (fresh t).0 ne h)
-    by (inr t) (inr h) = inr (subst (λ (v : List ℕ). Contains v other) (sym (fresh t).1) h)
+-- the first of a queue was taken
+pub turned_taken : (id : ℕ) (b : Bool) (f g f2 g2 : List ℕ) {P Q : Type 0} → (b ≡ true → (g ≡ id ∷ g2) × (f2 ≡ f) × P) → (b ≡ false → (f ≡ id ∷ f2) × (g2 ≡ g) × Q) → Taken id f g f2 g2
+turned_taken id true f g f2 g2 busy fresh = let took = busy refl in inr (took.1, took.0)
+turned_taken id false f g f2 g2 busy fresh = let took = fresh refl in inl (took.0, took.1)
 
 -- ---- how far one is behind
 
@@ -110,6 +101,31 @@ at_most_one : (b : Bool) → ((if b then 1 else 0) < 2) × ((if b then 0 else 1)
 at_most_one true = (omega arith, omega arith)
 at_most_one false = (omega arith, omega arith)
 
+-- where another left, one stands no further behind
+pub left_behind : (id other n : ℕ) (a b : Lines) → nat_eq id other ≡ false → LeavesQueues id a b → IsBehind other n a → (m : ℕ) × (m + 0 ≤ n) × IsBehind other m b
+left_behind id other n a b ne x (place, inl (at, is)) =
+    let still = without_place id other a.fresh place ne at in (
+      2 * still.0 + (if a.is_for_busy then 1 else 0),
+      omega (arith, still.1, is),
+      (still.0, inl (ap (λ (v : List ℕ). slice_get v still.0) x.fresh ∙ still.2, ap (λ (f : Bool). 2 * still.0 + (if f then 1 else 0)) (sym x.flag))),
+    )
+left_behind id other n a b ne x (place, inr (at, is)) =
+    let still = without_place id other a.busy place ne at in (
+      2 * still.0 + (if a.is_for_busy then 0 else 1),
+      omega (arith, still.1, is),
+      (still.0, inr (ap (λ (v : List ℕ). slice_get v still.0) x.busy ∙ still.2, ap (λ (f : Bool). 2 * still.0 + (if f then 0 else 1)) (sym x.flag))),
+    )
+
+-- one that waited waits on
+pub left_waits : (id other : ℕ) (a b : Lines) → nat_eq id other ≡ false → LeavesQueues id a b → Waits other a → Waits other b
+left_waits id other a b ne x (inl h) = inl (subst (λ (v : List ℕ). Contains v other) (sym x.fresh) (without_stands id other a.fresh ne h))
+left_waits id other a b ne x (inr h) = inr (subst (λ (v : List ℕ). Contains v other) (sym x.busy) (without_stands id other a.busy ne h))
+
+-- where none waits, none stands anywhere
+pub none_behind : {A : Type 0} (id n : ℕ) (t : Lines) → IsIdle t → IsBehind id n t → A
+none_behind id n t idle (place, inl (at, is)) = no_some (sym (ap (λ (v : List ℕ). slice_get v place) (sym idle.0) ∙ at))
+none_behind id n t idle (place, inr (at, is)) = no_some (sym (ap (λ (v : List ℕ). slice_get v place) (sym idle.1) ∙ at))
+
 -- it has its turn within so many turns as there stand in both queues, each counted twice
 pub behind_few : (id n : ℕ) (t : Lines) → IsBehind id n t → n < 2 * (length t.fresh + length t.busy)
 behind_few id n t (place, inl (at, is)) =
@@ -117,12 +133,10 @@ behind_few id n t (place, inl (at, is)) =
 behind_few id n t (place, inr (at, is)) =
     let within : place < length t.busy = slice_get_within t.busy place id at in omega (arith, within, is, (at_most_one t.is_for_busy).1)
 
-stands_at : (xs : List ℕ) (id : ℕ) → Contains xs id → (place : ℕ) × (slice_get xs place ≡ Some id)
-stands_at xs id (place, within, same) = (place, slice_get-get_or xs place id within ∙ ap (λ (n : ℕ). Some n) same)
+-- no more wait than there are
+soon_at : (id n : ℕ) (t : Lines) → length t.fresh + length t.busy ≤ length t.by_id → IsBehind id n t → HasTurnSoon id t
+soon_at id n t few far = let most = behind_few id n t far in (n, far, omega (arith, most, few))
 
-soon_at : (id n : ℕ) (t : Lines) → IsBehind id n t → HasTurnSoon id t
-soon_at id n t far = (n, far, behind_few id n t far)
-
-pub waits_soon : (id : ℕ) (t : Lines) → Waits id t → HasTurnSoon id t
-waits_soon id t (inl h) = let at = stands_at t.fresh id h in soon_at id (2 * at.0 + (if t.is_for_busy then 1 else 0)) t (at.0, inl (at.1, refl))
-waits_soon id t (inr h) = let at = stands_at t.busy id h in soon_at id (2 * at.0 + (if t.is_for_busy then 0 else 1)) t (at.0, inr (at.1, refl))
+pub waits_soon : (id : ℕ) (t : Lines) → length t.fresh + length t.busy ≤ length t.by_id → Waits id t → HasTurnSoon id t
+waits_soon id t few (inl h) = let at = stands_at t.fresh id h in soon_at id (2 * at.0 + (if t.is_for_busy then 1 else 0)) t few (at.0, inl (at.1, refl))
+waits_soon id t few (inr h) = let at = stands_at t.busy id h in soon_at id (2 * at.0 + (if t.is_for_busy then 0 else 1)) t few (at.0, inr (at.1, refl))

@@ -7,8 +7,7 @@ use Rattle.ymx_engine.specs.Turns.{Line, line_of, look}
 use Rattle.ymx_engine.specs.Ways.{is_over}
 use Rattle.ymx_engine.specs.Work.{Attends}
 
--- It moved what `Moves` says; nobody who can be served was forgotten; and nobody who waited for a turn left its place, or the first
--- had its turn.
+-- It moved what `Moves` says; nobody who can be served was forgotten; and nobody who waited for a turn fell back.
 pub record Runs (old new : Tunnel) : Type 0 where
   pub moves : Moves old new
   pub attends : Attends old new

@@ -75,9 +75,9 @@ abbrev pub IsBehind : (id others : ℕ) → Lines → Type 0
 IsBehind id n t = (place : ℕ) × (((slice_get t.fresh place ≡ Some id) × (n ≡ 2 * place + (if t.is_for_busy then 1 else 0)))
     ⊎ ((slice_get t.busy place ≡ Some id) × (n ≡ 2 * place + (if t.is_for_busy then 0 else 1))))
 
--- It waits, and has its turn within twice as many turns as connections wait for one: fewer come before.
+-- It waits, and has its turn within twice as many turns as there are connections: fewer come before.
 abbrev pub HasTurnSoon : ℕ → Lines → Type 0
-HasTurnSoon id t = (n : ℕ) × IsBehind id n t × (n < 2 * (length t.fresh + length t.busy))
+HasTurnSoon id t = (n : ℕ) × IsBehind id n t × (n < 2 * length t.by_id)
 
 -- this one was the first of those that had more to move, or else of the others
 abbrev pub IsFirst : (busy : Bool) → (id : ℕ) → (old new : Lines) → Type 0
@@ -119,6 +119,19 @@ StaysMissed old new = old.missed ≡ true → new.missed ≡ true
 pub record SameQueues (old new : Lines) : Type 0 where
   pub fresh : new.fresh ≡ old.fresh
   pub busy : new.busy ≡ old.busy
+  pub held : new.held ≡ old.held
+  pub flag : new.is_for_busy ≡ old.is_for_busy
+  pub missed : new.missed ≡ old.missed
+
+-- those of a queue but this one, in their order
+abbrev pub without : ℕ → List ℕ → List ℕ
+without id [] = []
+without id (other ∷ rest) = if nat_eq id other then without id rest else other ∷ without id rest
+
+-- this one waits for no turn any more, and each other in its order; nothing else changed
+pub record LeavesQueues (id : ℕ) (old new : Lines) : Type 0 where
+  pub fresh : new.fresh ≡ without id old.fresh
+  pub busy : new.busy ≡ without id old.busy
   pub held : new.held ≡ old.held
   pub flag : new.is_for_busy ≡ old.is_for_busy
   pub missed : new.missed ≡ old.missed
@@ -178,9 +191,23 @@ pub record Notes (id : ℕ) (ready : Readiness) (was : Line) (old new : Lines) :
 
 -- ---- marks
 
--- each connection that is marked as queued stands in a queue
+-- how often this stream stands in a queue
+abbrev pub times : ℕ → List ℕ → ℕ
+times id [] = 0
+times id (other ∷ rest) = (if nat_eq id other then 1 else 0) + times id rest
+
+-- once for a connection that is marked
+abbrev pub once_if : Option Bool → ℕ
+once_if (Some true) = 1
+once_if _ = 0
+
+-- Each connection that is marked as queued stands in one of the queues, once. No other stream stands in one.
 abbrev pub AreListed : List (ℕ × Entry) → List ℕ → List ℕ → Type 0
-AreListed by_id fresh busy = (id : ℕ) (e : Entry) → lookup (nat_eq id) by_id ≡ Some e → e.is_queued ≡ true → Contains fresh id ⊎ Contains busy id
+AreListed by_id fresh busy = (id : ℕ) → times id fresh + times id busy ≡ once_if (option_map (λ e. e.is_queued) (lookup (nat_eq id) by_id))
+
+-- this one stands behind all others in one of the queues, and the other queue stays
+abbrev pub StandsBehind : ℕ → (fresh busy fresh_new busy_new : List ℕ) → Type 0
+StandsBehind id f g f_new g_new = ((f_new ≡ f ++ id ∷ []) × (g_new ≡ g)) ⊎ ((f_new ≡ f) × (g_new ≡ g ++ id ∷ []))
 
 -- whether it is marked as queued
 abbrev pub queue_mark : ℕ → Lines → Option Bool

@@ -1,17 +1,19 @@
 -- What a tunnel has to do, and that each round does some of it (this project's own).
-use Rattle.std.specs.Prelude.{ℕ, ◌≡◌, ◌⊎◌, ◌||◌, ◌&&◌, ◌==◌, if◌then◌else◌, nat_lt, not, length, [], Bool, None, Some, true, false}
+use Rattle.std.specs.Prelude.{ℕ, ◌≡◌, ◌⊎◌, ◌+◌, ◌≤◌, ◌||◌, ◌&&◌, ◌==◌, if◌then◌else◌, nat_lt, not, length, [], Bool, Some, true, false}
 use Rattle.std.specs.List.{list_all}
 use Rattle.ymx_model.specs.session.Sessions.{is_running}
 use Rattle.ymx_model.specs.session.Emissions.{is_ready}
 use Rattle.ymx_engine.specs.Engines.{Engine}
 use Rattle.ymx_engine.specs.Exchanges.{has_bytes}
+use Rattle.ymx_engine.specs.Joins.{Leaves}
 use Rattle.ymx_engine.specs.Moves.{Moves}
 use Rattle.ymx_engine.specs.Served.{Serving}
 use Rattle.ymx_engine.specs.Serves.{Turn}
 use Rattle.ymx_engine.specs.Tunnels.{Tunnel}
 use Rattle.ymx_engine.specs.Passes.{is_of_reading}
 use Rattle.ymx_engine.specs.Wires.{is_of_flush, has_starved}
-use Rattle.ymx_engine.specs.Turns.{Line, Lines, line_of, is_idle, Extends, SameTurns, WaitsAlone, TakesTurn}
+use Rattle.ymx_engine.specs.Turns.{Line, Lines, line_of, is_idle, Extends, SameTurns, WaitsAlone, TakesTurn, IsBehind}
+use Rattle.ymx_engine.specs.Ways.{is_over}
 
 -- bytes wait for the wire, or something is due
 abbrev pub has_to_send : Engine → Bool
@@ -73,36 +75,49 @@ pub record HasItsTurn (id gave : ℕ) (was : Line) (waits : Lines) (old new : Tu
   pub rests : more ≡ false → SameTurns waits new.lines
   pub alone : WaitsAlone id waits new.lines
 
--- The first of the queue whose turn it was had its turn, in which its device gave so many bytes: each other that waited has fewer
--- before it now.
+-- The first of the queue whose turn it was is there, and had its turn, in which its device gave so many bytes: each other that
+-- waited has fewer before it now.
 pub record ServesFirst (id gave : ℕ) (old new : Tunnel) : Type 0 where
   pub taken : Lines
   pub first : TakesTurn id old.lines taken
   pub waits : Extends taken new.lines
-  pub served : (was : Line) → line_of id old.lines ≡ Some was → HasItsTurn id gave was taken old new
-  pub none : line_of id old.lines ≡ None → (gave ≡ 0) × SameTurns taken new.lines
+  pub was : Line
+  pub there : line_of id old.lines ≡ Some was
+  pub served : HasItsTurn id gave was taken old new
 
 -- ---- many steps
 
--- The first that waited had its turn: until then none left its place.
-pub record FirstTurn (old new : Tunnel) : Type 0 where
-  pub id : ℕ
+-- between these two the connection of this stream had its turn, as the first of those that waited
+pub record HadTurn (id : ℕ) (old new : Tunnel) : Type 0 where
   pub gave : ℕ
   pub before : Tunnel
   pub after : Tunnel
   pub to : Moves old before
-  pub waits : Extends old.lines before.lines
   pub turn : ServesFirst id gave before after
   pub behind : Moves after new
 
--- Nobody who can be served is forgotten; and nobody who waited for a turn left its place, or the first had its turn.
+-- between these two it was let go of, as nothing of it was left to move
+pub record HasLeft (id : ℕ) (old new : Tunnel) : Type 0 where
+  pub before : Tunnel
+  pub after : Tunnel
+  pub to : Moves old before
+  pub over : (l : Line) → line_of id before.lines ≡ Some l → (is_over l.ways ≡ true) ⊎ (is_running before.engine.session.status ≡ false)
+  pub left : Leaves id before after
+  pub behind : Moves after new
+
+-- Each that waited for a turn has at least so many fewer before it now, unless it had its turn or left.
+abbrev pub ComesNearer : (steps : ℕ) → (old new : Tunnel) → Type 0
+ComesNearer steps old new =
+    (id n : ℕ) → IsBehind id n old.lines → HadTurn id old new ⊎ (HasLeft id old new ⊎ ((m : ℕ) × (m + steps ≤ n) × IsBehind id m new.lines))
+
+-- Nobody who can be served is forgotten; and nobody who waits for a turn falls back.
 pub record Attends (old new : Tunnel) : Type 0 where
   pub serves : Serving old → Serving new
-  pub turns : Extends old.lines new.lines ⊎ FirstTurn old new
+  pub turns : ComesNearer 0 old new
 
--- where a connection waited for a turn, the first had its turn
+-- each that waited for a turn came nearer, had it, or left
 abbrev pub ServesOne : Tunnel → Tunnel → Type 0
-ServesOne old new = is_idle old.lines ≡ false → FirstTurn old new
+ServesOne old new = ComesNearer 1 old new
 
 -- between these two the wire was read
 pub record HasRead (old new : Tunnel) : Type 0 where
@@ -120,7 +135,7 @@ pub record HasWritten (old new : Tunnel) : Type 0 where
   pub writes : Writes before after
   pub behind : Moves after new
 
--- A round: the wire was read, and written to; and where a connection waited for a turn, the first had its turn.
+-- A round: the wire was read, and written to; and each connection that waited for a turn came nearer, had it, or left.
 pub record WorksOnce (old new : Tunnel) : Type 0 where
   pub reads : HasRead old new
   pub turns : ServesOne old new

@@ -1,13 +1,13 @@
 //! The connections of a tunnel by stream id, each with its device, and whose turn comes.
 
-ghost use Rattle.std.specs.Prelude.{ℕ, ◌≡◌, ◌<◌, ◌⊎◌, ◌+◌, ◌∷◌, ◌==◌, ◌&&◌, ◌||◌, if◌then◌else◌, not, [], length, nat_eq, min, slice_get, is_some, option_map, true, false, None, Some, Contains, OnOk, OnErr, IsOk, IfSome, IfNone, IsSome, MatchOption};
+ghost use Rattle.std.specs.Prelude.{ℕ, ◌≡◌, ◌<◌, ◌≤◌, ◌⊎◌, ◌+◌, ◌∷◌, ◌==◌, ◌&&◌, ◌||◌, if◌then◌else◌, not, [], length, nat_eq, min, slice_get, is_some, option_map, true, false, None, Some, Contains, OnOk, OnErr, IsOk, IfSome, IfNone, IsSome, MatchOption};
 ghost use Rattle.std.specs.List.{list_any};
 ghost use Rattle.std.specs.Map.{lookup, keys_of};
 ghost use Rattle.std.specs.VecDeque.{deque_len, deque_capacity};
 ghost use Rattle.ymx_session.specs.Touched.{is_noted, nothing_noted};
 ghost use Rattle.ymx_engine.specs.Entries.{Rewrites};
 ghost use Rattle.ymx_engine.specs.Ways.{is_over, new_ways};
-ghost use Rattle.ymx_engine.specs.Turns.{Line as LineValue, line_of, look, ways_of, held_mark, queue_mark, is_idle, Puts, SameLines, SameQueues, KeepsLines, Adds, Notes, Waits, Awaits, Attended, IsIdle, StaysOrAdds, WaitsAlone, AddsTurn, TakesTurn, Extends, StaysMissed};
+ghost use Rattle.ymx_engine.specs.Turns.{Line as LineValue, line_of, look, ways_of, held_mark, queue_mark, is_idle, Puts, SameLines, SameQueues, KeepsLines, Adds, Notes, Waits, Awaits, Attended, IsIdle, StaysOrAdds, WaitsAlone, AddsTurn, TakesTurn, Extends, StaysMissed, LeavesQueues, StandsBehind, without};
 
 use crate::device::{Device, Readiness};
 use crate::ways::Ways;
@@ -44,7 +44,7 @@ pub(crate) enum Queue {
     Busy,
 }
 
-/// Connections by stream id, those that may have something to move, each once, and those that are held back while
+/// Connections by stream id, those that may have something to move, each once in one of two queues, and those that are held back while
 /// bytes wait for the wire.
 ///
 /// Those that had a turn and have more to move stand in a queue of their own, and the two queues take turns: so one
@@ -184,8 +184,9 @@ impl<D: Device + Drop> Lines<D> {
         ymx_memory::reserve_map(&mut self.by_id)
     }
 
-    /// Adds one, for which there is memory. It waits for a turn.
+    /// Adds one, for which there is memory, and which is not there. It waits for a turn.
     pub(crate) fn add(&mut self, id: u32, device: D)
+        requires free { line_of id self.old ≡ None }
         requires room { self.old.has_room ≡ true }
         requires place { self.old.has_place ≡ true }
         ensures added { Adds id (record { seen = D.seen device; ways = new_ways }) self.old self.new }
@@ -207,12 +208,14 @@ impl<D: Device + Drop> Lines<D> {
     pub(crate) fn remove(&mut self, id: u32) -> Option<D>
         ensures given { option_map D.seen result ≡ look id self.old }
         ensures gone { Puts id None self.old self.new }
-        ensures queues { SameQueues self.old self.new }
+        // It waits for no turn any more.
+        ensures queues { LeavesQueues id self.old self.new }
         ensures len { length self.new.by_id + (if is_some result then 1 else 0) ≡ length self.old.by_id }
     {
         let Some(entry) = self.by_id.swap_remove(&id) else {
             return None;
         };
+        leave(&mut self.fresh, &mut self.busy, id, entry.is_queued);
         Some(entry.line.device)
     }
 
@@ -233,7 +236,9 @@ impl<D: Device + Drop> Lines<D> {
 
     /// How many wait for a turn.
     pub(crate) fn queued_count(&self) -> usize
-        ensures { result ≡ min (length self.now.fresh + length self.now.busy) usize.MAX }
+        ensures count { result ≡ min (length self.now.fresh + length self.now.busy) usize.MAX }
+        // Each connection waits once at most.
+        ensures few { length self.now.fresh + length self.now.busy ≤ length self.now.by_id }
     {
         self.fresh.len().saturating_add(self.busy.len())
     }
@@ -330,6 +335,7 @@ impl<D: Device + Drop> Lines<D> {
     pub(crate) fn next(&mut self) -> Option<u32>
         ensures lines { SameLines self.old self.new }
         ensures some { IfSome result (λ id. TakesTurn id self.old self.new) }
+        ensures there { IfSome result (λ id. IsSome (line_of id self.old)) }
         // It is marked as queued no more.
         ensures unmarked { IfSome result (λ id. IfSome (queue_mark id self.new) (λ b. b ≡ false)) }
         ensures none { IfNone result (IsIdle self.old × IsIdle self.new × SameQueues self.old self.new) }
@@ -428,7 +434,7 @@ fn stand(
     ensures busy { StaysOrAdds id busy.old.items busy.new.items }
     ensures in_fresh { queue ≡ Queue.Fresh → busy.new.items ≡ busy.old.items }
     ensures in_busy { queue ≡ Queue.Busy → fresh.new.items ≡ fresh.old.items }
-    ensures stands { OnOk result (Contains fresh.new.items id ⊎ Contains busy.new.items id) }
+    ensures stands { OnOk result (StandsBehind id fresh.old.items busy.old.items fresh.new.items busy.new.items) }
     ensures refused { OnErr result ((fresh.new.items ≡ fresh.old.items) × (busy.new.items ≡ busy.old.items)) }
     ensures succeeds { deque_len fresh.old < deque_capacity fresh.old → deque_len busy.old < deque_capacity busy.old → IsOk result }
 {
@@ -436,6 +442,26 @@ fn stand(
         Queue::Fresh => ymx_memory::push_back(fresh, id),
         Queue::Busy => ymx_memory::push_back(busy, id),
     }
+}
+
+/// This one leaves the queues, if it stands in one.
+fn leave(fresh: &mut VecDeque<u32>, busy: &mut VecDeque<u32>, id: u32, stands: bool)
+    requires fresh { stands ≡ false → without id fresh.old.items ≡ fresh.old.items }
+    requires busy { stands ≡ false → without id busy.old.items ≡ busy.old.items }
+    ensures fresh { fresh.new.items ≡ without id fresh.old.items }
+    ensures busy { busy.new.items ≡ without id busy.old.items }
+{
+    if stands {
+        leave_queue(fresh, id);
+        leave_queue(busy, id);
+    }
+}
+
+/// This one leaves a queue. Each other keeps its place in the order.
+fn leave_queue(queue: &mut VecDeque<u32>, id: u32)
+    ensures { queue.new.items ≡ without id queue.old.items }
+{
+    queue.retain(|other| *other != id);
 }
 
 /// This one waits for no turn.

@@ -1,6 +1,6 @@
 //! How a tunnel stands: whether it has work, and what its session and its connections say.
 
-ghost use Rattle.std.specs.Prelude.{ℕ, ◌≡◌, ◌+◌, ◌==◌, ◌||◌, length, min, slice_get, true, false, option_map, IfSome, Option};
+ghost use Rattle.std.specs.Prelude.{ℕ, ◌≡◌, ◌+◌, ◌≤◌, ◌==◌, ◌||◌, length, min, slice_get, true, false, option_map, IfSome, Option};
 ghost use Rattle.std.specs.Map.{keys_of};
 ghost use Rattle.ymx_model.specs.session.Sessions.{is_running};
 ghost use Rattle.ymx_session.specs.Opens.{opens_left};
@@ -137,11 +137,12 @@ impl<D: Device + Drop, W: Device + Drop> Tunnel<D, W> {
         &self.wire
     }
 
-    /// How many turns wait: one of each connection that waits, and those of connections that were forgotten while they waited,
-    /// which serve nobody.
+    /// How many connections wait for a turn.
     pub fn queued_count(&self) -> usize
         ensures count { result ≡ min (length self.now.lines.fresh + length self.now.lines.busy) usize.MAX }
-        // Whoever waits has its turn within twice as many calls of `serve_next`: each leaves it fewer before it.
+        // Each connection waits once at most.
+        ensures few { length self.now.lines.fresh + length self.now.lines.busy ≤ length self.now.lines.by_id }
+        // Whoever waits has its turn within twice as many calls of `serve_next` as there are connections: each leaves it fewer before it.
         ensures soon { (id : ℕ) → Waits id self.now.lines → HasTurnSoon id self.now.lines }
     {
         self.lines.queued_count()

@@ -1,15 +1,16 @@
 -- How the tunnel of a loop goes on.
-use Rattle.std.proofs.Common.{◌≡◌, ◌⊎◌, inl, inr, ◌==◌, ◌&&◌, ◌<◌, ◌+◌, ℕ, List, [], length, Bool, true, false, Option, Some, refl, sym, ap, ◌∙◌, subst, arith}
+use Rattle.std.proofs.Common.{◌≡◌, ◌⊎◌, inl, ◌<◌, ◌+◌, ℕ, length, true, false, Option, Some, sym, ap, ◌∙◌, subst, arith}
 use Rattle.std.specs.Prelude.{min, option_map}
 use Rattle.std.specs.Option.{option_map_or}
 use Rattle.ymx_model.specs.session.Sessions.{is_running}
 use Rattle.ymx_engine.specs.Moves.{Moves}
 use Rattle.ymx_engine.specs.Runs.{Runs}
 use Rattle.ymx_engine.specs.Tunnels.{Tunnel}
-use Rattle.ymx_engine.specs.Turns.{Line, Lines, line_of, is_idle, is_over_at, IsIdle}
+use Rattle.ymx_engine.specs.Turns.{Line, Lines, line_of, is_over_at, IsIdle, IsBehind}
 use Rattle.ymx_engine.specs.Ways.{is_over}
-use Rattle.ymx_engine.specs.Work.{FirstTurn, HasRead, HasWritten, Reads, ServesFirst, ServesOne, WorksOnce, Writes}
-use Rattle.ymx_engine.proofs.Attending.{has_read_then, has_written_then, one_then, read_once, runs_from, serves_first, then_has_read, then_has_written, then_one, runs_then, written_once}
+use Rattle.ymx_engine.specs.Work.{HasRead, HasWritten, Reads, ServesFirst, ServesOne, WorksOnce, Writes}
+use Rattle.ymx_engine.proofs.Turning.{behind_few}
+use Rattle.ymx_engine.proofs.Attending.{has_read_then, has_written_then, one_then, read_once, runs_from, serves_first, serves_none, then_has_read, then_has_written, then_one, runs_then, written_once}
 
 -- what went on behind, where nothing was done before
 pub runs_behind : (a b c : Tunnel) → a ≡ b → Runs a c → Runs b c
@@ -21,28 +22,17 @@ runs_before a b c e x = subst (λ (v : Tunnel). Runs a v) (sym e) x
 
 -- ---- who waits
 
-idle_is : (t : Lines) → IsIdle t → is_idle t ≡ true
-idle_is t i = rw (i.0, i.1) refl
-
 -- none waited
 pub none_served : (a b : Tunnel) → IsIdle a.lines → ServesOne a b
-none_served a b i h = let no : true ≡ false = sym (idle_is a.lines i) ∙ h in absurd (cc no)
+none_served a b i = serves_none a b i
 
 -- the first had its turn
-pub one_served : (a b c : Tunnel) (id gave : ℕ) → ServesFirst id gave a b → Runs b c → ServesOne a c
-one_served a b c id gave turn on = one_then a b c (λ h. serves_first a b id gave turn) on.moves
+pub one_served : (a b c : Tunnel) (id gave : ℕ) → Runs a b → ServesFirst id gave a b → Runs b c → ServesOne a c
+one_served a b c id gave runs turn on = one_then a b c runs (serves_first a b id gave turn) on
 
-not_both : (x y : Bool) → (x && y) ≡ false → (x ≡ false) ⊎ (y ≡ false)
-not_both true y h = inr h
-not_both false y h = inl refl
-
--- there are some where one waits
-pub some_queued : (t : Lines) (most : ℕ) → 0 < most → is_idle t ≡ false → 0 < min (length t.fresh + length t.busy) most
-some_queued t most many h = by (length t.fresh) (length t.busy) (not_both (length t.fresh == 0) (length t.busy == 0) h)
-  where
-    by : (m n : ℕ) → ((m == 0) ≡ false) ⊎ ((n == 0) ≡ false) → 0 < min (m + n) most
-    by m n (inl e) = grind (arith, many)
-    by m n (inr e) = grind (arith, many)
+-- there are some where one stands behind others, or is the first
+pub some_queued : (id n : ℕ) (t : Lines) (most : ℕ) → 0 < most → IsBehind id n t → 0 < min (length t.fresh + length t.busy) most
+some_queued id n t most many far = let some = behind_few id n t far in grind (arith, many, some)
 
 -- ---- who is over
 
@@ -68,6 +58,6 @@ works_once a b c d e f g x y reads z u turns v writes w =
     let from_c = runs_then c d g z (runs_then d e g u from_e) in
     record {
       reads = then_has_read a b g x.moves (has_read_then b c g reads from_c.moves);
-      turns = one_then a e g (then_one a d e to_d u turns) from_e.moves;
+      turns = one_then a e g to_e (then_one a d e to_d u turns) from_e;
       writes = then_has_written a e g to_e.moves (has_written_then e f g (written_once e f writes) w.moves);
     }

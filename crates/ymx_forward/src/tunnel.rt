@@ -414,7 +414,7 @@ impl<'a> TunnelLoop<'a> {
     /// Does what can be done now.
     fn take_turn<R: Net + Clock + Wait, V: Watcher>(&mut self, rt: &R, poll: &Poll, watcher: &mut V)
         ensures runs { Runs self.old.tunnel self.new.tunnel }
-        // The wire is read and written, and where a connection waits for a turn, one has its turn.
+        // The wire is read and written, and each connection that waits for a turn comes nearer, has it or leaves.
         ensures works { WorksOnce self.old.tunnel self.new.tunnel }
     {
         self.accept_connections(rt, poll, watcher);

@@ -1,6 +1,6 @@
 use Rattle.std.proofs.Common.{ap, ◌∙◌, refl, false}
 use Rattle.ymx_engine.specs.declared.ways.Ways.{Ways}
-use Rattle.ymx_engine.specs.Turns.{Line, Lines}
+use Rattle.ymx_engine.specs.Turns.{Line, Lines, line_of}
 use Rattle.ymx_engine.proofs.Entries.{put_in, written_seen, puts_written}
 use Rattle.ymx_engine.proofs.Marking.{listed_put, held_put}
 use Rattle.ymx_engine.proofs.Queueing.{added_from}
@@ -9,7 +9,7 @@ use Rattle.ymx_engine.proofs.lines.Lines.add.Goals as goal
 pub invariant_of-self : goal.invariant_of-self
 invariant_of-self g c =
     let put = written_seen g.D.Device.seen c.args.id (record { line = record { device = c.args.device; ways = c.new.result }; is_queued = false; is_held = false }) _ _ (put_in c.insert.result _ c.args.id (record { line = record { device = c.args.device; ways = c.new.result }; is_queued = false; is_held = false }) _ _ (ap (λ (t : Lines). t.has_place) c.self.view_is ∙ c.requires.place) c.insert.ensures.succeeds c.insert.ensures.entries) in
-    (listed_put c.args.id _ _ _ _ _ c.self.invariant.0 put refl, held_put c.args.id _ _ _ _ c.self.invariant.1 put refl)
+    (listed_put c.args.id _ _ _ _ _ c.self.invariant.0 put refl (ap (λ (t : Lines). line_of c.args.id t) c.self.view_is ∙ c.requires.free), held_put c.args.id _ _ _ _ c.self.invariant.1 put refl)
 
 pub returns : goal.returns
 returns g c =

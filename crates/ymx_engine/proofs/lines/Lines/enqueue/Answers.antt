@@ -2,8 +2,8 @@ use Rattle.std.proofs.Common.{◌≡◌, ap, ◌∙◌, refl, sym, inl, true, fa
 use Rattle.std.specs.Prelude.{option_map}
 use Rattle.std.specs.Map.{keys_of}
 use Rattle.ymx_engine.specs.Turns.{Entry, Lines, line_of}
-use Rattle.ymx_engine.proofs.Entries.{is_some_at, seen_keys, rewrites_seen, rewrites_keeps, rewrites_found, unwritten_seen, written_seen, written_at, queue_mark_found, absent}
-use Rattle.ymx_engine.proofs.Marking.{listed_marked, listed_on, listed_same, listed_found, held_marks, held_same, stand_on}
+use Rattle.ymx_engine.proofs.Entries.{is_some_at, seen_keys, rewrites_seen, rewrites_keeps, rewrites_found, unwritten_seen, written_seen, written_at, mark_found, queue_mark_found, absent}
+use Rattle.ymx_engine.proofs.Marking.{listed_marked, listed_stay, listed_same, listed_found, held_marks, held_same, stand_behind}
 use Rattle.ymx_engine.proofs.lines.Lines.enqueue.Goals as goal
 
 pub invariant_of-self : goal.invariant_of-self
@@ -13,7 +13,7 @@ invariant_of-self g c =
     let x = c.in-Some.found.now in
     let w = record x { is_queued = true } in
     let r = rewrites_seen seen c.args.id (λ e. record e { is_queued = true }) (λ (e : Entry). record e { is_queued = true }) _ _ (λ e. refl) (rewrites_found c.args.id (λ e. record e { is_queued = true }) x _ _ found (λ other. ((c.get_mut.follows.holds w).3 (is_some_at found)).0 other)) in (
-      listed_marked c.args.id _ _ _ _ _ _ c.self.invariant.0 r c.in-Ok.ensures.stands c.in-Ok.ensures.fresh c.in-Ok.ensures.busy,
+      listed_marked c.args.id _ _ _ _ _ _ c.self.invariant.0 r (mark_found seen c.self.inside.by_id.entries c.args.id x found ∙ ap (λ b. Some b) c.if-not-found.true) c.in-Ok.ensures.stands,
       held_marks _ _ _ c.self.invariant.1 (rewrites_keeps (λ (e : Entry). e.is_held) c.args.id (λ (e : Entry). record e { is_queued = true }) _ _ (λ e. refl) r),
     )
 
@@ -21,7 +21,7 @@ pub invariant_of-self-in-Err : goal.invariant_of-self-in-Err
 invariant_of-self-in-Err g c =
     let found = sym c.in-Some.ensures.value in
     let same = unwritten_seen g.D.Device.seen c.args.id c.in-Some.found.now _ _ found (λ other. ((c.get_mut.follows.holds c.in-Some.found.now).3 (is_some_at found)).0 other) in
-    (listed_on _ _ _ _ _ _ c.self.invariant.0 same (λ other. stand_on c.args.id other _ _ _ _ c.in-Err.ensures.fresh c.in-Err.ensures.busy), held_same _ _ _ c.self.invariant.1 same)
+    (listed_stay _ _ _ _ _ _ c.self.invariant.0 same c.in-Err.ensures.refused.0 c.in-Err.ensures.refused.1, held_same _ _ _ c.self.invariant.1 same)
 
 pub invariant_of-self-else-not-found : goal.invariant_of-self-else-not-found
 invariant_of-self-else-not-found g c =
@@ -53,6 +53,12 @@ returns-in-Ok-clause-once g c = λ on.
     let no : Some c.in-Some.found.now.is_queued ≡ Some true = sym is ∙ on in
     let off : c.in-Some.found.now.is_queued ≡ false = c.if-not-found.true in
     absurd cc
+
+pub returns-in-Ok-clause-waits : goal.returns-in-Ok-clause-waits
+returns-in-Ok-clause-waits g c = λ some room. stand_behind c.args.id _ _ _ _ c.in-Ok.ensures.stands
+
+pub returns-in-Ok-clause-awaits : goal.returns-in-Ok-clause-awaits
+returns-in-Ok-clause-awaits g c = λ some. inl (stand_behind c.args.id _ _ _ _ c.in-Ok.ensures.stands)
 
 pub returns-in-Err-clause-lines : goal.returns-in-Err-clause-lines
 returns-in-Err-clause-lines g c = λ other.

@@ -1,19 +1,39 @@
 use Rattle.std.proofs.Common.{ap, ◌∙◌, sym, None}
 use Rattle.std.specs.Prelude.{option_map, nat_eq, cond}
-use Rattle.ymx_engine.specs.Turns.{Line, Lines, line_of}
+use Rattle.ymx_engine.specs.Turns.{Line, Lines, line_of, without}
 use Rattle.ymx_engine.proofs.Entries.{line_found, line_none, gone_seen, puts_gone}
-use Rattle.ymx_engine.proofs.Marking.{listed_gone, held_gone}
+use Rattle.ymx_engine.proofs.Marking.{listed_gone, listed_absent, listed_off, held_gone}
+use Rattle.ymx_engine.proofs.Once.{without_none}
 use Rattle.ymx_engine.proofs.lines.Lines.remove.Goals as goal
-
-pub invariant_of-self : goal.invariant_of-self
-invariant_of-self g c =
-    let gone = gone_seen g.D.Device.seen c.args.id _ _ (λ other. c.swap_remove.ensures.updates.0 other) in
-    (listed_gone c.args.id _ _ _ _ c.self.invariant.0 gone, held_gone c.args.id _ _ _ c.self.invariant.1 gone)
 
 pub invariant_of-self-2 : goal.invariant_of-self-2
 invariant_of-self-2 g c =
     let gone = gone_seen g.D.Device.seen c.args.id _ _ (λ other. c.swap_remove.ensures.updates.0 other) in
-    (listed_gone c.args.id _ _ _ _ c.self.invariant.0 gone, held_gone c.args.id _ _ _ c.self.invariant.1 gone)
+    (listed_gone c.args.id _ _ _ _ _ _ c.self.invariant.0 gone c.leave.ensures.fresh c.leave.ensures.busy, held_gone c.args.id _ _ _ c.self.invariant.1 gone)
+
+pub invariant_of-self : goal.invariant_of-self
+invariant_of-self g c =
+    let gone = gone_seen g.D.Device.seen c.args.id _ _ (λ other. c.swap_remove.ensures.updates.0 other) in
+    let none = listed_absent g.D.Device.seen c.self.inside.by_id.entries c.args.id _ _ c.self.invariant.0 (sym c.in_default.ensures.value) in
+    (listed_gone c.args.id _ _ _ _ _ _ c.self.invariant.0 gone (sym (without_none c.args.id _ none.0)) (sym (without_none c.args.id _ none.1)), held_gone c.args.id _ _ _ c.self.invariant.1 gone)
+
+pub leave-requires-clause-fresh : goal.leave-requires-clause-fresh
+leave-requires-clause-fresh g c = λ off. without_none c.args.id _ (listed_off g.D.Device.seen c.self.inside.by_id.entries c.args.id c.in-Some.entry _ _ c.self.invariant.0 (sym c.in-Some.ensures.value) off).0
+
+pub leave-requires-clause-busy : goal.leave-requires-clause-busy
+leave-requires-clause-busy g c = λ off. without_none c.args.id _ (listed_off g.D.Device.seen c.self.inside.by_id.entries c.args.id c.in-Some.entry _ _ c.self.invariant.0 (sym c.in-Some.ensures.value) off).1
+
+pub returns-in_default-clause-queues : goal.returns-in_default-clause-queues
+returns-in_default-clause-queues g c =
+    let none = listed_absent g.D.Device.seen c.self.inside.by_id.entries c.args.id _ _ c.self.invariant.0 (sym c.in_default.ensures.value) in
+    let is = c.self.view_is in
+    record {
+      fresh = sym (without_none c.args.id _ none.0) ∙ ap (λ (t : Lines). without c.args.id t.fresh) is;
+      busy = sym (without_none c.args.id _ none.1) ∙ ap (λ (t : Lines). without c.args.id t.busy) is;
+      held = ap (λ (t : Lines). t.held) is;
+      flag = ap (λ (t : Lines). t.is_for_busy) is;
+      missed = ap (λ (t : Lines). t.missed) is;
+    }
 
 pub returns-in_default-clause-given : goal.returns-in_default-clause-given
 returns-in_default-clause-given g c = sym (ap (option_map (λ (l : Line). l.seen)) (line_none g.D.Device.seen c.self.inside.by_id.entries c.args.id c.args.self.now (ap (λ (t : Lines). t.by_id) c.self.view_is) (sym c.in_default.ensures.value)))

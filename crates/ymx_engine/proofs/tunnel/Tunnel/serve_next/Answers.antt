@@ -10,6 +10,7 @@ served g c =
     first_has_turn c.in_ok-id.id c.serve-gave.result _ c.args.self.now c.serve-gave.new.self c.next.new.self c.self.view_is (record {
       lines = c.next.ensures.lines;
       first = c.in_ok-id.ensures.some;
+      there = c.in_ok-id.ensures.there;
       missed = c.next.ensures.missed;
       held = c.next.ensures.held;
       turned = record { served = s.served; none = s.none; others = s.others; incoming = s.incoming; wire = s.wire; serves = s.serves };
