@@ -117,7 +117,8 @@ if [ -f $specs ] && [ -e /lib/ld-musl-x86_64.so.1 ]; then
 int main(void) {
     void *library = dlopen("./libymx.so.0", RTLD_NOW), *session;
     if (!library) return puts(dlerror()), 1;
-    return ((long long (*)(int, unsigned, unsigned, void **))dlsym(library, "ymx_new"))(1, 262144, 0, &session) != 0;
+    if (((long long (*)(int, unsigned, unsigned, void **))dlsym(library, "ymx_new"))(1, 262144, 0, &session) != 0) return 1;
+    return ((long long (*)(void *))dlsym(library, "ymx_shrink_spare"))(session) != 0;
 }
 END_OF_PROGRAM
     python3 -m zipfile -e bindings/ymx-*_x86_64.whl wheel
