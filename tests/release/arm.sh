@@ -58,10 +58,18 @@ mkdir copy bin
 printf '#!/bin/sh\n[ "$1" = -m ] && echo aarch64 || echo Linux\n' > bin/uname
 chmod +x bin/uname
 "${CC-cc}" -O2 -shared -fPIC "-DUNDER=\"$qemu\"" -o exec_arm.so "$here/exec_arm.c" -ldl
-first_run() {
-    env -u YMX_FROM_GATE LD_PRELOAD="$scratch/exec_arm.so" PATH="$scratch/bin:$PATH" copy/ymx frames copy/examples/hello.yamux > got 2> said
+# on_arm WORD..: ./ymx of that copy, there
+on_arm() {
+    env -u YMX_FROM_GATE LD_PRELOAD="$scratch/exec_arm.so" PATH="$scratch/bin:$PATH" copy/ymx "$@" >> got 2>> said
 }
-if first_run && cmp got first && cmp copy/out/ymx arm/ymx; then good; else bad "the README's first run" got said; fi
+cat first first echoed > wanted
+: > got
+: > said
+if on_arm frames copy/examples/hello.yamux && on_arm frames < copy/examples/hello.yamux && on_arm selftest && cmp got wanted && cmp copy/out/ymx arm/ymx; then
+    good
+else
+    bad "the README's first run" got said
+fi
 part scripts env YMX="$scratch/ymx" YMX_UNDER_QEMU=yes "$root/tests/script/run.sh"
 if [ "${1-}" = --quick ]; then
     counted
