@@ -3,9 +3,8 @@
  * role they ask nothing: all but 0 is a server to them, so ymx_new refuses here what is no role. */
 #include "ymx.h"
 
-#ifdef __GLIBC__
-#include <malloc.h>
-#endif
+/* glibc's, and no other C library's. The reference is weak, so that a library that was built over glibc loads over musl too. */
+extern int malloc_trim(size_t) __attribute__((weak));
 
 /* Two rather than one, so that YMX_VERSION_MAJOR is replaced by its number before it is made a text. */
 #define TEXT_OF(number) #number
@@ -207,9 +206,7 @@ int64_t ymx_unread_count(const ymx_session *session, uint32_t id) {
 /* What was freed lies with malloc. glibc's may keep it, dirty as it is, for the next block that is asked for: this has the
  * system take it. */
 static void hand_back(void) {
-#ifdef __GLIBC__
-    malloc_trim(0);
-#endif
+    if (malloc_trim != NULL) malloc_trim(0);
 }
 
 int64_t ymx_shrink(ymx_session *session, uint32_t id) {

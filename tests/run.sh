@@ -1,7 +1,7 @@
 #!/bin/sh
 # Runs all tests that stand beside `rt ci`, a line each, and what a test that failed has to say. With --no-kit it runs
 # those that need no Rattle kit: of the released program, the library for C, and the documents. With --all it
-# proves and runs the programs of the guide too, runs all of the release for arm64 under qemu, tries the wrong bodies, talks to Go's
+# proves and runs the programs of the guide too, tries the wrong bodies, talks to Go's
 # yamux where that stands, makes 10,000 random connections, and kills processes, which takes an hour or more.
 # Ends with 'N passed, M failed'.
 set -eu
@@ -54,7 +54,11 @@ if [ "${YMX_FROM_GATE-}" = yes ]; then
 elif [ "${1-}" != --no-kit ]; then
     echo "--    the release is what is built here: left out: no gate has built anything"
 fi
-try 'the released program for arm64, under qemu' "$root/tests/release/arm.sh" --quick
+if [ "${1-}" = --no-kit ]; then
+    try 'the released program for arm64, under qemu' "$root/tests/release/arm.sh" --quick
+else
+    try 'the release for arm64, under qemu' "$root/tests/release/arm.sh"
+fi
 try 'the program from outside' "$root/tests/program/run.sh"
 try 'the program, installed' "$root/tests/release/installed.sh"
 try '500 random connections' "$root/tests/kill/random.sh" 500
@@ -70,7 +74,6 @@ if [ "${1-}" != --no-kit ]; then
 fi
 if [ "${1-}" = --all ]; then
     try 'the programs of the guide' "$root/tests/examples/run.sh"
-    try 'the release for arm64, under qemu' "$root/tests/release/arm.sh"
     try 'wrong bodies' "$root/tests/wrong_bodies.sh"
     try 'wrong statements' "$root/tests/refused.sh"
     try 'real services' "$root/tests/services/run.sh"

@@ -16,6 +16,7 @@ What it compares, layout aside:
 - in docs/PROVED.md the rows of crates: each crate of crates.txt must have one, in that order. The map docs/crates.svg
   must have just these.
 - in the documents of `OF_OURS` a name between backticks: it must stand in the repository.
+- in README.md and docs/GUIDE.md the name of the kit: it must be the one that made the release.
 
 A quote may leave out words by `..`, the type of a variable, and the variables at its front. A formula that stands in a
 code block outside a quote is a mistake, as nothing would compare it. It prints each quote that isn't in the code, and
@@ -307,6 +308,14 @@ def compare_crates():
     yield from (f"docs/crates.svg: it has {crate}, and crates.txt hasn't, or the other way round" for crate in set(crates) ^ set(drawn))
 
 
+def compare_kit():
+    made = re.search(r"^kit: (.*)$", (ROOT / "release/RELEASE").read_text(), re.M).group(1)
+    for name in ("README.md", "docs/GUIDE.md"):
+        for line, text in Document(name).marked():
+            if text.startswith("rattle-kit-") and text not in (made, made.split()[0]):
+                yield f"{name}:{line}: it names the kit {text}, and release/RELEASE {made}"
+
+
 def names_of_repository():
     names = set()
     for pattern in ("crates/*/src/**/*.rt", "crates/*/specs/**/*.antt", "crates/*/must-fail/*", "crates.txt", "HANDLES", "ymx", "c/*", "*/*.sh", "*/*/*.sh", "*/*/*.rattle", "*/*.py"):
@@ -355,7 +364,7 @@ def main():
         for line, text in document.marked():
             if SIGNS.search(text) and " " in text and "<" not in text:
                 count, wrong = count + 1, wrong + compare_formula(code, name, line, text)
-    wrong.extend([*compare_promise(), *compare_crates(), *compare_counts(begun)])
+    wrong.extend([*compare_promise(), *compare_crates(), *compare_kit(), *compare_counts(begun)])
     for text in wrong:
         print(text)
     print(f"{count} quotes, {len(wrong)} not in the code")

@@ -17,9 +17,16 @@ typedef struct core {
     int64_t offered; // streams that wait to be accepted
     int64_t due;     // 1 where bytes wait to be emitted
     int64_t status;
+    int64_t passing; // where a feed stopped before payload that a seat is for: how many bytes of it are to come
+    int64_t owed;    // 1 where payload that went to a seat has made credit due, and nothing else was
+    uint32_t stream; // whose payload that is
     const void *lent; // bytes that wait on a stream
     uint32_t ids[YMX_MOST_TOUCHED];
+    uint32_t seats[64]; // streams of which a Read waits with the place for its bytes, by seat_of; 0 where there is none
+    uint32_t seated;    // how many there are
 } core;
+
+static uint32_t *seat_of(core *c, uint32_t id) { return &c->seats[id / 2 % 64]; }
 
 static void core_free(core *c) {
     ymx_touched_free(c->touched);
@@ -41,9 +48,40 @@ static core *core_new(int role, uint32_t window, int64_t *fault) {
     return NULL;
 }
 
-// Feeds bytes, and says what they did: one call in place of seven.
-static int64_t core_feed(core *c, const uint8_t *bytes, size_t len) {
-    int64_t taken = ymx_feed_touching(c->session, bytes, len, c->touched);
+// Feeds bytes, as far as the next payload that a seat is for.
+static size_t feed_to_seat(core *c, const uint8_t *bytes, size_t len) {
+    size_t done = 0;
+    if (c->seated == 0) return (size_t)ymx_feed_touching(c->session, bytes, len, c->touched);
+    while (done < len) {
+        size_t taken = (size_t)ymx_feed_to_payload(c->session, bytes + done, len - done, c->touched);
+        done += taken;
+        int64_t passing = done < len ? ymx_passing(c->session, &c->stream) : 0;
+        if (passing > 0) {
+            if (*seat_of(c, c->stream) == c->stream) {
+                c->passing = passing;
+                break;
+            }
+            size_t most = len - done < (size_t)passing ? len - done : (size_t)passing;
+            taken = (size_t)ymx_feed_touching(c->session, bytes + done, most, c->touched);
+            done += taken;
+        }
+        if (taken == 0) break;
+    }
+    return done;
+}
+
+// Feeds bytes, of which the first `passed` are payload that a Read has got already, as far as the next payload that a seat is
+// for, and says how many were fed. Where it doesn't stop there it says what they did: one call in place of seven.
+static int64_t core_feed(core *c, const uint8_t *bytes, size_t len, size_t passed) {
+    size_t taken = 0;
+    if (passed > 0) {
+        int64_t due = ymx_due(c->session);
+        taken = (size_t)ymx_pass(c->session, bytes, passed);
+        if (due == 0 && ymx_due(c->session) == 1) c->owed = 1;
+    }
+    c->passing = 0;
+    taken += feed_to_seat(c, bytes + taken, len - taken);
+    if (c->passing > 0) return (int64_t)taken;
     c->count = ymx_touched_ids(c->touched, c->ids, YMX_MOST_TOUCHED);
     c->all = ymx_touched_is_all(c->touched);
     c->pong = ymx_touched_has_pong(c->touched);
@@ -51,7 +89,7 @@ static int64_t core_feed(core *c, const uint8_t *bytes, size_t len) {
     c->offered = ymx_offered_count(c->session);
     c->due = ymx_due(c->session);
     c->status = ymx_status(c->session);
-    return taken;
+    return (int64_t)taken;
 }
 
 // A read may make credit due, which the caller has to send.
@@ -140,9 +178,37 @@ func first(bytes []byte) *C.uint8_t {
 	return (*C.uint8_t)(&bytes[0])
 }
 
-// feed says how many bytes were taken. touched, hasPong, offered, isDue and status are anew then.
-func (core core) feed(bytes []byte) int {
-	return int(C.core_feed(core.c, first(bytes), C.size_t(len(bytes))))
+// feed says how many bytes were taken. The first `passed` are payload that a Read has got. It stops before payload of a
+// stream that is seated, as passing says then. Else touched, hasPong, offered, isDue and status are anew.
+func (core core) feed(bytes []byte, passed int) int {
+	return int(C.core_feed(core.c, first(bytes), C.size_t(len(bytes)), C.size_t(passed)))
+}
+
+// passing says how many bytes are to come of the payload before which the last feed stopped, or 0, and of which stream.
+func (core core) passing() (count int, id uint32) { return int(core.c.passing), uint32(core.c.stream) }
+
+// seat has feed stop before payload of this stream. Another one may have had the place before.
+func (core core) seat(id uint32) {
+	place := &core.c.seats[id/2%64]
+	if *place == 0 {
+		core.c.seated++
+	}
+	*place = C.uint32_t(id)
+}
+
+// unseat has feed stop there no longer.
+func (core core) unseat(id uint32) {
+	if place := &core.c.seats[id/2%64]; *place == C.uint32_t(id) {
+		*place = 0
+		core.c.seated--
+	}
+}
+
+// isOwed says, once, whether payload that went to a seat has made credit due.
+func (core core) isOwed() bool {
+	owed := core.c.owed == 1
+	core.c.owed = 0
+	return owed
 }
 
 // touched gives the streams that the last feed has touched. With isAll there were more.
@@ -160,7 +226,11 @@ func (core core) status() int64 { return int64(core.c.status) }
 
 // emit fills the buffer with bytes for the peer. Where it is not full, nothing is left due.
 func (core core) emit(buffer []byte) int {
-	return int(C.core_emit(core.c, first(buffer), C.size_t(len(buffer))))
+	count := int(C.core_emit(core.c, first(buffer), C.size_t(len(buffer))))
+	if count < len(buffer) {
+		core.c.due = 0
+	}
+	return count
 }
 
 func (core core) open() int64   { return int64(C.ymx_open(core.c.session)) }

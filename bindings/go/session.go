@@ -9,6 +9,7 @@ import (
 	"io"
 	"log"
 	"net"
+	"runtime"
 	"strings"
 	"sync"
 	"time"
@@ -30,6 +31,7 @@ type Session struct {
 	source     *source       // for the reading goroutine alone
 	done       chan struct{} // closed as the session ends
 	readerDone chan struct{} // closed as the reading goroutine ends
+	woken      int           // how many streams the last feed has touched; for the reading goroutine alone
 	pingSeats  chan struct{} // the pings that the library keeps: 16 at most
 
 	lock      sync.Mutex // guards all below, and each call of the core
@@ -52,6 +54,7 @@ type Session struct {
 	drains    uint64      // emissions after which nothing was due
 	outside   uint64      // how many of them the connection has taken
 	flushing  []*Stream   // of which calls wait for their bytes to be out
+	passed    []*Stream   // of which a Read that waits has got bytes by the feed that is under way
 	turns     []*Stream   // of which a Write waits for the connection, the first to come first
 	away      bool        // our Go Away is out
 	watching  bool        // a look at those who wait for the connection to take their bytes is planned
@@ -224,6 +227,9 @@ func (s *Session) receive() {
 		if !goesOn {
 			return
 		}
+		if len(bytes) >= ownSize && s.woken > 1 {
+			runtime.Gosched() // what comes next then goes straight to those who read again, in place of waiting
+		}
 		if err != nil {
 			if !s.IsClosed() && err != io.EOF && !strings.Contains(err.Error(), "closed") && !strings.Contains(err.Error(), "reset by peer") {
 				s.logger.Printf("[ERR] yamux: Failed to read: %v", err)
@@ -241,9 +247,18 @@ func (s *Session) feed(bytes []byte) (goesOn bool, fault error) {
 	}
 	s.lock.Lock()
 	defer s.lock.Unlock()
+	passed := 0
 	for !s.over {
-		taken := s.core.feed(bytes)
+		taken := s.core.feed(bytes, passed)
 		bytes = bytes[taken:]
+		if count, id := s.core.passing(); count > 0 {
+			if count > len(bytes) {
+				count = len(bytes)
+			}
+			passed = s.streams[id].deliver(bytes[:count])
+			continue
+		}
+		passed = 0
 		s.serve()
 		if s.core.status() >= statusBroken {
 			fault = broken(s.core.status())
@@ -273,6 +288,7 @@ func (s *Session) discard() {
 // serve wakes those for whom the fed bytes have changed something.
 func (s *Session) serve() {
 	ids, isAll := s.core.touched()
+	s.woken = len(ids)
 	if isAll {
 		for _, stream := range s.streams {
 			stream.touch()
@@ -284,6 +300,10 @@ func (s *Session) serve() {
 			}
 		}
 	}
+	for _, stream := range s.passed {
+		stream.touch() // its frame may have begun in an earlier feed
+	}
+	s.passed = s.passed[:0]
 	if s.core.offered() > s.offered {
 		s.acceptable.Broadcast()
 	}
@@ -297,7 +317,8 @@ func (s *Session) serve() {
 			}
 		}
 	}
-	if s.core.isDue() {
+	// credit for what went to a Read that waits is sent by that Read
+	if owed := s.core.isOwed(); s.core.isDue() && !owed {
 		s.wakeWriter()
 	}
 }

@@ -20,6 +20,8 @@ type Stream struct {
 	reading  deadline
 	writing  deadline
 
+	place   []byte // where a Read that waits wants its bytes; nil where none has a seat
+	placed  int    // how many are there
 	nothing bool   // a read would wait
 	stalled bool   // a write would wait
 	rest    []byte // what has come after Close, or before the session ended
@@ -140,8 +142,45 @@ func (st *Stream) read(buffer []byte, isLate bool) (int, error) {
 		if s.due && s.writeHere() {
 			continue // something may have come meanwhile
 		}
-		st.readable.Wait()
+		if count := st.await(buffer); count > 0 {
+			if s.over {
+				return count, nil
+			}
+			return count, st.credit()
+		}
 	}
+}
+
+// await waits until something has come, or what is to be looked at, and says how many bytes of the buffer are filled. Bytes come
+// straight there, as long as no other Read of the stream waits so.
+func (st *Stream) await(buffer []byte) int {
+	if st.place != nil {
+		st.readable.Wait()
+		return 0
+	}
+	s := st.session
+	st.place, st.placed = buffer, 0
+	s.core.seat(st.id)
+	st.readable.Wait()
+	if !s.over {
+		s.core.unseat(st.id)
+	}
+	st.place = nil
+	return st.placed
+}
+
+// deliver takes payload that has come for a Read that waits, and says how much. What more comes, waits for the next Read.
+func (st *Stream) deliver(bytes []byte) int {
+	s := st.session
+	if last := len(s.passed) - 1; last < 0 || s.passed[last] != st {
+		s.passed = append(s.passed, st)
+	}
+	count := copy(st.place[st.placed:], bytes)
+	st.placed += count
+	if st.placed == len(st.place) {
+		s.core.unseat(st.id)
+	}
+	return count
 }
 
 func (st *Stream) wakeReaders() {

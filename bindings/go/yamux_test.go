@@ -162,6 +162,120 @@ func TestManyStreamsCarryTheirBytes(t *testing.T) {
 	}
 }
 
+// A peer that is played sends frames of some streams in turn, in pieces that are cut anywhere, while a Read of each waits.
+func TestReadsThatWaitGetTheirBytesInPieces(t *testing.T) {
+	chance := rand.New(rand.NewSource(1))
+	var wire []byte
+	frame := func(kind byte, flags uint16, id, length int) {
+		header := [headerSize]byte{1: kind, 3: byte(flags)}
+		binary.BigEndian.PutUint32(header[4:], uint32(id))
+		binary.BigEndian.PutUint32(header[8:], uint32(length))
+		wire = append(wire, header[:]...)
+	}
+	var sent [5][]byte
+	for number := range sent {
+		frame(frameWindowUpdate, flagSYN, 2*number+1, 0)
+	}
+	data := func(number int, flags uint16) {
+		text := make([]byte, 1+chance.Intn(90))
+		chance.Read(text)
+		frame(frameData, flags, 2*number+1, len(text))
+		wire = append(wire, text...)
+		sent[number] = append(sent[number], text...)
+	}
+	for count := 0; count < 500; count++ {
+		data(chance.Intn(len(sent)), 0)
+	}
+	for number := range sent {
+		data(number, flagFIN) // the end comes with the last byte of this frame
+	}
+
+	near, far := net.Pipe()
+	session, err := Server(near, quiet())
+	good(t, err)
+	defer session.Close()
+	go io.Copy(io.Discard, far)
+	go func() {
+		for len(wire) > 0 {
+			count := 1 + chance.Intn(60)
+			if count > len(wire) {
+				count = len(wire)
+			}
+			far.Write(wire[:count])
+			wire = wire[count:]
+			time.Sleep(10 * time.Microsecond)
+		}
+	}()
+	var all sync.WaitGroup
+	for number := range sent {
+		stream, err := session.AcceptStream()
+		good(t, err)
+		all.Add(1)
+		go func(number int) {
+			defer all.Done()
+			var came []byte
+			part := make([]byte, 1<<(2*number)) // 1 to 256
+			for {
+				count, err := stream.Read(part)
+				came = append(came, part[:count]...)
+				if err == io.EOF {
+					break
+				}
+				if err != nil {
+					t.Error(err)
+					return
+				}
+			}
+			if !bytes.Equal(came, sent[number]) {
+				t.Errorf("stream %d: %d of %d bytes came, or others", number, len(came), len(sent[number]))
+			}
+			stream.Close()
+		}(number)
+	}
+	all.Wait()
+	await(t, "all streams are gone", func() bool { return session.NumStreams() == 0 })
+}
+
+func TestReadsAtOnceGetEachByteOnce(t *testing.T) {
+	client, server := overTCP(t, quiet())
+	near, far := pair(t, client, server)
+	var came int64
+	var all sync.WaitGroup
+	for reader := 0; reader < 8; reader++ {
+		all.Add(1)
+		go func(reader int) {
+			defer all.Done()
+			part := make([]byte, 1+1000*reader)
+			for {
+				count, err := far.Read(part)
+				for _, it := range part[:count] {
+					atomic.AddInt64(&came, int64(it))
+				}
+				if err != nil {
+					if err != io.EOF {
+						t.Error(err)
+					}
+					return
+				}
+			}
+		}(reader)
+	}
+	var sum int64
+	for number := 0; number < 200; number++ {
+		block := random(number, 10000)
+		for _, it := range block {
+			sum += int64(it)
+		}
+		_, err := near.Write(block)
+		good(t, err)
+	}
+	good(t, near.CloseWrite())
+	all.Wait()
+	if came != sum {
+		t.Fatalf("the bytes that came sum up to %d, and not to %d", came, sum)
+	}
+}
+
 func TestCloseWriteGoesOnToRead(t *testing.T) {
 	client, server := overTCP(t, quiet())
 	near, far := pair(t, client, server)

@@ -1,5 +1,6 @@
 // The Session and Stream of HashiCorp's tests, over either package: CLIENT and SERVER say `ours` or `theirs`. The tests
-// name some private fields and calls; what stands for them here says so. hashicorp.sh puts this beside their tests.
+// name some private fields and calls; what stands for them here says so, and what order.sed has them call stands at the end.
+// hashicorp.sh puts this beside their tests.
 package yamux
 
 import (
@@ -111,11 +112,19 @@ func (c counting) Write(p []byte) (int, error) {
 // looked at yet where their Read behind Close looks for it, and that Read says EOF. So short writes go in two pieces here.
 const shortWrite = 100
 
-// wire is what the frames of a connection say of the credit that its side has on each stream.
+// wire is what the frames of a connection say of the credit that its side has on each stream, and of what came.
 type wire struct {
 	lock    sync.Mutex
+	more    *sync.Cond       // a frame came
 	credit  map[uint32]int64 // beyond the first window
+	data    map[uint32]int64 // bytes of the Data frames that came, or have begun to
 	in, out frames
+}
+
+func newWire() *wire {
+	w := &wire{credit: make(map[uint32]int64), data: make(map[uint32]int64)}
+	w.more = sync.NewCond(&w.lock)
+	return w
 }
 
 // frames cuts a direction's bytes into frames.
@@ -157,10 +166,31 @@ func (w *wire) came(p []byte) {
 	w.lock.Lock()
 	defer w.lock.Unlock()
 	w.in.cut(p, func(h header) {
-		if h.MsgType() == typeWindowUpdate {
+		switch h.MsgType() {
+		case typeWindowUpdate:
 			w.credit[h.StreamID()] += int64(h.Length())
+		case typeData:
+			w.data[h.StreamID()] += int64(h.Length())
 		}
 	})
+	w.more.Broadcast()
+}
+
+// await waits until so many bytes of a stream came, but for what is left of the last frame, or for ten seconds.
+func (w *wire) await(id uint32, count int) {
+	isLate := false
+	timer := time.AfterFunc(10*time.Second, func() {
+		w.lock.Lock()
+		defer w.lock.Unlock()
+		isLate = true
+		w.more.Broadcast()
+	})
+	defer timer.Stop()
+	w.lock.Lock()
+	defer w.lock.Unlock()
+	for w.data[id] < int64(count) && !isLate {
+		w.more.Wait()
+	}
 }
 
 func (w *wire) went(p []byte) {
@@ -198,8 +228,7 @@ func Server(conn io.ReadWriteCloser, config *Config) (*Session, error) {
 func begin(side string, conn io.ReadWriteCloser, config *Config,
 	beginOurs func(io.ReadWriteCloser, *ours.Config) (*ours.Session, error),
 	beginTheirs func(io.ReadWriteCloser, *theirs.Config) (*theirs.Session, error)) (*Session, error) {
-	s := &Session{conn: conn, config: config, logger: log.New(config.LogOutput, "", log.LstdFlags), side: side,
-		wire: &wire{credit: make(map[uint32]int64)}}
+	s := &Session{conn: conn, config: config, logger: log.New(config.LogOutput, "", log.LstdFlags), side: side, wire: newWire()}
 	logger := log.New(forwarding{s}, "", 0)
 	var err error
 	if side == "ours" {
@@ -286,7 +315,15 @@ func (s *Stream) sendWindow() uint32 {
 	return s.stream.(hasWindow).SendWindow()
 }
 
+// Their package sends what a Write has credit for in one frame, and a frame comes whole: TestSession_WindowUpdateWriteDuringRead
+// counts on that where its Read wants all that the other side writes. libymx sends frames of 16,384 bytes, and their Read takes
+// what has come. So a Read of theirs that wants more than such a frame begins once the last of its frames has begun to come.
+const longestFrame = 16384
+
 func (s *Stream) Read(p []byte) (int, error) {
+	if s.session.side == "theirs" && len(p) > longestFrame {
+		s.session.wire.await(s.StreamID(), len(p))
+	}
 	count, err := s.stream.Read(p)
 	return count, same(err)
 }
@@ -294,4 +331,25 @@ func (s *Stream) Read(p []byte) (int, error) {
 func (s *Stream) Write(p []byte) (int, error) {
 	count, err := s.stream.Write(p)
 	return count, same(err)
+}
+
+// waitFor waits until the channel is closed, for ten seconds at most.
+func waitFor(done <-chan struct{}) {
+	select {
+	case <-done:
+	case <-time.After(10 * time.Second):
+	}
+}
+
+// waitForNone waits until no session has a stream, for ten seconds at most.
+func waitForNone(sessions ...*Session) {
+	for since := time.Now(); time.Since(since) < 10*time.Second; time.Sleep(time.Millisecond) {
+		streams := 0
+		for _, session := range sessions {
+			streams += session.NumStreams()
+		}
+		if streams == 0 {
+			return
+		}
+	}
 }

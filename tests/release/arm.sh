@@ -1,9 +1,9 @@
 #!/bin/sh
-# What the release has for arm64, under qemu's emulation of that processor: the program's selftest, scripts, and the program
-# from outside; and the library for C with programs in C, linked with musl. What counts threads or memory of the program
-# is left out, as qemu has some of its own. So is what no tool is here for: qemu and the libraries are fetched from
-# Debian's packages where they aren't installed, and the programs in C want the kit's clang. With --quick only the program's
-# first run, selftest and scripts.
+# What the release has for arm64, under qemu's emulation of that processor: the README's first run by ./ymx, which finds such
+# a machine; the program's selftest, scripts, and the program from outside; and the library for C with programs in C, linked
+# with musl. What counts threads or memory of the program is left out, as qemu has some of its own. So is what no tool is here
+# for: qemu and the libraries are fetched from Debian's packages where they aren't installed, and the programs in C want the
+# kit's clang. With --quick only the first run, selftest and scripts.
 set -eu
 here=$(cd "$(dirname "$0")" && pwd)
 . "$here/../over.sh"
@@ -49,7 +49,27 @@ part() {
 printf 'connection %s bytes echoed\n' '1: 0' '2: 1' '3: 300000' > echoed
 if ./ymx selftest > got 2>&1 && cmp got echoed; then good; else bad 'its selftest' got; fi
 printf 'window flags=0001 id=1 len=0\ndata flags=0000 id=1 len=5 68656c6c6f\n' > first
-if ./ymx frames "$root/examples/hello.yamux" > got 2>&1 && cmp got first; then good; else bad 'its first run' got; fi
+if ./ymx frames "$root/examples/hello.yamux" > got 2>&1 && cmp got first; then good; else bad 'it shows no frames' got; fi
+
+# The README's first run, in a copy in which nothing was built. `uname` says what such a machine is, and each program for it
+# runs under qemu, as a system does that has qemu for them.
+mkdir copy bin
+(scratch=$scratch/copy && copy_repository ymx release examples)
+printf '#!/bin/sh\n[ "$1" = -m ] && echo aarch64 || echo Linux\n' > bin/uname
+chmod +x bin/uname
+"${CC-cc}" -O2 -shared -fPIC "-DUNDER=\"$qemu\"" -o exec_arm.so "$here/exec_arm.c" -ldl
+# on_arm WORD..: ./ymx of that copy, there
+on_arm() {
+    env -u YMX_FROM_GATE LD_PRELOAD="$scratch/exec_arm.so" PATH="$scratch/bin:$PATH" copy/ymx "$@" >> got 2>> said
+}
+cat first first echoed > wanted
+: > got
+: > said
+if on_arm frames copy/examples/hello.yamux && on_arm frames < copy/examples/hello.yamux && on_arm selftest && cmp got wanted && cmp copy/out/ymx arm/ymx; then
+    good
+else
+    bad "the README's first run" got said
+fi
 part scripts env YMX="$scratch/ymx" YMX_UNDER_QEMU=yes "$root/tests/script/run.sh"
 if [ "${1-}" = --quick ]; then
     counted

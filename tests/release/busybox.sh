@@ -33,6 +33,7 @@ in_root() {
 
 printf 'window flags=0001 id=1 len=0\ndata flags=0000 id=1 len=5 68656c6c6f\n' > wanted
 if in_root ./ymx frames examples/hello.yamux > got 2> said && cmp got wanted; then good; else bad 'it shows no frames:' got said; fi
+if in_root ./ymx frames < "$root/examples/hello.yamux" > got 2> said && cmp got wanted; then good; else bad 'it shows no frames of its input:' got said; fi
 printf 'connection %s bytes echoed\n' '1: 0' '2: 1' '3: 300000' > wanted
 if in_root ./ymx selftest > got 2> said && cmp got wanted; then good; else bad 'its selftest:' got said; fi
 if in_root release/install.sh /usr > said 2>&1 && in_root /usr/bin/ymx --version > got && [ -s got ]; then good; else bad 'it is not installed:' said; fi

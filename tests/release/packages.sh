@@ -109,22 +109,32 @@ if python3 -m venv environment > said 2>&1; then
 else
     left_out 'the wheel' 'no venv'
 fi
-specs=/usr/lib/x86_64-linux-musl/musl-gcc.specs
-if [ -f $specs ] && [ -e /lib/ld-musl-x86_64.so.1 ]; then
-    cat > loads.c << 'END_OF_PROGRAM'
+cat > loads.c << 'END_OF_PROGRAM'
 #include <dlfcn.h>
 #include <stdio.h>
 int main(void) {
     void *library = dlopen("./libymx.so.0", RTLD_NOW), *session;
     if (!library) return puts(dlerror()), 1;
-    return ((long long (*)(int, unsigned, unsigned, void **))dlsym(library, "ymx_new"))(1, 262144, 0, &session) != 0;
+    if (((long long (*)(int, unsigned, unsigned, void **))dlsym(library, "ymx_new"))(1, 262144, 0, &session) != 0) return 1;
+    return ((long long (*)(void *))dlsym(library, "ymx_shrink_spare"))(session) != 0;
 }
 END_OF_PROGRAM
-    python3 -m zipfile -e bindings/ymx-*_x86_64.whl wheel
-    is 'the library of the wheel over musl' sh -c "cc -specs $specs -o loads loads.c && cd wheel/ymx && ../../loads"
-else
-    left_out 'the library of the wheel over musl' 'no musl-dev'
-fi
+
+# over_musl TARGET ARCHITECTURE COMPILER [QEMU]: a program that has musl alone loads the library of the wheel
+over_musl() {
+    if ! musl=$("$root/release/musl.sh" "$1" 2> said) || ! "$root/tools/debian.sh" musl "$2" 2> said; then
+        left_out "the library of the wheel for $1 over musl" "$(cat said)"
+        return
+    fi
+    libc=$musl/lib/$1-linux-musl
+    shared=$root/out/debian/lib
+    is "a program over musl for $1" "$3" -nostdinc -isystem "$musl/include/$1-linux-musl" -fno-stack-protector -fPIE -pie -nostdlib \
+        "-Wl,-dynamic-linker,$shared/ld-musl-$1.so.1" -o "loads.$1" "$libc/Scrt1.o" "$libc/crti.o" loads.c "$shared/$1-linux-musl/libc.so" "$libc/crtn.o"
+    python3 -m zipfile -e bindings/ymx-*"_$1.whl" "wheel.$1"
+    is "the library of the wheel for $1 over musl" sh -c "cd wheel.$1/ymx && ${4-} ../../loads.$1"
+}
+over_musl x86_64 amd64 cc
+if [ -n "$qemu" ]; then over_musl aarch64 arm64 aarch64-linux-gnu-gcc "$qemu"; fi
 if has go; then
     is 'the Go module, with no library installed' sh -c 'cd bindings/go && PKG_CONFIG=/nowhere timeout 600 go test ./...'
 else
