@@ -25,13 +25,14 @@ static size_t wanted(size_t size, size_t align) {
     return size != 0 ? size : align;
 }
 
+#if defined HEAP_ALONE || defined __GLIBC__
 struct tried rattle_alloc(size_t size, size_t align) { return tried(malloc(wanted(size, align))); }
 struct tried rattle_realloc(void *at, size_t kept, size_t size, size_t align) { return (void)kept, tried(realloc(at, wanted(size, align))); }
 void rattle_dealloc(void *at) { free(at); }
+#else
+#include "rings.c"
 
-#ifndef HEAP_ALONE
 #include <errno.h>
-#include <string.h>
 #include <sys/epoll.h>
 #include <sys/ioctl.h>
 #include <sys/socket.h>

@@ -1,6 +1,6 @@
 """Counts the calls of the system that both ends of a tunnel make while many users are connected, and nothing moves. Without
 `--ping` neither makes any: it waits in one call that was made before. With it each ping and each answer wakes an end, so often
-as seconds say, and not as users are.
+as seconds say, and not as users are. Of a static program it also measures what a user takes of memory: less than a page.
 
 It says which tests failed, and nothing where none did. It needs `strace`, and leave to look at another process: without
 either it says that in one line on standard output, which begins with `--`.
@@ -24,6 +24,8 @@ USERS, SECONDS = [*map(int, sys.argv[2:]), *(200, 5)[len(sys.argv[2:]):]]
 PAUSE = 1
 # How many calls a ping may cost an end: it asks and is asked, each of which is a wait, a write or two reads, and a wait.
 A_PING = 12
+# How many bytes of memory a user may take who has sent and got a byte, where no ring of a stream was needed for them.
+A_USER = 4_096
 
 
 def traced(programs, seconds):
@@ -54,14 +56,26 @@ def names(log):
     return found
 
 
+def resident(program):
+    """How many bytes of it are in memory."""
+    with open(f"/proc/{program.process.pid}/status", encoding="utf-8") as said:
+        return next(int(line.split()[1]) * 1024 for line in said if line.startswith("VmRSS:"))
+
+
+def is_static(program):
+    """Whether it needs no loader, whose place stands at a program's beginning: then its heap is musl's."""
+    with open(f"/proc/{program.process.pid}/exe", "rb") as made:
+        return b"/ld-linux" not in made.read(4096)
+
+
 def idle(words, most):
-    """Each end makes at most so many calls while nothing moves."""
+    """Each end makes at most so many calls while nothing moves, and keeps little for each user."""
     target, address = listen()
     target.listen(4096)
     remote = Program("remote", "-v", "--bind", ANY, "--target", address, *words)
     local = Program("local", "-v", "--listen", ANY, "--peer", remote.place(), *words)
     place = local.place()
-    ends = []
+    ends, before = [], [resident(end) for end in (local, remote)]
     for _ in range(USERS):
         user = call(place)
         user.sendall(b"?")
@@ -69,6 +83,9 @@ def idle(words, most):
         assert take(other, 1) == b"?"
         ends += [user, other]
     time.sleep(PAUSE)
+    for end, was in zip((local, remote), before):
+        taken = (resident(end) - was) / USERS
+        assert not is_static(end) or taken <= A_USER, f"a user takes {taken:.0f} bytes of memory"
     for name, calls in zip(("local", "remote"), traced((local, remote), SECONDS)):
         if len(sys.argv) > 2:
             counts = {word: calls.count(word) for word in sorted(set(calls))}

@@ -1,7 +1,7 @@
 #!/bin/sh
 # The released program. A copy of the repository in which nothing was built runs it within three seconds, with no toolchain
 # on the PATH; also through a symlink, and where it can't be written. A machine that it isn't for is told so in one line, and
-# a program that is one byte off is refused. All of the release takes at most 1.2 MB, and parts.c, which is to be read, has at
+# a program that is one byte off is refused. All of the release takes at most 1.2 MB, and parts.c and rings.c, which are to be read, have at
 # most 100 lines. objects.sh has the gate compare it with what is built here.
 set -eu
 here=$(cd "$(dirname "$0")" && pwd)
@@ -12,7 +12,9 @@ target=$(uname -m)
 packed=release/$target/ymx.gz
 
 [ "$(cat "$root"/release/*/*.gz | wc -c)" -le 1200000 ] || fail 'the release takes more than 1.2 MB'
-[ "$(wc -l < "$root/release/parts.c")" -le 100 ] || fail 'release/parts.c has more than 100 lines'
+for file in parts.c rings.c; do
+    [ "$(wc -l < "$root/release/$file")" -le 100 ] || fail "release/$file has more than 100 lines"
+done
 copy_repository ymx release examples
 cd "$scratch"
 printf 'window flags=0001 id=1 len=0\ndata flags=0000 id=1 len=5 68656c6c6f\n' > wanted

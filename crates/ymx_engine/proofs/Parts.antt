@@ -633,10 +633,11 @@ pub turn_of : {id g : ℕ} {reads : Bool} {r s t u : Session} {out new : List �
     (reads ≡ true → may_pull z d.marks ≡ true → 0 < room_of id u → pulls ≡ true) →
     (pushes ≡ true → may_push z d.marks ≡ true → more ≡ true) → (pulls ≡ true → more ≡ true) → (is_running u.status ≡ false → is_open z.to_peer ≡ true → more ≡ true) →
     (reads ≡ false → g ≡ 0) → TellsEnd id s t u b x z pushes → TellsStop id s t u b x y z →
-    (more ≡ true → (may_push z d.marks ≡ true) ⊎ ((may_pull z d.marks ≡ true) ⊎ ((is_running u.status ≡ false) × (is_open z.to_peer ≡ true)))) →
+    (pushes ≡ true → (may_push w a.marks ≡ true) × (0 < length (waiting id r)) × (may_push x b.marks ≡ true)) →
+    (more ≡ true → ((pushes ≡ true) × (may_push z d.marks ≡ true)) ⊎ (((may_pull z d.marks ≡ true) × (0 < g)) ⊎ ((is_running u.status ≡ false) × (is_open z.to_peer ≡ true)))) →
     Turn id reads r u out new a d w z more g
 unfolding part_beside
-turn_of {id} {g} {reads} {r} {s} {t} {u} {out} {new} {a} {b} {c} {d} {w} {x} {y} {z} pushes pulls more p q same v stays collects asks_on by-pushes by-pulls hears unread tells stops rests =
+turn_of {id} {g} {reads} {r} {s} {t} {u} {out} {new} {a} {b} {c} {d} {w} {x} {y} {z} pushes pulls more p q same v stays collects asks_on by-pushes by-pulls hears unread tells stops went rests =
     let first = part_beside out (part_then p.part q) in
     let all = part_then first v in
     let silent : may_push z d.marks ≡ true → is_silent id u ≡ true → pushes ≡ true = λ may h.
@@ -664,7 +665,10 @@ turn_of {id} {g} {reads} {r} {s} {t} {u} {out} {new} {a} {b} {c} {d} {w} {x} {y}
       hears = hears;
       ends_on = λ may h. by-pushes (silent may h) may;
       stops_on = λ open_ h. by-status (is_running u.status) refl open_ h;
-      rests = rests;
+      rests = λ h. elim (rests h) [
+        | inl x ↦ let k = went x.0 in inl (x.1, elim (p.delivers k.0 k.1) [ inl gone ↦ went_first first v (went_first p.part q gone) | inr off ↦ absurd (let may = k.2 in cc) ])
+        | inr x ↦ inr x
+      ];
     }
   where
     by : (m : Bool) → may_pull y c.marks ≡ m → (may_pull y c.marks ≡ true → (0 < g) ⊎ ((may_pull z d.marks ≡ false) ⊎ (room_of id u ≡ 0))) → (0 < g) ⊎ ((may_pull z d.marks ≡ false) ⊎ (room_of id u ≡ 0))

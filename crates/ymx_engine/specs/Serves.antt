@@ -60,7 +60,9 @@ is_stopped id s = is_stop (write_to id [] s).reply
 -- none now. Where it might have bytes and was to be read, it gave some, or may have none now, or the stream takes none. No mark
 -- went on, unless the device was shut. It has more to do at least where bytes wait still that the device may take, or no
 -- more come; where it may have bytes that the stream takes, and was to be read; where the stream takes none any more, though it was not
--- finished here, and where the session is over, while its way to the peer is open. It has more to do only where the device may take bytes or have some, or where the session is over and its way to the peer open.
+-- finished here, and where the session is over, while its way to the peer is open. It has more to do only where the device took bytes
+-- and may take more, gave bytes and may have more, or where the session is over and its way to the peer open: a turn in which no byte
+-- moved is the last in a session that runs.
 pub record Turn (id : ℕ) (reads : Bool) (s t : Session) (out out_new : List ℕ) (before after : Seen) (was now : Ways) (more : Bool) (gave : ℕ) : Type 0 where
   pub moved : Exchanges id s t out out_new before after
   pub few : after.calls ≤ before.calls + 13
@@ -76,7 +78,7 @@ pub record Turn (id : ℕ) (reads : Bool) (s t : Session) (out out_new : List �
   pub hears : is_running t.status ≡ false → is_open now.to_peer ≡ true → more ≡ true
   pub ends_on : may_push now after.marks ≡ true → is_silent id t ≡ true → more ≡ true
   pub stops_on : is_open now.to_peer ≡ true → is_stopped id t ≡ true → more ≡ true
-  pub rests : more ≡ true → (may_push now after.marks ≡ true) ⊎ ((may_pull now after.marks ≡ true) ⊎ ((is_running t.status ≡ false) × (is_open now.to_peer ≡ true)))
+  pub rests : more ≡ true → ((may_push now after.marks ≡ true) × (has_bytes (given id moved.events) ≡ true)) ⊎ (((may_pull now after.marks ≡ true) × (0 < gave)) ⊎ ((is_running t.status ≡ false) × (is_open now.to_peer ≡ true)))
 
 -- ---- a part of it
 

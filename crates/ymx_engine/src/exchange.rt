@@ -56,8 +56,6 @@ pub(crate) fn serve<D: Device>(
     ensures hears_end { may_push ways.old (D.seen device.old).marks ≡ true → waiting id session.old ≡ [] → HearsEnd id session.old ways.new }
     // One that may take none, as where its connection is still being made, hears where the stream takes none any more.
     ensures tells { may_push ways.old (D.seen device.old).marks ≡ false → HearsStop id session.old ways.new }
-    // It has more to do only where its device may take bytes or have some, or is still to be told that the session is over.
-    ensures rests { result.more ≡ true → (may_push ways.new (D.seen device.new).marks ≡ true) ⊎ ((may_pull ways.new (D.seen device.new).marks ≡ true) ⊎ ((is_running session.new.status ≡ false) × (is_open ways.new.to_peer ≡ true))) }
 {
     let writes = deliver(session, id, ways, device);
     hear_stop(session, id, ways, device);
@@ -79,6 +77,8 @@ fn is_untold(session: &Session, ways: &Ways) -> bool
 fn deliver<D: Device>(session: &mut Session, id: u32, ways: &mut Ways, device: &mut D) -> bool
     ensures delivered { Delivers id session.old session.new (D.seen device.old) (D.seen device.new) ways.old ways.new 8 }
     ensures goes_on { result ≡ true → may_push ways.new (D.seen device.new).marks ≡ true }
+    // More may be written only where some could be.
+    ensures some { result ≡ true → (may_push ways.old (D.seen device.old).marks ≡ true) × (0 < length (waiting id session.old)) }
     ensures hears_end { may_push ways.old (D.seen device.old).marks ≡ true → waiting id session.old ≡ [] → HearsEnd id session.old ways.new }
     ensures idle { may_push ways.old (D.seen device.old).marks ≡ false → (session.new ≡ session.old) × (ways.new ≡ ways.old) × (D.seen device.new ≡ D.seen device.old) }
     ensures stays { may_push ways.new (D.seen device.new).marks ≡ true → 0 < length (waiting id session.new) → result ≡ true }
@@ -203,6 +203,7 @@ fn collect<D: Device>(
     ensures part { Part id session.old session.new outgoing.old outgoing.new (D.seen device.old) (D.seen device.new) ways.old ways.new 4 result.gave }
     ensures collects { reads ≡ true → may_pull ways.old (D.seen device.old).marks ≡ true → (0 < result.gave) ⊎ ((may_pull ways.new (D.seen device.new).marks ≡ false) ⊎ (room_of id session.new ≡ 0)) }
     ensures goes_on { result.more ≡ true → may_pull ways.new (D.seen device.new).marks ≡ true }
+    ensures gains { result.more ≡ true → 0 < result.gave }
     ensures asks_on { reads ≡ true → may_pull ways.new (D.seen device.new).marks ≡ true → 0 < room_of id session.new → result.more ≡ true }
     ensures unread { reads ≡ false → result.gave ≡ 0 }
     // The stream says no more of its end than it did, unless it was reset.

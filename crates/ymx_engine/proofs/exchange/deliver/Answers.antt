@@ -29,6 +29,9 @@ returns-clause-delivered g c = let i = c.push.invariant in delivers_all (omega a
 pub returns-clause-goes_on : goal.returns-clause-goes_on
 returns-clause-goes_on g c = λ h. c.push.invariant.3 (omega arith)
 
+pub returns-clause-some : goal.returns-clause-some
+returns-clause-some g c = λ h. (c.push.invariant.5 (omega arith), c.push.invariant.4 (omega arith))
+
 pub returns-then-not-may_push-clause-hears_end : goal.returns-then-not-may_push-clause-hears_end
 returns-then-not-may_push-clause-hears_end g c = λ may none.
     let i = c.push.invariant in

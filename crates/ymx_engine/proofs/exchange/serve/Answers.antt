@@ -1,4 +1,4 @@
-use Rattle.std.proofs.Common.{◌∙◌, refl, inl, inr}
+use Rattle.std.proofs.Common.{◌≡◌, ◌∙◌, true, refl, inl, inr}
 use Rattle.ymx_engine.proofs.Parts.{turn_of, stays_shut, was_open_to, tells_from}
 use Rattle.ymx_engine.proofs.Hearing.{untold}
 use Rattle.ymx_engine.proofs.exchange.serve.Goals as goal
@@ -10,12 +10,15 @@ returns-then-read-clause-turn g c =
     let q = c.hear_stop.ensures in
     let v = c.collect-read.ensures in
     turn_of c.deliver-writes.result c.collect-read.result.more _ p.delivered q.part q.same v.part p.stays v.collects v.asks_on (λ h may. c.if-read.true) (λ h. c.if-read.true) (λ over open_. c.if-read.true) v.unread (record { heard = p.ends; ends = v.ends }) (record { takes = p.takes; told = q.tells; stops = v.stops })
+    (λ on. ((p.some on).0, (p.some on).1, p.goes_on on))
     (λ h. elim c.if-may_push.branch [
       | then-may_push w ↦ elim c.if-writes.branch [
-        | then-writes k ↦ inl (let e = w.if-may_push.true in let f = k.value-is in let m = k.may_push.ensures in cc)
+        | then-writes k ↦ inl (k.if-writes.true, let e = w.if-may_push.true in let f = k.value-is in let m = k.may_push.ensures in cc)
         | else-writes k ↦ absurd (let e = w.if-may_push.true in let f = k.value-is in cc)
       ]
-      | else-may_push w ↦ inr (inl (v.goes_on (let e = w.value-is in let f = c.if-read.true in cc)))
+      | else-may_push w ↦
+          let pulls : c.collect-read.result.more ≡ true = let e = w.value-is in let f = c.if-read.true in cc in
+          inr (inl (v.goes_on pulls, v.gains pulls))
     ])
 
 pub returns-else-read-clause-turn : goal.returns-else-read-clause-turn
@@ -34,6 +37,7 @@ returns-else-read-clause-turn g c =
     ])
     (λ h. elim c.if-may_push.branch [ then-may_push w ↦ absurd (let e = w.value-is in cc) | else-may_push w ↦ absurd (let e = w.value-is in cc) ])
     (λ over open_. c.is_untold.ensures ∙ rw (over, open_) refl) v.unread (record { heard = p.ends; ends = v.ends }) (record { takes = p.takes; told = q.tells; stops = v.stops })
+    (λ on. ((p.some on).0, (p.some on).1, p.goes_on on))
     (λ h. inr (inr (untold _ _ _ c.is_untold.ensures h)))
 
 pub returns-then-read-clause-hears_end : goal.returns-then-read-clause-hears_end
