@@ -1,21 +1,23 @@
 -- How the pumps behind the front door have ended: their gates let them run, and their recorder keeps nothing.
-use Rattle.std.proofs.Common.{◌≡◌, ℕ, List, [], Bool, true, false, Option, None, refl, sym, ◌∙◌, subst}
-use Rattle.std.proofs.KnownBytes.{Appends-nil, Consumes-nil}
+use Rattle.std.proofs.Common.{◌≡◌, ℕ, List, [], Bool, true, false, Option, Result, refl, sym, ap, ◌∙◌, subst}
 use Rattle.ymx_model.specs.declared.types.Role.{Role}
 use Rattle.ymx_model.specs.declared.types.Config.{Config}
 use Rattle.ymx_model.specs.devices.Devices.{has_failed}
-use Rattle.ymx_seats.specs.Views.{SeatView}
+use Rattle.ymx_model.specs.declared.types.Entry.{Entry}
+use Rattle.ymx_session.specs.Replies.{done_or}
+use Rattle.ymx_seats.specs.Views.{SeatView, IsNewcomer, IsWitnessed}
+use Rattle.ymx_booked.specs.Books.{Books, Asks, to_close}
 use Rattle.ymx_hub.specs.Pumped.{EmitsNoMore}
-use Rattle.ymx_hub.proofs.Booked.{books_same}
-use Rattle.ymx_hub.proofs.Shown.{shown_booked}
+use Rattle.ymx_hub.specs.Shown.{IsShown, BooksShown}
+use Rattle.ymx_hub.specs.declared.undrained.Undrained.{Undrained}
+use Rattle.ymx_hub.proofs.Shown.{shown_none, shown_on}
 use Rattle.ymx_pumps.specs.declared.pump_end.PumpWhy.{PumpWhy}
-use Rattle.ymx_pumps.specs.declared.pump_end.PumpWhy.TheVariants.{End, Broken, Memory, Gate, NoThread, NoSeat}
+use Rattle.ymx_pumps.specs.declared.pump_end.PumpWhy.TheVariants.{End, Broken, Memory, Gate, NoThread}
 use Rattle.ymx_pumps.specs.Ends.{ReadEnd, WriteEnd}
-use Rattle.ymx_pumps.specs.Pumps.{PumpRead, PumpWrote, IsWritten, ReadAdds, WriteAdds}
-use Rattle.ymx_pumps.proofs.Counts.{counted_none}
+use Rattle.ymx_pumps.specs.Pumps.{PumpRead, PumpWrote, ReadAdds, WriteAdds}
 use Rattle.ymx_connect.specs.declared.ended.Ended.{Ended}
 use Rattle.ymx_connect.specs.Connecting.{may_end, may_end_writing, IsSpared}
-use Rattle.ymx_connect.specs.Pumping.{HasRead, HasWritten, ReadEndOrNoSeat, WriteEndOrNoSeat}
+use Rattle.ymx_connect.specs.Pumping.{HasRead, HasWritten, HasClosed, HasWorked, HasBeenClosed, HaveMet, InOneHistory}
 
 may_read : (keeps : Bool) (fails failed : ℕ) (remaining : Option (List ℕ)) (why : PumpWhy) → keeps ≡ false →
     ReadEnd keeps fails failed remaining false why → may_end why ≡ true
@@ -34,81 +36,102 @@ may_write keeps fails failed is_ended _ k w = refl
 
 -- ---- what the pumps did with their devices
 
-read_end : (fails failed : ℕ) (remaining : Option (List ℕ)) (why : PumpWhy) → ReadEnd false fails failed remaining false why → ReadEndOrNoSeat fails failed remaining why
-read_end fails failed remaining NoSeat r = absurd r
-read_end fails failed remaining _ r = r
+-- of a recorder that keeps nothing: what was booked stands in what is left of the seat
+books_left : (old new : SeatView) (Such : List Entry → Type 0) → Books false old new Such → Books false old (record new { entries = []; room = 0 }) Such
+books_left old new Such b = record { number = b.number; start = b.start; gains = tt; extends = b.extends }
 
-write_end : (fails failed : ℕ) (is_ended : Bool) (why : PumpWhy) → WriteEnd false fails failed is_ended false why → WriteEndOrNoSeat fails failed is_ended why
-write_end fails failed is_ended NoSeat w = absurd w
-write_end fails failed is_ended _ w = w
+shown_left : (old new : SeatView) → IsShown old new → IsShown (record old { entries = []; room = 0 }) (record new { entries = []; room = 0 })
+shown_left old new s = record { rest = ap (λ (v : SeatView). record v { entries = []; room = 0 }) s.rest; grown = s.grown }
 
-pub has_read : (keeps : Bool) (fails failed : ℕ) (before after : Option (List ℕ)) (first last : SeatView) (moved : ℕ) (why : PumpWhy) → keeps ≡ false →
-    PumpRead keeps before after first last moved why → ReadEnd keeps fails failed after false why → HasRead fails failed before after moved why
-has_read keeps fails failed before after first last moved why k r e = record {
+pub has_read : (keeps : Bool) (fails failed : ℕ) (before after : Option (List ℕ)) (first last now : SeatView) (moved : ℕ) (why : PumpWhy) → keeps ≡ false → IsNewcomer first.number first.seen →
+    PumpRead keeps before after first last moved why → ReadEnd keeps fails failed after false why → now ≡ record last { entries = []; room = 0 } → HasRead fails failed before after moved why now
+has_read keeps fails failed before after first last now moved why k n r e same = subst (HasRead fails failed before after moved why) (sym same) (record {
   spared = may_read keeps fails failed after why k e;
-  ended = read_end fails failed after why (subst (λ (b : Bool). ReadEnd b fails failed after false why) k e);
+  ended = subst (λ (b : Bool). ReadEnd b fails failed after false why) k e;
   first = first;
-  last = last;
-  read = subst (λ (b : Bool). PumpRead b before after first last moved why) k r;
-}
+  last = record last { entries = []; room = 0 };
+  fresh = n;
+  read = left (subst (λ (b : Bool). PumpRead b before after first last moved why) k r);
+  shown = shown_none (record last { entries = []; room = 0 });
+})
+  where
+    left : PumpRead false before after first last moved why → PumpRead false before after first (record last { entries = []; room = 0 }) moved why
+    left p = record { given = p.given; taken = p.taken; last = p.last; gave = p.gave; parts = p.parts; whole = p.whole; amount = p.amount; booked = books_left first last (ReadAdds first.number p.given p.taken p.last why) p.booked }
 
-pub has_written : (keeps witnessed : Bool) (role : Role) (config : Config) (size fails failed : ℕ) (before after : Option (List ℕ)) (is_ended : Bool) (first last : SeatView) (moved : ℕ) (why : PumpWhy) → keeps ≡ false →
+pub has_written : (keeps witnessed : Bool) (role : Role) (config : Config) (size fails failed : ℕ) (before after : Option (List ℕ)) (is_ended : Bool) (first last now : SeatView) (moved : ℕ) (why : PumpWhy) → keeps ≡ false → IsNewcomer first.number first.seen →
     PumpWrote keeps size (has_failed fails failed) before after first last moved why → WriteEnd keeps fails failed is_ended false why → (why ≡ End → EmitsNoMore witnessed role config last.seen) →
-    HasWritten witnessed role config fails failed before after is_ended moved why
-has_written keeps witnessed role config size fails failed before after is_ended first last moved why k w e o = record {
+    now ≡ record last { entries = []; room = 0 } → HasWritten witnessed role config fails failed before after is_ended moved why now
+has_written keeps witnessed role config size fails failed before after is_ended first last now moved why k n w e o same = subst (HasWritten witnessed role config fails failed before after is_ended moved why) (sym same) (record {
   spared = may_write keeps fails failed is_ended why k e;
-  ended = write_end fails failed is_ended why (subst (λ (b : Bool). WriteEnd b fails failed is_ended false why) k e);
+  ended = subst (λ (b : Bool). WriteEnd b fails failed is_ended false why) k e;
   size = size;
   first = first;
-  last = last;
-  wrote = subst (λ (b : Bool). PumpWrote b size (has_failed fails failed) before after first last moved why) k w;
+  last = record last { entries = []; room = 0 };
+  fresh = n;
+  wrote = left (subst (λ (b : Bool). PumpWrote b size (has_failed fails failed) before after first last moved why) k w);
   out = o;
-}
+  shown = shown_none (record last { entries = []; room = 0 });
+})
+  where
+    shown : (Such : List Entry → Type 0) → BooksShown false first last Such → BooksShown false first (record last { entries = []; room = 0 }) Such
+    shown Such b = record { between = record b.between { entries = []; room = 0 }; booked = books_left first b.between Such b.booked; shown = shown_left b.between last b.shown }
 
--- a seat at which nothing was done
-abbrev untouched : SeatView
-untouched = record { number = 0; start = 0; entries = []; room = 0; seen = None }
-
--- there was no seat for the pump
-pub read_nothing : (fails : ℕ) (before : Option (List ℕ)) → HasRead fails fails before before 0 NoSeat
-read_nothing fails before = record {
-  spared = refl;
-  ended = refl;
-  first = untouched;
-  last = untouched;
-  read = record {
-    given = [];
-    taken = [];
-    last = [];
-    gave = Consumes-nil before;
-    parts = refl;
-    whole = tt;
-    amount = counted_none;
-    booked = books_same false untouched (ReadAdds 0 [] [] [] NoSeat) (record { feeds = []; closing = []; parts = refl; fed = (refl, refl); broke = refl; ended = refl });
-  };
-}
-
-nothing_written : (failed : Bool) → IsWritten failed [] []
-nothing_written true = (0, refl)
-nothing_written false = refl
-
-pub written_nothing : (witnessed : Bool) (role : Role) (config : Config) (fails : ℕ) (before : Option (List ℕ)) (is_ended : Bool) → HasWritten witnessed role config fails fails before before is_ended 0 NoSeat
-written_nothing witnessed role config fails before is_ended = record {
-  spared = refl;
-  ended = refl;
-  size = 0;
-  first = untouched;
-  last = untouched;
-  wrote = record {
-    written = [];
-    took = Appends-nil before;
-    amount = counted_none;
-    booked = shown_booked false untouched untouched _ (books_same false untouched (WriteAdds 0 0 (has_failed fails fails) [] NoSeat) (record { emits = []; closing = []; parts = refl; given = []; emitted = refl; wrote = nothing_written (has_failed fails fails); ended = refl }));
-  };
-  out = λ (e : NoSeat ≡ End). absurd cc;
-}
+    left : PumpWrote false size (has_failed fails failed) before after first last moved why → PumpWrote false size (has_failed fails failed) before after first (record last { entries = []; room = 0 }) moved why
+    left p = record { written = p.written; took = p.took; amount = p.amount; booked = shown (WriteAdds size first.number (has_failed fails failed) p.written why) p.booked }
 
 -- neither has ended for want of memory or of a thread
-pub spared_by : (fails failed flaws flawed : ℕ) (before after had has : Option (List ℕ)) (witnessed : Bool) (role : Role) (config : Config) (is_ended : Bool) (ended : Ended) →
-    HasRead fails failed before after ended.read_bytes ended.read → HasWritten witnessed role config flaws flawed had has is_ended ended.written_bytes ended.written → IsSpared ended
-spared_by fails failed flaws flawed before after had has witnessed role config is_ended ended r w = record { read = r.spared; written = w.spared }
+pub spared_by : (fails failed flaws flawed : ℕ) (before after had has : Option (List ℕ)) (witnessed : Bool) (role : Role) (config : Config) (is_ended : Bool) (ended : Ended) (one other : SeatView) →
+    HasRead fails failed before after ended.read_bytes ended.read one → HasWritten witnessed role config flaws flawed had has is_ended ended.written_bytes ended.written other → IsSpared ended
+spared_by fails failed flaws flawed before after had has witnessed role config is_ended ended one other r w = record { read = r.spared; written = w.spared }
+
+-- ---- one history
+
+pub read_on : (fails failed : ℕ) (before after : Option (List ℕ)) (moved : ℕ) (why : PumpWhy) (now later : SeatView) → HasRead fails failed before after moved why now → IsShown now later → HasRead fails failed before after moved why later
+read_on fails failed before after moved why now later r s = record { spared = r.spared; ended = r.ended; first = r.first; last = r.last; fresh = r.fresh; read = r.read; shown = shown_on r.last now later r.shown s }
+
+pub written_on : (witnessed : Bool) (role : Role) (config : Config) (fails failed : ℕ) (before after : Option (List ℕ)) (is_ended : Bool) (moved : ℕ) (why : PumpWhy) (now later : SeatView) →
+    HasWritten witnessed role config fails failed before after is_ended moved why now → IsShown now later → HasWritten witnessed role config fails failed before after is_ended moved why later
+written_on witnessed role config fails failed before after is_ended moved why now later w s = record { spared = w.spared; ended = w.ended; size = w.size; first = w.first; last = w.last; fresh = w.fresh; wrote = w.wrote; out = w.out; shown = shown_on w.last now later w.shown s }
+
+worked_on : (role : Role) (config : Config) (Kept : Option (List Entry) → Type 0) (drained : Result (Unit {0}) Undrained) (now later : SeatView) → HasWorked role config Kept drained now → IsShown now later → HasWorked role config Kept drained later
+worked_on role config Kept drained now later w s = record { caller = w.caller; last = w.last; kept = w.kept; closed = w.closed; shown = shown_on w.last now later w.shown s }
+
+-- a caller closed the session behind its work, and let its seat go
+pub has_worked : (role : Role) (config : Config) (Kept : Option (List Entry) → Type 0) (drained : Result (Unit {0}) Undrained) (session caller last now : SeatView) →
+    Kept session.seen → caller ≡ session → HasClosed true role config caller last drained → now ≡ record last { entries = []; room = 0 } → HasWorked role config Kept drained now
+has_worked role config Kept drained session caller last now k e c same = subst (HasWorked role config Kept drained) (sym same) (record {
+  caller = caller;
+  last = record last { entries = []; room = 0 };
+  kept = subst (λ (v : SeatView). Kept v.seen) (sym e) k;
+  closed = record { between = c.between; session = c.session; shown = c.shown; history = c.history; due = c.due; told = c.told; closed = books_left c.between last (Asks to_close done_or c.between.number c.told) c.closed; spared = c.spared };
+  shown = shown_none (record last { entries = []; room = 0 });
+})
+
+-- that alone
+pub been_closed : (role : Role) (config : Config) (drained : Result (Unit {0}) Undrained) (caller last now : SeatView) →
+    HasClosed true role config caller last drained → now ≡ record last { entries = []; room = 0 } → HasBeenClosed role config drained now
+been_closed role config drained caller last now c same = has_worked role config (λ _. Unit {0}) drained caller caller last now tt refl c same
+
+pub have_met : (witnessed : Bool) (role : Role) (config : Config) (one other third first second last : SeatView) → IsShown one first → IsShown other second → IsShown third last →
+    (first.seen ≡ second.seen) × (first.seen ≡ last.seen) → IsWitnessed witnessed role config first.seen → HaveMet witnessed role config one other third
+have_met witnessed role config one other third first second last s t u same history = record { first = first; second = second; last = last; shown = (s, t, u); same = same; history = history }
+
+-- all three have met: so what they did stands in one history
+pub in_one_history : (role : Role) (config : Config) (Kept : Option (List Entry) → Type 0) (drained : Result (Unit {0}) Undrained) (fails failed flaws flawed : ℕ) (before after had has : Option (List ℕ)) (is_ended : Bool)
+    (fed out : ℕ) (read written : PumpWhy) (caller reader writer : SeatView) →
+    HasWorked role config Kept drained caller → HasRead fails failed before after fed read reader → HasWritten true role config flaws flawed had has is_ended out written writer → HaveMet true role config caller reader writer →
+    InOneHistory role config (HasWorked role config Kept drained) (HasRead fails failed before after fed read) (HasWritten true role config flaws flawed had has is_ended out written)
+in_one_history role config Kept drained fails failed flaws flawed before after had has is_ended fed out read written caller reader writer w r o m = record {
+  caller = m.first;
+  reader = m.second;
+  writer = m.last;
+  history = m.history;
+  same = m.same;
+  worked = worked_on role config Kept drained caller m.first w m.shown.0;
+  read = read_on fails failed before after fed read reader m.second r m.shown.1;
+  wrote = written_on true role config flaws flawed had has is_ended out written writer m.last o m.shown.2;
+}
+
+pub worked_within : (role : Role) (config : Config) (Kept : Option (List Entry) → Type 0) (drained : Result (Unit {0}) Undrained) (Read Wrote : SeatView → Type 0) →
+    InOneHistory role config (HasWorked role config Kept drained) Read Wrote → (now : SeatView) × HasWorked role config Kept drained now
+worked_within role config Kept drained Read Wrote h = (h.caller, h.worked)

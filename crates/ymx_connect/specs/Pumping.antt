@@ -8,7 +8,8 @@ use Rattle.ymx_model.specs.session.Sessions.{Session}
 use Rattle.ymx_model.specs.session.Emissions.{is_ready}
 use Rattle.ymx_session.specs.Replies.{done_or}
 use Rattle.ymx_seats.specs.Journals.{no_config}
-use Rattle.ymx_seats.specs.Views.{SeatView}
+use Rattle.ymx_model.specs.declared.types.Entry.{Entry}
+use Rattle.ymx_seats.specs.Views.{SeatView, IsNewcomer, IsWitnessed}
 use Rattle.ymx_booked.specs.Answers.{IsNotMemory}
 use Rattle.ymx_booked.specs.Books.{Books, Asks, to_close}
 use Rattle.ymx_booked.specs.Shown.{IsHistoryOf}
@@ -17,47 +18,41 @@ use Rattle.ymx_hub.specs.Pumped.{EmitsNoMore}
 use Rattle.ymx_hub.specs.Shown.{IsShown}
 use Rattle.ymx_hub.specs.declared.undrained.Undrained.{Undrained}
 use Rattle.ymx_pumps.specs.declared.pump_end.PumpWhy.{PumpWhy}
-use Rattle.ymx_pumps.specs.declared.pump_end.PumpWhy.TheVariants.{End, NoSeat}
+use Rattle.ymx_pumps.specs.declared.pump_end.PumpWhy.TheVariants.{End}
 use Rattle.ymx_pumps.specs.Ends.{ReadEnd, WriteEnd}
 use Rattle.ymx_pumps.specs.Pumps.{PumpRead, PumpWrote}
 use Rattle.ymx_connect.specs.Connecting.{may_end, may_end_writing}
 
--- how a read pump of a recorder that keeps nothing has ended, or that the hub gave it no seat
-abbrev pub ReadEndOrNoSeat : (fails failed : ℕ) → Option (List ℕ) → PumpWhy → Type 0
-ReadEndOrNoSeat fails failed remaining NoSeat = failed ≡ fails
-ReadEndOrNoSeat fails failed remaining why = ReadEnd false fails failed remaining false why
-
--- alike of a write pump
-abbrev pub WriteEndOrNoSeat : (fails failed : ℕ) (is_ended : Bool) → PumpWhy → Type 0
-WriteEndOrNoSeat fails failed is_ended NoSeat = failed ≡ fails
-WriteEndOrNoSeat fails failed is_ended why = WriteEnd false fails failed is_ended false why
-
--- The read pump ran at the seat of some caller, until it ended by itself: the reader gave bytes, of which the session took a
--- beginning, and so many.
-pub record HasRead (fails failed : ℕ) (before after : Option (List ℕ)) (moved : ℕ) (why : PumpWhy) : Type 0 where
+-- The read pump ran at the seat of a caller that had made no call, until it ended by itself: the reader gave bytes, of which the
+-- session took a beginning, and so many. Its seat has then seen what stands in `now`, perhaps more than at its last call.
+pub record HasRead (fails failed : ℕ) (before after : Option (List ℕ)) (moved : ℕ) (why : PumpWhy) (now : SeatView) : Type 0 where
   pub spared : may_end why ≡ true
-  pub ended : ReadEndOrNoSeat fails failed after why
+  pub ended : ReadEnd false fails failed after false why
   pub first : SeatView
   pub last : SeatView
+  pub fresh : IsNewcomer first.number first.seen
   pub read : PumpRead false before after first last moved why
+  pub shown : IsShown last now
 
--- The write pump ran at the seat of some caller, until it ended by itself: the writer took what the emissions gave, and so many
--- bytes. It ended with End only where nothing is due and nothing will be, by the history in the sight of that seat.
-pub record HasWritten (witnessed : Bool) (role : Role) (config : Config) (fails failed : ℕ) (before after : Option (List ℕ)) (is_ended : Bool) (moved : ℕ) (why : PumpWhy) : Type 0 where
+-- The write pump ran at the seat of a caller that had made no call, until it ended by itself: the writer took what the emissions
+-- gave, and so many bytes. It ended with End only where nothing is due and nothing will be, by the history in the sight of that
+-- seat. The seat has then seen what stands in `now`, perhaps more.
+pub record HasWritten (witnessed : Bool) (role : Role) (config : Config) (fails failed : ℕ) (before after : Option (List ℕ)) (is_ended : Bool) (moved : ℕ) (why : PumpWhy) (now : SeatView) : Type 0 where
   pub spared : may_end_writing why ≡ true
-  pub ended : WriteEndOrNoSeat fails failed is_ended why
+  pub ended : WriteEnd false fails failed is_ended false why
   pub size : ℕ
   pub first : SeatView
   pub last : SeatView
+  pub fresh : IsNewcomer first.number first.seen
   pub wrote : PumpWrote false size (has_failed fails failed) before after first last moved why
   pub out : why ≡ End → EmitsNoMore witnessed role config last.seen
+  pub shown : IsShown last now
 
--- The session was closed by the seat of some caller, which had then seen the history of a session of which nothing was due; or
--- of which something was due, where it waited in vain. No want of memory kept it from closing.
-pub record HasClosed (witnessed : Bool) (role : Role) (config : Config) (drained : Result (Unit {0}) Undrained) : Type 0 where
-  pub first : SeatView
+-- A caller that had seen what stands in `first` closed the session, and has then seen what stands in `last`. Before that it had
+-- seen the history, which goes on from there, of a session of which nothing was due; or of which something was due, where it
+-- waited in vain. No want of memory kept it from closing.
+pub record HasClosed (witnessed : Bool) (role : Role) (config : Config) (first last : SeatView) (drained : Result (Unit {0}) Undrained) : Type 0 where
   pub between : SeatView
-  pub last : SeatView
   pub session : Session
   pub shown : IsShown first between
   pub history : IsHistoryOf witnessed role config between.seen session
@@ -66,6 +61,40 @@ pub record HasClosed (witnessed : Bool) (role : Role) (config : Config) (drained
   pub closed : Books false between last (Asks to_close done_or between.number told)
   pub spared : IsNotMemory told
 
+-- A caller did its work, and this is kept of the history as it had seen it then. Behind it the same caller closed the session, once
+-- nothing was due or something was in vain. It has then seen what stands in `now`, perhaps more than at its last call.
+pub record HasWorked (role : Role) (config : Config) (Kept : Option (List Entry) → Type 0) (drained : Result (Unit {0}) Undrained) (now : SeatView) : Type 0 where
+  pub caller : SeatView
+  pub last : SeatView
+  pub kept : Kept caller.seen
+  pub closed : HasClosed true role config caller last drained
+  pub shown : IsShown last now
+
+-- a caller closed the session, where of the history that it had seen before nothing more is known
+abbrev pub HasBeenClosed : Role → Config → Result (Unit {0}) Undrained → SeatView → Type 0
+HasBeenClosed role config drained now = HasWorked role config (λ _. Unit {0}) drained now
+
+-- The whole history so far was shown to three callers, and is that of a session of this role and config, where there is one.
+pub record HaveMet (witnessed : Bool) (role : Role) (config : Config) (one other third : SeatView) : Type 0 where
+  pub first : SeatView
+  pub second : SeatView
+  pub last : SeatView
+  pub shown : IsShown one first × IsShown other second × IsShown third last
+  pub same : (first.seen ≡ second.seen) × (first.seen ≡ last.seen)
+  pub history : IsWitnessed witnessed role config first.seen
+
+-- One history of a session of this role and config, which replays, and which three callers have seen: who worked, the read pump and
+-- the write pump. So all that they did stands in it.
+pub record InOneHistory (role : Role) (config : Config) (Worked Read Wrote : SeatView → Type 0) : Type 0 where
+  pub caller : SeatView
+  pub reader : SeatView
+  pub writer : SeatView
+  pub history : IsWitnessed true role config caller.seen
+  pub same : (caller.seen ≡ reader.seen) × (caller.seen ≡ writer.seen)
+  pub worked : Worked caller
+  pub read : Read reader
+  pub wrote : Wrote writer
+
 -- how the write pump ended of a session with the recorder Off, whose history nobody sees
-abbrev pub HasWrittenUnseen : (fails failed : ℕ) (before after : Option (List ℕ)) (is_ended : Bool) (moved : ℕ) (why : PumpWhy) → Type 0
-HasWrittenUnseen fails failed before after is_ended moved why = HasWritten false Client no_config fails failed before after is_ended moved why
+abbrev pub HasWrittenUnseen : (fails failed : ℕ) (before after : Option (List ℕ)) (is_ended : Bool) (moved : ℕ) (why : PumpWhy) (now : SeatView) → Type 0
+HasWrittenUnseen fails failed before after is_ended moved why now = HasWritten false Client no_config fails failed before after is_ended moved why now

@@ -1,14 +1,15 @@
 -- What the door says whose session has its history in proofs (this project's own).
-use Rattle.std.specs.Prelude.{ℕ, List, Bool, true, false, Ok}
+use Rattle.std.specs.Prelude.{ℕ, List, Bool, true, false, Option, Some, None, Ok}
+use mathlib.Core.List.{IsPrefix}
 use Rattle.ymx_machine.specs.declared.types.Reply.TheVariants as reply
 use Rattle.ymx_model.specs.declared.types.Role.{Role}
 use Rattle.ymx_model.specs.declared.types.Config.{Config}
 use Rattle.ymx_model.specs.declared.types.Entry.{Entry}
 use Rattle.ymx_seats.specs.Views.{SeatView, IsWitnessed}
-use Rattle.ymx_booked.specs.Books.{Books, Spends, to_finish}
+use Rattle.ymx_booked.specs.Books.{Books}
 use Rattle.ymx_hub.specs.Halves.{HalfView, OpensHalves}
 use Rattle.ymx_hub.specs.Turns.{WriteTurns}
-use Rattle.ymx_connect.specs.Streams.{ReadsUpTo, Copies}
+use Rattle.ymx_connect.specs.Streams.{ReadsUpTo}
 
 -- ---- what the calls do
 
@@ -28,15 +29,16 @@ pub record ReadsToEnd (keeps witnessed : Bool) (role : Role) (config : Config) (
   pub reads : Books keeps before after (ReadsUpTo reply.ReadEnd id before.number bytes)
   pub history : IsWitnessed witnessed role config after.seen
 
--- the same where the history stands in proofs alone
-abbrev pub IsReadToEnd : Role → Config → List ℕ → Type 0
-IsReadToEnd role config bytes = ReadsToEnd false true role config bytes
-
 -- ---- what programs do with one stream
 
--- One caller opened a stream, the text was written to it, and reads of it gave these bytes, up to the end, in the history of a
--- session of this role and config, which replays. Writer and reader had seen how the stream was opened.
-pub record Exchanges (role : Role) (config : Config) (text bytes : List ℕ) : Type 0 where
+-- what was seen is a beginning of what was seen later
+abbrev pub StandsIn : (seen later : Option (List Entry)) → Type 0
+StandsIn None None = Unit {0}
+StandsIn (Some seen) (Some later) = IsPrefix seen later
+StandsIn _ _ = ⊥
+
+-- In this history a caller opened a stream, the text was written to it, and reads of it gave these bytes, up to the end.
+pub record Exchanges (text bytes : List ℕ) (seen : Option (List Entry)) : Type 0 where
   pub caller : SeatView
   pub opened : SeatView
   pub writer : HalfView
@@ -46,12 +48,4 @@ pub record Exchanges (role : Role) (config : Config) (text bytes : List ℕ) : T
   pub opens : Books false caller opened (OpensHalves caller.number (Ok (writer, reader)))
   pub writes : Books false writer.seat wrote (WriteTurns writer.id text writer.seat.number (Ok tt))
   pub reads : Books false reader.seat read (ReadsUpTo reply.ReadEnd reader.id reader.seat.number bytes)
-  pub history : IsWitnessed true role config read.seen
-
--- All that the reads of one half gave, up to the end, was written to the other, so many bytes as far as 64 bits go, and then that
--- half was finished, in the history of a session of this role and config, which replays.
-pub record Echoes (role : Role) (config : Config) (reader writer : HalfView) (count : ℕ) : Type 0 where
-  pub read : SeatView
-  pub wrote : SeatView
-  pub copied : Copies false false reader writer read wrote (Ok count)
-  pub finished : BooksLast role config wrote (Spends (to_finish writer.id) writer.id wrote.number (Ok tt))
+  pub within : StandsIn opened.seen seen × StandsIn wrote.seen seen × StandsIn read.seen seen

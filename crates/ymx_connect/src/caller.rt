@@ -14,14 +14,14 @@ ghost use Rattle.ymx_hub.specs.Turns.{PingTurns};
 
 use crate::halves::{Reader, Writer};
 use crate::handle::Handle;
-use crate::off::discard;
 use std::marker::Model;
 use std::sync::Wait;
 use ymx_hub::{HubFault as StreamFault, Seat, Undrained};
 use ymx_seats::{Naming, Witnessed};
 
 /// A running session, as one caller sees it: its history stands in proofs. A contract sees the caller's seat, with the history
-/// as it was at its last call. Each half of a stream is a caller of its own.
+/// as it was at its last call. Each half of a stream is a caller of its own, with a history that it has seen: `meet_writer` and
+/// `meet_reader` show the whole one to both, so that what the half did stands in what the caller has seen.
 pub struct Caller<J: Naming> {
     handle: Handle<Witnessed<J>>,
     seat: Seat<Witnessed<J>>,
@@ -43,10 +43,12 @@ impl<J: Naming> Caller<J> {
         Caller { handle, seat }
     }
 
-    /// Lets the caller go, who makes no more calls.
-    pub(crate) fn leave(self) {
+    /// The seat of the caller, who makes no more calls.
+    pub(crate) fn into_seat(self) -> Seat<Witnessed<J>>
+        ensures { result ≡ self }
+    {
         let Caller { handle: _, seat } = self;
-        discard(seat);
+        seat
     }
 
     /// What the caller has seen is the history of a session of this role and config, which replays. It does nothing at run
@@ -65,6 +67,26 @@ impl<J: Naming> Caller<J> {
         ensures same { self.new.seen ≡ other.new.seen }
     {
         self.handle.meet(rt, &mut self.seat, other);
+    }
+
+    /// `meet`, with a writing half: what was written so far stands in the history that the caller has then seen.
+    pub fn meet_writer<W: Wait>(&mut self, rt: &W, writer: &mut Writer<Witnessed<J>>)
+        ensures same { writer.new.id ≡ writer.old.id }
+        ensures mine { IsShown self.old self.new }
+        ensures theirs { IsShown writer.old.seat writer.new.seat }
+        ensures seen { self.new.seen ≡ writer.new.seat.seen }
+    {
+        writer.meet_at_seat(rt, &mut self.seat);
+    }
+
+    /// `meet`, with a reading half: what was read so far stands in the history that the caller has then seen.
+    pub fn meet_reader<W: Wait>(&mut self, rt: &W, reader: &mut Reader<Witnessed<J>>)
+        ensures same { reader.new.id ≡ reader.old.id }
+        ensures mine { IsShown self.old self.new }
+        ensures theirs { IsShown reader.old.seat reader.new.seat }
+        ensures seen { self.new.seen ≡ reader.new.seat.seen }
+    {
+        reader.meet_at_seat(rt, &mut self.seat);
     }
 
     /// Opens a stream (stream identifiers). It doesn't wait for the peer, and bytes may be written at once.

@@ -3,20 +3,20 @@
 ghost use Rattle.std.specs.Prelude.{◌≡◌, None, IfOk, IfErr};
 ghost use Rattle.ymx_session.specs.NewSessions.{new_fault};
 ghost use Rattle.ymx_seats.specs.Transcripts.{IsNew};
+ghost use Rattle.ymx_seats.specs.Views.{SeatView, IsNewcomer};
 ghost use Rattle.ymx_connect.specs.Connecting.{IsConnectFault, IsSpared, Answered};
 ghost use Rattle.ymx_connect.specs.Pumping.{HasRead, HasWrittenUnseen};
 
 use crate::connect_fault::ConnectFault;
 use crate::ended::Connected;
 use crate::handle::Handle;
-use crate::off::discard;
-use crate::running::{Buffers, run_beside};
+use crate::running::{Buffers, PumpSeats, Worked, drain_and_close, run_beside, told_by};
 use crate::tcp::{ConnectionReader, ConnectionWriter};
 use std::alloc::Global;
 use std::net::TcpStream;
 use std::sync::{Arc, Wait};
 use std::thread::Threads;
-use ymx_hub::{Hub, Off};
+use ymx_hub::{Hub, Off, Seat};
 use ymx_memory::RefusedAllocation;
 use ymx_model::{Config, Inlet, Outlet, Role};
 use ymx_session::Session;
@@ -89,8 +89,8 @@ pub fn connect_with<
     ensures may { IfOk result (λ connected. new_fault role config ≡ None) }
     ensures answered { IfOk result (λ connected. Answered F.FnOnce work connected.answer) }
     ensures spared { IfOk result (λ connected. IsSpared connected.ended) }
-    ensures read { IfOk result (λ connected. HasRead (I.failures reader) (I.failures connected.reader) (I.remaining reader) (I.remaining connected.reader) connected.ended.read_bytes connected.ended.read) }
-    ensures wrote { IfOk result (λ connected. HasWrittenUnseen (O.failures writer) (O.failures connected.writer) (O.contents writer) (O.contents connected.writer) (O.is_ended connected.writer) connected.ended.written_bytes connected.ended.written) }
+    ensures read { IfOk result (λ connected. (now : SeatView) × HasRead (I.failures reader) (I.failures connected.reader) (I.remaining reader) (I.remaining connected.reader) connected.ended.read_bytes connected.ended.read now) }
+    ensures wrote { IfOk result (λ connected. (now : SeatView) × HasWrittenUnseen (O.failures writer) (O.failures connected.writer) (O.contents writer) (O.contents connected.writer) (O.is_ended connected.writer) connected.ended.written_bytes connected.ended.written now) }
     ensures refused { IfErr result (λ fault. IsConnectFault role config fault) }
 {
     let Prepared {
@@ -98,23 +98,36 @@ pub fn connect_with<
         handle,
         buffers,
     } = prepare(alloc, role, config)?;
-    let mut seat = handle.spare_seat();
-    let connected = run_beside(
+    let hub_lent = &*hub;
+    let ran = run_beside(
         rt,
-        &*hub,
-        &mut seat,
+        hub_lent,
+        spare_seats(alloc),
         reader,
         writer,
         buffers,
-        move || -> T
+        move || -> Worked<Off, T>
             requires { F.IsAlwaysCallable work }
-            ensures { Answered F.FnOnce work result }
-        { answer_of(&handle, work) },
+            ensures { Answered F.FnOnce work result.answer }
+        { answer_of(rt, hub_lent, &handle, work) },
     );
-    discard(seat);
-    match connected {
-        Ok(connected) => Ok(connected),
+    match ran {
+        Ok(ran) => Ok(told_by(rt, hub_lent, alloc, ran)),
         Err(refused) => Err(ConnectFault::NoThread(refused)),
+    }
+}
+
+/// Seats of pumps at which nothing is booked, so that no hub need give them.
+fn spare_seats(alloc: Global) -> PumpSeats<Off>
+    ensures reader { IsNewcomer result.reader.number result.reader.seen }
+    ensures writer { IsNewcomer result.writer.number result.writer.seen }
+{
+    PumpSeats {
+        alloc,
+        reader: Seat::new(alloc, 0, 0).into_sight(),
+        settler: Seat::new(alloc, 0, 0).into_sight(),
+        writer: Seat::new(alloc, 0, 0).into_sight(),
+        closer: Seat::new(alloc, 0, 0).into_sight(),
     }
 }
 
@@ -147,10 +160,22 @@ fn surround(alloc: Global, session: Session) -> Result<Prepared, RefusedAllocati
     })
 }
 
-/// What the caller's function answers.
-fn answer_of<T, F: FnOnce(&Handle) -> T>(handle: &Handle, work: F) -> T
+/// What the caller's function answers. Behind it this waits until nothing is due, and closes the session.
+fn answer_of<W: Wait, T: Drop, F: FnOnce(&Handle) -> T>(
+    rt: &W,
+    hub: &Hub<Off>,
+    handle: &Handle,
+    work: F,
+) -> Worked<Off, T>
     requires { F.IsAlwaysCallable work }
-    ensures { Answered F.FnOnce work result }
+    ensures { Answered F.FnOnce work result.answer }
 {
-    work(handle)
+    let answer = work(handle);
+    let mut seat = handle.spare_seat();
+    let drained = drain_and_close(rt, hub, &mut seat);
+    Worked {
+        answer,
+        drained,
+        sight: seat.into_sight(),
+    }
 }

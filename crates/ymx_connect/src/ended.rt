@@ -8,9 +8,9 @@ use ymx_pumps::PumpWhy;
 /// How both pumps ended, and whether all had gone out before.
 #[derive(Clone, Copy, Debug, PartialEq, Eq)]
 pub struct Ended {
-    /// Why the read pump ended: with `End`, `Device`, `Broken` or `NoSeat`.
+    /// Why the read pump ended: with `End`, `Device` or `Broken`.
     pub read: PumpWhy,
-    /// Why the write pump ended: with `End`, `Device` or `NoSeat`.
+    /// Why the write pump ended: with `End` or `Device`.
     pub written: PumpWhy,
     /// How many bytes the session took. The count stays at the greatest `u64`.
     pub read_bytes: u64,

@@ -1,6 +1,7 @@
 //! The two pumps, each in a thread of its own.
 
 ghost use Rattle.std.specs.Prelude.{◌≡◌, ◌<◌, vec_len, false};
+ghost use Rattle.ymx_seats.specs.Views.{IsNewcomer};
 ghost use Rattle.ymx_connect.specs.Pumping.{HasRead, HasWritten};
 
 use crate::off::discard;
@@ -9,10 +10,11 @@ use std::marker::PhantomData;
 use std::snapshot::Snapshot;
 use std::sync::Wait;
 use std::thread::Promise;
-use ymx_hub::{Hub, HubFault as StreamFault, Recorder, Seat};
+use ymx_hub::{Hub, Recorder, Seat};
 use ymx_memory::RefusedAllocation;
 use ymx_model::{Inlet, Outlet};
 use ymx_pumps::{Gate, PumpEnd, PumpWhy, read_and_settle, write_pump};
+use ymx_seats::Sight;
 
 /// Bytes that the read pump reads at once.
 const READ_BUFFER: usize = 262_144;
@@ -29,30 +31,35 @@ pub(crate) struct Buffer {
 
 /// How the read pump ended, as its thread says, and its reader.
 #[derive(Drop)]
-pub(crate) struct PumpedIn<I: Drop> {
+pub(crate) struct PumpedIn<R: Recorder, I: Drop> {
     /// Its reader, behind what it read.
     pub(crate) reader: I,
     /// Why it ended.
     pub(crate) why: PumpWhy,
     /// How many bytes it fed.
     pub(crate) moved: u64,
+    /// What its seat has seen.
+    pub(crate) sight: Sight<R>,
 }
 
 /// How the write pump ended, as its thread says, and its writer.
 #[derive(Drop)]
-pub(crate) struct PumpedOut<O: Drop> {
+pub(crate) struct PumpedOut<R: Recorder, O: Drop> {
     /// Its writer, behind what it wrote.
     pub(crate) writer: O,
     /// Why it ended.
     pub(crate) why: PumpWhy,
     /// How many bytes it wrote.
     pub(crate) moved: u64,
+    /// What its seat has seen.
+    pub(crate) sight: Sight<R>,
 }
 
-/// What the thread of a read pump promises of this reader: it is read on from where it was.
+/// What the thread of a read pump promises of this reader, at a hub of this recorder: it is read on from where it was.
 #[derive(Drop)]
-pub(crate) struct ReadsOn<I> {
+pub(crate) struct ReadsOn<R: Recorder, I> {
     before: Snapshot<I>,
+    kind: PhantomData<R>,
 }
 
 /// What the thread of a write pump promises of this writer, at a hub of this recorder: it is written on from where it was.
@@ -62,13 +69,14 @@ pub(crate) struct WritesOn<R: Recorder, O> {
     kind: PhantomData<R>,
 }
 
-impl<I> ReadsOn<I> {
+impl<R: Recorder, I> ReadsOn<R, I> {
     /// Of this reader.
-    pub(crate) fn of(reader: &I) -> ReadsOn<I>
+    pub(crate) fn of(reader: &I) -> ReadsOn<R, I>
         ensures { result.before.value ≡ reader.now }
     {
         ReadsOn {
             before: Snapshot::of(reader),
+            kind: PhantomData,
         }
     }
 }
@@ -85,16 +93,16 @@ impl<R: Recorder, O> WritesOn<R, O> {
     }
 }
 
-impl<I: Inlet + Drop> Promise<PumpedIn<I>> for ReadsOn<I> {
+impl<R: Recorder, I: Inlet + Drop> Promise<PumpedIn<R, I>> for ReadsOn<R, I> {
     ghost use Rattle.ymx_connect.specs.Pumping.{HasRead};
 
-    ghost kept_by = { λ promise pumped. HasRead (I.failures promise.before.value) (I.failures pumped.reader) (I.remaining promise.before.value) (I.remaining pumped.reader) pumped.moved pumped.why };
+    ghost kept_by = { λ promise pumped. HasRead (I.failures promise.before.value) (I.failures pumped.reader) (I.remaining promise.before.value) (I.remaining pumped.reader) pumped.moved pumped.why pumped.sight };
 }
 
-impl<R: Recorder, O: Outlet + Drop> Promise<PumpedOut<O>> for WritesOn<R, O> {
+impl<R: Recorder, O: Outlet + Drop> Promise<PumpedOut<R, O>> for WritesOn<R, O> {
     ghost use Rattle.ymx_connect.specs.Pumping.{HasWritten};
 
-    ghost kept_by = { λ promise pumped. HasWritten R.WITNESSED R.role R.config (O.failures promise.before.value) (O.failures pumped.writer) (O.contents promise.before.value) (O.contents pumped.writer) (O.is_ended pumped.writer) pumped.moved pumped.why };
+    ghost kept_by = { λ promise pumped. HasWritten R.WITNESSED R.role R.config (O.failures promise.before.value) (O.failures pumped.writer) (O.contents promise.before.value) (O.contents pumped.writer) (O.is_ended pumped.writer) pumped.moved pumped.why pumped.sight };
 }
 
 /// Lets a pump run.
@@ -131,25 +139,19 @@ impl Buffer {
     }
 }
 
-/// Runs the read pump with a seat of its own, until it ends. Behind each read it looks at the streams that were released,
-/// with another seat. `NoSeat` where the hub gives it none, as it has given 4,294,967,295 or has handed its transcript out.
-#[tactic(auto, using(crate::proofs::PumpEnds::has_read, crate::proofs::PumpEnds::read_nothing))]
+/// Runs the read pump at the first seat, until it ends. Behind each read it looks at the streams that were released, at the
+/// second.
 pub(crate) fn pump_from_wire<R: Recorder, W: Wait, I: Inlet + Drop>(
     rt: &W,
     hub: &Hub<R>,
+    seats: (Seat<R>, Seat<R>),
     reader: I,
     buffer: Buffer,
-) -> PumpedIn<I>
-    requires { R.KEEPS ≡ false }
-    ensures { HasRead (I.failures reader) (I.failures result.reader) (I.remaining reader) (I.remaining result.reader) result.moved result.why }
+) -> PumpedIn<R, I>
+    requires off { R.KEEPS ≡ false }
+    requires fresh { IsNewcomer seats.0.number seats.0.seen }
+    ensures { HasRead (I.failures reader) (I.failures result.reader) (I.remaining reader) (I.remaining result.reader) result.moved result.why result.sight }
 {
-    let Ok(seats) = two_seats(rt, hub) else {
-        return PumpedIn {
-            reader,
-            why: PumpWhy::NoSeat,
-            moved: 0,
-        };
-    };
     let Buffer { mut bytes } = buffer;
     let mut reader = reader;
     let (end, settler) = read_and_settle(
@@ -160,47 +162,32 @@ pub(crate) fn pump_from_wire<R: Recorder, W: Wait, I: Inlet + Drop>(
         &mut AlwaysOpen,
         bytes.as_mut_slice(),
     );
-    let PumpEnd { seat, moved, why } = end;
-    discard(seat);
+    let PumpEnd {
+        seat,
+        moved: fed,
+        why,
+    } = end;
     discard(settler);
-    PumpedIn { reader, why, moved }
-}
-
-/// Two seats of a hub.
-fn two_seats<R: Recorder, W: Wait>(
-    rt: &W,
-    hub: &Hub<R>,
-) -> Result<(Seat<R>, Seat<R>), StreamFault> {
-    let one = hub.seat(rt)?;
-    match hub.seat(rt) {
-        Ok(other) => Ok((one, other)),
-        Err(fault) => {
-            discard(one);
-            Err(fault)
-        }
+    PumpedIn {
+        reader,
+        why,
+        moved: fed,
+        sight: seat.into_sight(),
     }
 }
 
-/// Runs the write pump with a seat of its own, until it ends. `NoSeat`, and nothing goes out, where the hub gives it none,
-/// as it has given 4,294,967,295 or has handed its transcript out.
-#[tactic(auto, using(crate::proofs::PumpEnds::has_written, crate::proofs::PumpEnds::written_nothing))]
+/// Runs the write pump at this seat, until it ends.
 pub(crate) fn pump_to_wire<R: Recorder, W: Wait, O: Outlet + Drop>(
     rt: &W,
     hub: &Hub<R>,
+    seat: Seat<R>,
     writer: O,
     buffer: Buffer,
-) -> PumpedOut<O>
-    requires { R.KEEPS ≡ false }
-    ensures { HasWritten R.WITNESSED R.role R.config (O.failures writer) (O.failures result.writer) (O.contents writer) (O.contents result.writer) (O.is_ended result.writer) result.moved result.why }
+) -> PumpedOut<R, O>
+    requires off { R.KEEPS ≡ false }
+    requires fresh { IsNewcomer seat.number seat.seen }
+    ensures { HasWritten R.WITNESSED R.role R.config (O.failures writer) (O.failures result.writer) (O.contents writer) (O.contents result.writer) (O.is_ended result.writer) result.moved result.why result.sight }
 {
-    let Ok(seat) = hub.seat(rt) else {
-        hub.mute(rt);
-        return PumpedOut {
-            writer,
-            why: PumpWhy::NoSeat,
-            moved: 0,
-        };
-    };
     let Buffer { mut bytes } = buffer;
     let mut writer = writer;
     let end = write_pump(
@@ -212,6 +199,10 @@ pub(crate) fn pump_to_wire<R: Recorder, W: Wait, O: Outlet + Drop>(
         bytes.as_mut_slice(),
     );
     let PumpEnd { seat, moved, why } = end;
-    discard(seat);
-    PumpedOut { writer, why, moved }
+    PumpedOut {
+        writer,
+        why,
+        moved,
+        sight: seat.into_sight(),
+    }
 }

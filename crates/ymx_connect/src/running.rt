@@ -2,9 +2,11 @@
 
 ghost use Rattle.std.specs.Prelude.{◌≡◌, false, IfOk};
 ghost use Rattle.std.specs.Fn.{FnOnceReturns};
-ghost use Rattle.ymx_connect.specs.Pumping.{HasRead, HasWritten, HasClosed};
+ghost use Rattle.ymx_seats.specs.Views.{IsNewcomer};
+ghost use Rattle.ymx_connect.specs.Pumping.{HasRead, HasWritten, HasClosed, HaveMet};
 
 use crate::ended::{Connected, Ended};
+use crate::off::discard;
 use crate::pumping::{
     Buffer, PumpedIn, PumpedOut, ReadsOn, WritesOn, pump_from_wire, pump_to_wire,
 };
@@ -16,7 +18,7 @@ use std::thread::Threads;
 use ymx_hub::{Hub, Undrained};
 use ymx_memory::RefusedAllocation;
 use ymx_model::{Inlet, Outlet};
-use ymx_seats::{Recorder, Seat};
+use ymx_seats::{Recorder, Seat, Sight};
 
 /// What both pumps move bytes through.
 #[derive(Drop)]
@@ -34,8 +36,35 @@ impl Buffers {
     }
 }
 
-/// Runs both pumps over a reader and a writer, each in a thread, while a function works in this thread. Once the function
-/// has answered it waits until nothing is due, closes the session by this seat, and waits for both pumps.
+/// The seats of both pumps, and one by which the session is closed where a pump can't run.
+#[derive(Drop)]
+pub(crate) struct PumpSeats<R: Recorder> {
+    pub(crate) alloc: Global,
+    pub(crate) reader: Sight<R>,
+    pub(crate) settler: Sight<R>,
+    pub(crate) writer: Sight<R>,
+    pub(crate) closer: Sight<R>,
+}
+
+/// What the function answered, and how both pumps ended.
+#[derive(Drop)]
+pub(crate) struct Ran<R: Recorder, T: Drop, I: Drop, O: Drop> {
+    pub(crate) answer: T,
+    pub(crate) read: PumpedIn<R, I>,
+    pub(crate) written: PumpedOut<R, O>,
+}
+
+/// What a program did with a session up to its end: what it answered, whether nothing was due before it was closed, and what
+/// its caller has seen.
+#[derive(Drop)]
+pub(crate) struct Worked<R: Recorder, T: Drop> {
+    pub(crate) answer: T,
+    pub(crate) drained: Result<(), Undrained>,
+    pub(crate) sight: Sight<R>,
+}
+
+/// Runs both pumps over a reader and a writer, each in a thread, while a function works in this thread and closes the session
+/// at last. Then it waits for both pumps.
 ///
 /// `RefusedThread`, and the function was not called, where a thread can't be made.
 pub(crate) fn run_beside<
@@ -48,101 +77,128 @@ pub(crate) fn run_beside<
 >(
     rt: &W,
     hub: &Hub<R>,
-    seat: &mut Seat<R>,
+    seats: PumpSeats<R>,
     reader: I,
     writer: O,
     buffers: Buffers,
     work: F,
-) -> Result<Connected<T, I, O>, RefusedThread>
+) -> Result<Ran<R, T, I, O>, RefusedThread>
     requires off { R.KEEPS ≡ false }
+    requires fresh { IsNewcomer seats.reader.number seats.reader.seen × IsNewcomer seats.writer.number seats.writer.seen }
     requires callable { F.IsAlwaysCallable work }
-    ensures answered { IfOk result (λ connected. FnOnceReturns F.FnOnce work tt connected.answer) }
-    ensures drained { IfOk result (λ connected. HasClosed R.WITNESSED R.role R.config connected.ended.drained) }
-    ensures read { IfOk result (λ connected. HasRead (I.failures reader) (I.failures connected.reader) (I.remaining reader) (I.remaining connected.reader) connected.ended.read_bytes connected.ended.read) }
-    ensures wrote { IfOk result (λ connected. HasWritten R.WITNESSED R.role R.config (O.failures writer) (O.failures connected.writer) (O.contents writer) (O.contents connected.writer) (O.is_ended connected.writer) connected.ended.written_bytes connected.ended.written) }
+    ensures answered { IfOk result (λ ran. FnOnceReturns F.FnOnce work tt ran.answer) }
+    ensures read { IfOk result (λ ran. HasRead (I.failures reader) (I.failures ran.read.reader) (I.remaining reader) (I.remaining ran.read.reader) ran.read.moved ran.read.why ran.read.sight) }
+    ensures wrote { IfOk result (λ ran. HasWritten R.WITNESSED R.role R.config (O.failures writer) (O.failures ran.written.writer) (O.contents writer) (O.contents ran.written.writer) (O.is_ended ran.written.writer) ran.written.moved ran.written.why ran.written.sight) }
 {
     let Buffers { into, out_of } = buffers;
+    let PumpSeats {
+        alloc,
+        reader: reading_seat,
+        settler,
+        writer: writing_seat,
+        closer,
+    } = seats;
     thread::scope(
         thread::scope_env(),
         rt,
-        |scope| -> Result<Connected<T, I, O>, RefusedThread>
-            requires { (R.KEEPS ≡ false) × F.IsAlwaysCallable work }
-            ensures answered { IfOk result (λ connected. FnOnceReturns F.FnOnce work tt connected.answer) }
-            ensures drained { IfOk result (λ connected. HasClosed R.WITNESSED R.role R.config connected.ended.drained) }
-            ensures read { IfOk result (λ connected. HasRead (I.failures reader) (I.failures connected.reader) (I.remaining reader) (I.remaining connected.reader) connected.ended.read_bytes connected.ended.read) }
-            ensures wrote { IfOk result (λ connected. HasWritten R.WITNESSED R.role R.config (O.failures writer) (O.failures connected.writer) (O.contents writer) (O.contents connected.writer) (O.is_ended connected.writer) connected.ended.written_bytes connected.ended.written) }
+        |scope| -> Result<Ran<R, T, I, O>, RefusedThread>
+            requires { (R.KEEPS ≡ false) × IsNewcomer reading_seat.number reading_seat.seen × IsNewcomer writing_seat.number writing_seat.seen × F.IsAlwaysCallable work }
+            ensures answered { IfOk result (λ ran. FnOnceReturns F.FnOnce work tt ran.answer) }
+            ensures read { IfOk result (λ ran. HasRead (I.failures reader) (I.failures ran.read.reader) (I.remaining reader) (I.remaining ran.read.reader) ran.read.moved ran.read.why ran.read.sight) }
+            ensures wrote { IfOk result (λ ran. HasWritten R.WITNESSED R.role R.config (O.failures writer) (O.failures ran.written.writer) (O.contents writer) (O.contents ran.written.writer) (O.is_ended ran.written.writer) ran.written.moved ran.written.why ran.written.sight) }
         {
-            let reads_on = ReadsOn::of(&reader);
+            let reads_on = ReadsOn::<R, I>::of(&reader);
             let writes_on = WritesOn::<R, O>::of(&writer);
             let writing = start_with(
                 scope,
                 writes_on,
-                move || -> PumpedOut<O>
-                    requires { R.KEEPS ≡ false }
-                { pump_to_wire(rt, hub, writer, out_of) },
+                move || -> PumpedOut<R, O>
+                    requires { (R.KEEPS ≡ false) × IsNewcomer writing_seat.number writing_seat.seen }
+                { pump_to_wire(rt, hub, writing_seat.into_seat(alloc), writer, out_of) },
             )?;
             let reading = start_with(
                 scope,
                 reads_on,
-                move || -> PumpedIn<I>
-                    requires { R.KEEPS ≡ false }
-                { pump_from_wire(rt, hub, reader, into) },
+                move || -> PumpedIn<R, I>
+                    requires { (R.KEEPS ≡ false) × IsNewcomer reading_seat.number reading_seat.seen }
+                {
+                    let seats = (reading_seat.into_seat(alloc), settler.into_seat(alloc));
+                    pump_from_wire(rt, hub, seats, reader, into)
+                },
             );
             if reading.is_err() {
-                let _ = hub.close(rt, seat);
+                let mut seat = closer.into_seat(alloc);
+                let _ = hub.close(rt, &mut seat);
+                discard(seat);
             }
             let reading = reading?;
             let answer = work();
-            let drained = drain_and_close(rt, hub, seat);
             let written = writing.join(rt);
             let read = reading.join(rt);
-            Ok(connected_by(answer, drained, read, written))
+            Ok(Ran {
+                answer,
+                read,
+                written,
+            })
         },
     )
 }
 
 /// Waits until nothing is due, and then closes the session by this seat. `Undrained` where something was due, and nothing
 /// goes out any more.
-fn drain_and_close<R: Recorder, W: Wait>(
+pub(crate) fn drain_and_close<R: Recorder, W: Wait>(
     rt: &W,
     hub: &Hub<R>,
     seat: &mut Seat<R>,
 ) -> Result<(), Undrained>
     requires { R.KEEPS ≡ false }
-    ensures { HasClosed R.WITNESSED R.role R.config result }
+    ensures { HasClosed R.WITNESSED R.role R.config seat.old seat.new result }
 {
     let drained = hub.drain(rt, seat);
     let _ = hub.close(rt, seat);
     drained
 }
 
-/// What the function answered, whether nothing was due then, how both pumps ended, and their devices.
-fn connected_by<T: Drop, I: Drop, O: Drop>(
-    answer: T,
-    drained: Result<(), Undrained>,
-    read: PumpedIn<I>,
-    written: PumpedOut<O>,
+/// What a function answered behind which the session was closed, how both pumps ended, and their devices. It shows the whole
+/// history to the seats of all three.
+#[tactic(auto, using(crate::proofs::PumpEnds::have_met))]
+pub(crate) fn told_by<R: Recorder, W: Wait, T: Drop, I: Drop, O: Drop>(
+    rt: &W,
+    hub: &Hub<R>,
+    alloc: Global,
+    ran: Ran<R, Worked<R, T>, I, O>,
 ) -> Connected<T, I, O>
-    ensures answer { result.answer ≡ answer }
-    ensures drained { result.ended.drained ≡ drained }
-    ensures devices { (result.reader ≡ read.reader) × (result.writer ≡ written.writer) }
-    ensures read { (result.ended.read ≡ read.why) × (result.ended.read_bytes ≡ read.moved) }
-    ensures written { (result.ended.written ≡ written.why) × (result.ended.written_bytes ≡ written.moved) }
+    ensures met { HaveMet R.WITNESSED R.role R.config ran.answer.sight ran.read.sight ran.written.sight }
+    ensures connected { result ≡ record { answer = ran.answer.answer; ended = record { read = ran.read.why; written = ran.written.why; read_bytes = ran.read.moved; written_bytes = ran.written.moved; drained = ran.answer.drained }; reader = ran.read.reader; writer = ran.written.writer } }
 {
-    let PumpedIn { reader, why, moved } = read;
-    let read = why;
-    let read_bytes = moved;
-    let PumpedOut { writer, why, moved } = written;
+    let Ran {
+        answer: worked,
+        read,
+        written,
+    } = ran;
+    let Worked {
+        answer,
+        drained,
+        sight,
+    } = worked;
+    let mut one = sight.into_seat(alloc);
+    let mut other = read.sight.into_seat(alloc);
+    let mut third = written.sight.into_seat(alloc);
+    hub.meet_three(rt, &mut one, &mut other, &mut third);
+    one.history();
+    discard(one);
+    discard(other);
+    discard(third);
     Connected {
         answer,
         ended: Ended {
-            read,
-            written: why,
-            read_bytes,
-            written_bytes: moved,
+            read: read.why,
+            written: written.why,
+            read_bytes: read.moved,
+            written_bytes: written.moved,
             drained,
         },
-        reader,
-        writer,
+        reader: read.reader,
+        writer: written.writer,
     }
 }

@@ -2,6 +2,7 @@
 
 ghost use Rattle.std.specs.Prelude.{◌≡◌, None, IfOk, IfErr};
 ghost use Rattle.ymx_session.specs.NewSessions.{new_fault};
+ghost use Rattle.ymx_seats.specs.Views.{IsNewcomer};
 ghost use Rattle.ymx_connect.specs.Connecting.{IsConnectFault};
 ghost use Rattle.ymx_connect.specs.Settings.{with_first};
 
@@ -9,18 +10,14 @@ use crate::connect_fault::ConnectFault;
 use std::alloc::Global;
 use std::marker::Model;
 use std::sync::Arc;
-use ymx_hub::Hub;
+use ymx_hub::{FirstSeats, Hub};
 use ymx_memory::RefusedAllocation;
 use ymx_model::{Config, Role};
-use ymx_seats::{Naming, NewJournal, Seat, Witnessed};
+use ymx_seats::{Naming, NewJournal, Witnessed};
 use ymx_session::Session;
 
-/// A hub whose history stands in proofs, and two seats of it.
-pub(crate) type HubWithSeats<J> = (
-    Arc<Hub<Witnessed<J>>, Global>,
-    Seat<Witnessed<J>>,
-    Seat<Witnessed<J>>,
-);
+/// A hub whose history stands in proofs, and its first seats.
+pub(crate) type HubWithSeats<J> = (Arc<Hub<Witnessed<J>>, Global>, FirstSeats<Witnessed<J>>);
 
 /// A session that has done nothing, and its journal, which has no name yet. A contract sees the role and the config of the
 /// session, where 0 as the first own id stands for 1 at a client and 2 at a server, and the journal.
@@ -75,12 +72,14 @@ impl UnnamedSession {
         Hub::<Witnessed<J>>::witnessed(alloc, session, opened)
     }
 
-    /// `hub`, with its first two seats.
+    /// `hub`, with its first seats, none of which has made a call.
     pub(crate) fn hub_with_seats<J: Naming>(
         self,
         alloc: Global,
     ) -> Result<HubWithSeats<J>, RefusedAllocation>
         requires { self ≡ record { role = J.role; config = J.config; table = J.table } }
+        ensures reader { IfOk result (λ made. IsNewcomer made.1.reader.number made.1.reader.seen) }
+        ensures writer { IfOk result (λ made. IsNewcomer made.1.writer.number made.1.writer.seen) }
     {
         let UnnamedSession { session, opened } = self;
         Hub::<Witnessed<J>>::witnessed_with_seats(alloc, session, opened)

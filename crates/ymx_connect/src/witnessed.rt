@@ -1,18 +1,18 @@
 //! One call that runs a session over a connection, whose history stands in proofs.
 
-ghost use Rattle.std.specs.Prelude.{◌≡◌, true, None, IfOk, IfErr};
+ghost use Rattle.std.specs.Prelude.{◌≡◌, true, None, IfSome, IfOk, IfErr};
 ghost use Rattle.std.specs.Fn.{FnOnceReturns};
 ghost use Rattle.ymx_session.specs.NewSessions.{new_fault};
+ghost use Rattle.ymx_seats.specs.Views.{SeatView, IsNewcomer};
 ghost use Rattle.ymx_connect.specs.Connecting.{IsConnectFault, IsSpared};
-ghost use Rattle.ymx_connect.specs.Pumping.{HasRead, HasWritten, HasClosed};
+ghost use Rattle.ymx_connect.specs.Pumping.{HasRead, HasWritten, HasWorked, HasBeenClosed, InOneHistory};
 ghost use Rattle.ymx_connect.specs.Settings.{IsLack, IsPumpFault, with_first};
 
 use crate::caller::Caller;
 use crate::connect_fault::ConnectFault;
 use crate::ended::Connected;
 use crate::handle::Handle;
-use crate::off::discard;
-use crate::running::{Buffers, run_beside};
+use crate::running::{Buffers, PumpSeats, Worked, drain_and_close, run_beside, told_by};
 use crate::tcp::{ConnectionReader, ConnectionWriter};
 use crate::unnamed_session::UnnamedSession;
 use crate::work::Work;
@@ -21,12 +21,13 @@ use std::marker::Brand;
 use std::net::TcpStream;
 use std::sync::Wait;
 use std::thread::Threads;
-use ymx_hub::Hub;
+use ymx_hub::{FirstSeats, Hub};
 use ymx_model::{Config, Inlet, Outlet, Role};
-use ymx_seats::{Naming, Witnessed};
+use ymx_seats::{Naming, Recorder, Seat, Sight, Witnessed};
 
 /// Runs a session over a TCP connection. It is `connect` with this connection as reader and writer, and what is
 /// written goes out at once.
+#[tactic(auto, using(crate::proofs::PumpEnds::worked_within))]
 pub fn connect_tcp<W: Threads + Wait + Sync, T: Drop, K: Work<W, T> + Drop>(
     rt: &W,
     alloc: Global,
@@ -36,9 +37,8 @@ pub fn connect_tcp<W: Threads + Wait + Sync, T: Drop, K: Work<W, T> + Drop>(
     work: K,
 ) -> Result<Connected<T>, ConnectFault>
     ensures may { IfOk result (λ connected. new_fault role config ≡ None) }
-    ensures answered { IfOk result (λ connected. K.Keeps work role (with_first role config) connected.answer) }
-    // Before the session was closed nothing was due; or something was, where the wait for it was in vain.
-    ensures drained { IfOk result (λ connected. HasClosed true role (with_first role config) connected.ended.drained) }
+    // What the work keeps is of a history behind which the session was closed: nothing was due then, or something was in vain.
+    ensures worked { IfOk result (λ connected. (now : SeatView) × HasWorked role (with_first role config) (λ seen. K.Keeps work role (with_first role config) seen connected.answer) connected.ended.drained now) }
     ensures spared { IfOk result (λ connected. IsSpared connected.ended) }
     ensures refused { IfErr result (λ fault. IsConnectFault role config fault) }
 {
@@ -78,12 +78,9 @@ pub fn connect<
     work: K,
 ) -> Result<Connected<T, I, O>, ConnectFault>
     ensures may { IfOk result (λ connected. new_fault role config ≡ None) }
-    ensures answered { IfOk result (λ connected. K.Keeps work role (with_first role config) connected.answer) }
-    // Before the session was closed nothing was due; or something was, where the wait for it was in vain.
-    ensures drained { IfOk result (λ connected. HasClosed true role (with_first role config) connected.ended.drained) }
+    // The work, both pumps and the close of the session, before which nothing was due or something was in vain, stand in one history.
+    ensures told { IfOk result (λ connected. InOneHistory role (with_first role config) (HasWorked role (with_first role config) (λ seen. K.Keeps work role (with_first role config) seen connected.answer) connected.ended.drained) (HasRead (I.failures reader) (I.failures connected.reader) (I.remaining reader) (I.remaining connected.reader) connected.ended.read_bytes connected.ended.read) (HasWritten true role (with_first role config) (O.failures writer) (O.failures connected.writer) (O.contents writer) (O.contents connected.writer) (O.is_ended connected.writer) connected.ended.written_bytes connected.ended.written)) }
     ensures spared { IfOk result (λ connected. IsSpared connected.ended) }
-    ensures read { IfOk result (λ connected. HasRead (I.failures reader) (I.failures connected.reader) (I.remaining reader) (I.remaining connected.reader) connected.ended.read_bytes connected.ended.read) }
-    ensures wrote { IfOk result (λ connected. HasWritten true role (with_first role config) (O.failures writer) (O.failures connected.writer) (O.contents writer) (O.contents connected.writer) (O.is_ended connected.writer) connected.ended.written_bytes connected.ended.written) }
     ensures refused { IfErr result (λ fault. IsConnectFault role config fault) }
 {
     let unnamed = match UnnamedSession::new(alloc, role, config) {
@@ -114,39 +111,63 @@ fn run_named<
     work: K,
 ) -> Result<Connected<T, I, O>, ConnectFault>
     requires { unnamed ≡ record { role = J.role; config = J.config; table = J.table } }
-    ensures answered { IfOk result (λ connected. K.Keeps work J.role J.config connected.answer) }
-    ensures drained { IfOk result (λ connected. HasClosed true J.role J.config connected.ended.drained) }
+    ensures told { IfOk result (λ connected. InOneHistory J.role J.config (HasWorked J.role J.config (λ seen. K.Keeps work J.role J.config seen connected.answer) connected.ended.drained) (HasRead (I.failures reader) (I.failures connected.reader) (I.remaining reader) (I.remaining connected.reader) connected.ended.read_bytes connected.ended.read) (HasWritten true J.role J.config (O.failures writer) (O.failures connected.writer) (O.contents writer) (O.contents connected.writer) (O.is_ended connected.writer) connected.ended.written_bytes connected.ended.written)) }
     ensures spared { IfOk result (λ connected. IsSpared connected.ended) }
-    ensures read { IfOk result (λ connected. HasRead (I.failures reader) (I.failures connected.reader) (I.remaining reader) (I.remaining connected.reader) connected.ended.read_bytes connected.ended.read) }
-    ensures wrote { IfOk result (λ connected. HasWritten true J.role J.config (O.failures writer) (O.failures connected.writer) (O.contents writer) (O.contents connected.writer) (O.is_ended connected.writer) connected.ended.written_bytes connected.ended.written) }
     ensures refused { IfErr result IsLack }
 {
     let buffers = Buffers::new(alloc)?;
-    let (hub, one, mut seat) = unnamed.hub_with_seats::<J>(alloc)?;
-    let mut session = match ymx_memory::share(&hub) {
-        Ok(again) => Caller::new(Handle::over(alloc, again), one),
-        Err(refused) => {
-            discard(one);
-            discard(seat);
-            return Err(ConnectFault::Memory(refused));
-        }
+    let (hub, seats) = unnamed.hub_with_seats::<J>(alloc)?;
+    let FirstSeats {
+        caller,
+        reader: reading_seat,
+        settler,
+        writer: writing_seat,
+        closer,
+    } = seats;
+    let handle = Handle::over(alloc, ymx_memory::share(&hub)?);
+    let seats = PumpSeats {
+        alloc,
+        reader: reading_seat,
+        settler,
+        writer: writing_seat,
+        closer,
     };
-    let connected = run_beside(
+    let hub_lent = &*hub;
+    let ran = run_beside(
         rt,
-        &*hub,
-        &mut seat,
+        hub_lent,
+        seats,
         reader,
         writer,
         buffers,
-        || -> T
-            ensures { K.Keeps work J.role J.config result }
-        { work.run(rt, &mut session) },
+        move || -> Worked<Witnessed<J>, T>
+            ensures { HasWorked J.role J.config (λ seen. K.Keeps work J.role J.config seen result.answer) result.drained result.sight }
+        { work_at(rt, hub_lent, handle, caller.into_seat(alloc), work) },
     );
-    session.leave();
-    discard(seat);
-    match connected {
-        Ok(connected) => Ok(connected),
+    match ran {
+        Ok(ran) => Ok(told_by(rt, hub_lent, alloc, ran)),
         Err(refused) => Err(ConnectFault::NoThread(refused)),
+    }
+}
+
+/// What a program does with a session at this seat. Then it waits until nothing is due, and closes the session.
+fn work_at<J: Naming, W: Wait, T: Drop, K: Work<W, T> + Drop>(
+    rt: &W,
+    hub: &Hub<Witnessed<J>>,
+    handle: Handle<Witnessed<J>>,
+    seat: Seat<Witnessed<J>>,
+    work: K,
+) -> Worked<Witnessed<J>, T>
+    ensures { HasWorked J.role J.config (λ seen. K.Keeps work J.role J.config seen result.answer) result.drained result.sight }
+{
+    let mut session = Caller::new(handle, seat);
+    let answer = work.run(rt, &mut session);
+    let mut seat = session.into_seat();
+    let drained = drain_and_close(rt, hub, &mut seat);
+    Worked {
+        answer,
+        drained,
+        sight: seat.into_sight(),
     }
 }
 
@@ -176,20 +197,82 @@ pub fn pumped<
 ) -> Result<Connected<T, I, O>, ConnectFault>
     requires { F.IsAlwaysCallable work }
     ensures answered { IfOk result (λ connected. FnOnceReturns F.FnOnce work tt connected.answer) }
-    ensures drained { IfOk result (λ connected. HasClosed true J.role J.config connected.ended.drained) }
+    // Both pumps and the close of the session, before which nothing was due or something was in vain, stand in one history.
+    ensures told { IfOk result (λ connected. InOneHistory J.role J.config (HasBeenClosed J.role J.config connected.ended.drained) (HasRead (I.failures reader) (I.failures connected.reader) (I.remaining reader) (I.remaining connected.reader) connected.ended.read_bytes connected.ended.read) (HasWritten true J.role J.config (O.failures writer) (O.failures connected.writer) (O.contents writer) (O.contents connected.writer) (O.is_ended connected.writer) connected.ended.written_bytes connected.ended.written)) }
     ensures spared { IfOk result (λ connected. IsSpared connected.ended) }
-    ensures read { IfOk result (λ connected. HasRead (I.failures reader) (I.failures connected.reader) (I.remaining reader) (I.remaining connected.reader) connected.ended.read_bytes connected.ended.read) }
-    ensures wrote { IfOk result (λ connected. HasWritten true J.role J.config (O.failures writer) (O.failures connected.writer) (O.contents writer) (O.contents connected.writer) (O.is_ended connected.writer) connected.ended.written_bytes connected.ended.written) }
     ensures refused { IfErr result IsPumpFault }
 {
     let buffers = Buffers::new(alloc)?;
-    let Ok(mut seat) = hub.seat(rt) else {
+    let Some((caller, seats)) = five_seats(rt, hub, alloc) else {
         return Err(ConnectFault::NoSeat);
     };
-    let connected = run_beside(rt, hub, &mut seat, reader, writer, buffers, work);
-    discard(seat);
-    match connected {
-        Ok(connected) => Ok(connected),
+    let ran = run_beside(
+        rt,
+        hub,
+        seats,
+        reader,
+        writer,
+        buffers,
+        move || -> Worked<Witnessed<J>, T>
+            requires { F.IsAlwaysCallable work }
+            ensures answered { FnOnceReturns F.FnOnce work tt result.answer }
+            ensures closed { HasBeenClosed J.role J.config result.drained result.sight }
+        { closed_behind(rt, hub, caller.into_seat(alloc), work) },
+    );
+    match ran {
+        Ok(ran) => Ok(told_by(rt, hub, alloc, ran)),
         Err(refused) => Err(ConnectFault::NoThread(refused)),
+    }
+}
+
+/// What a function answered. Behind it this waits until nothing is due, and closes the session by this seat.
+#[tactic(auto, using(crate::proofs::PumpEnds::been_closed))]
+fn closed_behind<J: Naming, W: Wait, T: Drop, F: FnOnce() -> T>(
+    rt: &W,
+    hub: &Hub<Witnessed<J>>,
+    seat: Seat<Witnessed<J>>,
+    work: F,
+) -> Worked<Witnessed<J>, T>
+    requires { F.IsAlwaysCallable work }
+    ensures answered { FnOnceReturns F.FnOnce work tt result.answer }
+    ensures closed { HasBeenClosed J.role J.config result.drained result.sight }
+{
+    let answer = work();
+    let mut seat = seat;
+    let drained = drain_and_close(rt, hub, &mut seat);
+    Worked {
+        answer,
+        drained,
+        sight: seat.into_sight(),
+    }
+}
+
+/// Five new seats of a hub: of who works with it, and of the pumps. `None` where it has not so many.
+fn five_seats<R: Recorder, W: Wait>(
+    rt: &W,
+    hub: &Hub<R>,
+    alloc: Global,
+) -> Option<(Sight<R>, PumpSeats<R>)>
+    ensures reader { IfSome result (λ made. IsNewcomer made.1.reader.number made.1.reader.seen) }
+    ensures writer { IfSome result (λ made. IsNewcomer made.1.writer.number made.1.writer.seen) }
+{
+    let caller = new_sight(rt, hub)?;
+    let seats = PumpSeats {
+        alloc,
+        reader: new_sight(rt, hub)?,
+        settler: new_sight(rt, hub)?,
+        writer: new_sight(rt, hub)?,
+        closer: new_sight(rt, hub)?,
+    };
+    Some((caller, seats))
+}
+
+/// A new seat of a hub, which is let go at once. `None` where it has none.
+fn new_sight<R: Recorder, W: Wait>(rt: &W, hub: &Hub<R>) -> Option<Sight<R>>
+    ensures { IfSome result (λ sight. IsNewcomer sight.number sight.seen) }
+{
+    match hub.seat(rt) {
+        Ok(seat) => Some(seat.into_sight()),
+        Err(_) => None,
     }
 }

@@ -6,6 +6,7 @@ ghost use Rattle.ymx_seats.specs.Views.{IsWitnessed};
 ghost use Rattle.ymx_booked.specs.Answers.{IsNotMemory};
 ghost use Rattle.ymx_booked.specs.Books.{Books, Spends, Closes, to_finish, to_reset};
 ghost use Rattle.ymx_hub.specs.Releasing.{Tends};
+ghost use Rattle.ymx_hub.specs.Shown.{IsShown};
 ghost use Rattle.ymx_hub.specs.Turns.{ReadTurns, EndsIn, WriteTurns};
 
 use crate::hub::Hub;
@@ -95,6 +96,16 @@ impl<R: Recorder> WriteHalf<R> {
         self.seat.history();
     }
 
+    /// Shows the whole history so far to this half and to another seat, as `Hub::meet` does.
+    pub fn meet<W: Wait>(&mut self, rt: &W, other: &mut Seat<R>)
+        ensures same { self.new.id ≡ self.old.id }
+        ensures mine { IsShown self.old.seat self.new.seat }
+        ensures theirs { IsShown other.old other.new }
+        ensures seen { other.new.seen ≡ self.new.seat.seen }
+    {
+        self.hub.meet(rt, &mut self.seat, other);
+    }
+
     /// Writes all bytes, and waits for credit (flow control). At a fault the first `taken` of them were written.
     ///
     /// Refused with `Closed`, with `Reset` where the peer has reset the stream, and with `Lost`, before it waits or
@@ -156,6 +167,16 @@ impl<R: Recorder> ReadHalf<R> {
         ensures { IsWitnessed R.WITNESSED R.role R.config self.now.seat.seen }
     {
         self.seat.history();
+    }
+
+    /// Shows the whole history so far to this half and to another seat, as `Hub::meet` does.
+    pub fn meet<W: Wait>(&mut self, rt: &W, other: &mut Seat<R>)
+        ensures same { self.new.id ≡ self.old.id }
+        ensures mine { IsShown self.old.seat self.new.seat }
+        ensures theirs { IsShown other.old other.new }
+        ensures seen { other.new.seen ≡ self.new.seat.seen }
+    {
+        self.hub.meet(rt, &mut self.seat, other);
     }
 
     /// Waits for bytes, and moves those that are there and fit to the front of the buffer. 0 is the end: the peer

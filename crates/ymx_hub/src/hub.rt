@@ -21,7 +21,7 @@ use std::sync::atomic::AtomicU64;
 use std::sync::{Arc, Mutex, MutexGuard, Wait};
 use ymx_booked::{Booked, EndFault, HubFault};
 use ymx_memory::RefusedAllocation;
-use ymx_seats::{NewJournal, Recorder, Seat, Transcript};
+use ymx_seats::{NewJournal, Recorder, Seat, Sight, Transcript};
 use ymx_session::{Session, Touched};
 
 /// A session under one lock. What its recorder keeps of it is, whenever the lock is free, the history of the session.
@@ -31,6 +31,21 @@ pub struct Hub<R: Recorder> {
     pub(crate) wakeups: Wakeups,
     /// Not 0 where a released stream may have changed.
     pub(crate) unsettled: AtomicU64,
+}
+
+/// The seats of those who run a session by one call, none of which is taken yet.
+#[derive(Drop)]
+pub struct FirstSeats<R: Recorder> {
+    /// Of who works with the session.
+    pub caller: Sight<R>,
+    /// Of the read pump.
+    pub reader: Sight<R>,
+    /// Of the read pump, for the streams that are released.
+    pub settler: Sight<R>,
+    /// Of the write pump.
+    pub writer: Sight<R>,
+    /// Of who closes the session where a pump can't run.
+    pub closer: Sight<R>,
 }
 
 impl<R: Recorder> Hub<R> {
@@ -64,27 +79,25 @@ impl<R: Recorder> Hub<R> {
         Hub::over(alloc, Booked::witnessed(alloc, session, opened))
     }
 
-    /// `witnessed`, with the first two seats of this hub.
+    /// `witnessed`, with the first seats of this hub, none of which has made a call.
     pub fn witnessed_with_seats(
         alloc: Global,
         session: Session,
         opened: NewJournal,
-    ) -> Result<(Arc<Hub<R>>, Seat<R>, Seat<R>), RefusedAllocation>
+    ) -> Result<(Arc<Hub<R>>, FirstSeats<R>), RefusedAllocation>
         requires new { IsNew session }
         requires witnessed { R.WITNESSED ≡ true }
         requires named { opened ≡ R.table }
         requires role { session.role ≡ R.role }
         requires config { config_of session ≡ R.config }
+        ensures reader { IfOk result (λ made. IsNewcomer made.1.reader.number made.1.reader.seen) }
+        ensures writer { IfOk result (λ made. IsNewcomer made.1.writer.number made.1.writer.seen) }
     {
         let mut booked = Booked::witnessed(alloc, session, opened);
-        let (one, other) = first_seats(&mut booked);
+        let seats = first_seats(&mut booked);
         match Hub::over(alloc, booked) {
-            Ok(hub) => Ok((hub, one, other)),
-            Err(refused) => {
-                let _ = one.into_entries();
-                let _ = other.into_entries();
-                Err(refused)
-            }
+            Ok(hub) => Ok((hub, seats)),
+            Err(refused) => Err(refused),
         }
     }
 
@@ -131,6 +144,28 @@ impl<R: Recorder> Hub<R> {
         let mut shared = take_lock(rt, &self.shared);
         shared.booked.show(one);
         shared.booked.show(other);
+    }
+
+    /// `meet`, of three seats.
+    #[tactic(auto, using(crate::proofs::Shown::grown))]
+    pub fn meet_three<W: Wait>(
+        &self,
+        rt: &W,
+        first: &mut Seat<R>,
+        second: &mut Seat<R>,
+        third: &mut Seat<R>,
+    )
+        // Each seat has seen all that it had seen before, and perhaps more; its list stays.
+        ensures first { IsShown first.old first.new }
+        ensures second { IsShown second.old second.new }
+        ensures third { IsShown third.old third.new }
+        // All have then seen the same.
+        ensures same { (first.new.seen ≡ second.new.seen) × (first.new.seen ≡ third.new.seen) }
+    {
+        let mut shared = take_lock(rt, &self.shared);
+        shared.booked.show(first);
+        shared.booked.show(second);
+        shared.booked.show(third);
     }
 
     /// Gives up the lock, and wakes a write pump where something is due now, and nothing was.
@@ -277,17 +312,34 @@ impl<R: Recorder> Hub<R> {
     }
 }
 
-/// The first two seats of what is booked.
-fn first_seats<R: Recorder>(booked: &mut Booked<R>) -> (Seat<R>, Seat<R>)
+/// The first seats of what is booked.
+fn first_seats<R: Recorder>(booked: &mut Booked<R>) -> FirstSeats<R>
     requires { (booked.old.given ≡ 0) × (booked.old.ended ≡ false) }
+    ensures reader { IsNewcomer result.reader.number result.reader.seen }
+    ensures writer { IsNewcomer result.writer.number result.writer.seen }
 {
-    let Ok(one) = booked.seat() else {
+    let Ok(caller) = booked.seat() else {
         unreachable!()
     };
-    let Ok(other) = booked.seat() else {
+    let Ok(reader) = booked.seat() else {
         unreachable!()
     };
-    (one, other)
+    let Ok(settler) = booked.seat() else {
+        unreachable!()
+    };
+    let Ok(writer) = booked.seat() else {
+        unreachable!()
+    };
+    let Ok(closer) = booked.seat() else {
+        unreachable!()
+    };
+    FirstSeats {
+        caller: caller.into_sight(),
+        reader: reader.into_sight(),
+        settler: settler.into_sight(),
+        writer: writer.into_sight(),
+        closer: closer.into_sight(),
+    }
 }
 
 /// Room for the streams that a feed touches, and for those that are released.

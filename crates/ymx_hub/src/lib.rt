@@ -26,7 +26,7 @@ mod write_fault;
 
 pub use acceptor::{Acceptor, accept_at_seat};
 pub use halves::{ReadHalf, WriteHalf};
-pub use hub::Hub;
+pub use hub::{FirstSeats, Hub};
 pub use moving::Turn;
 pub use opener::{Opener, open_at_seat, open_with_at_seat};
 pub use undrained::Undrained;

@@ -4,7 +4,7 @@ use Rattle.std.specs.Io.KnownBytes.{IsAtEnd}
 use Rattle.ymx_machine.specs.shared.Evidence.{evidence}
 use Rattle.ymx_model.specs.devices.Devices.{has_failed}
 use Rattle.ymx_pumps.specs.declared.pump_end.PumpWhy.{PumpWhy}
-use Rattle.ymx_pumps.specs.declared.pump_end.PumpWhy.TheVariants.{End, Device, Broken, Memory, NoThread, NoSeat}
+use Rattle.ymx_pumps.specs.declared.pump_end.PumpWhy.TheVariants.{End, Device, Broken, Memory, NoThread}
 use Rattle.ymx_pumps.specs.Ends.{WriteEnd, WriteEndOrNone, ReadEnd, FeedEnd}
 
 -- what isn't false is true
@@ -35,7 +35,6 @@ read_stopped keeps fails failed remaining has_refused End f = absurd f
 read_stopped keeps fails failed remaining has_refused Device f = absurd f
 read_stopped keeps fails failed remaining has_refused (Broken fault) f = tt
 read_stopped keeps fails failed remaining has_refused NoThread f = absurd f
-read_stopped keeps fails failed remaining has_refused NoSeat f = absurd f
 read_stopped keeps fails failed remaining has_refused _ f = f
 
 -- no call of the reader had failed before the last turn

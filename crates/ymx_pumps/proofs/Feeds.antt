@@ -15,7 +15,7 @@ use Rattle.ymx_memory.specs.declared.refused.RefusedAllocation.{RefusedAllocatio
 use Rattle.ymx_booked.specs.Books.{Books, One, Does}
 use Rattle.ymx_hub.proofs.Booked.{books_same, books_at, books_weaker}
 use Rattle.ymx_pumps.specs.declared.pump_end.PumpWhy.{PumpWhy}
-use Rattle.ymx_pumps.specs.declared.pump_end.PumpWhy.TheVariants.{End, Device, Broken, Memory, Gate, NoThread, NoSeat}
+use Rattle.ymx_pumps.specs.declared.pump_end.PumpWhy.TheVariants.{End, Device, Broken, Memory, Gate, NoThread}
 use Rattle.ymx_pumps.specs.declared.pump_end.Stop.{Stop}
 use Rattle.ymx_pumps.specs.Pumps.{byte_count, IsFeed, AreFeeds, fault_of_feed, fault_of_end, TellsLast, IsLeft, EndsRead, ReadAdds, PumpRead}
 use Rattle.ymx_pumps.specs.Turns.{IsInside, SaysEnd, FeedsTo, FeedsFirst, TurnFed, FedAll, TurnRead}
@@ -92,7 +92,6 @@ inside_left Device last i = absurd i
 inside_left (Broken fault) last i = tt
 inside_left (Memory refused) last i = tt
 inside_left NoThread last i = absurd i
-inside_left NoSeat last i = absurd i
 inside_left Gate last i = tt
 
 inside_ends : (seat : ℕ) (why : PumpWhy) → IsInside why → EndsRead seat why []
@@ -101,7 +100,6 @@ inside_ends seat Device i = absurd i
 inside_ends seat (Broken fault) i = refl
 inside_ends seat (Memory refused) i = refl
 inside_ends seat NoThread i = absurd i
-inside_ends seat NoSeat i = absurd i
 inside_ends seat Gate i = refl
 
 -- a pump that said that its input ended, or had no memory for it, ended with no fault
@@ -116,7 +114,6 @@ none_left Device = refl
 none_left (Broken fault) = tt
 none_left (Memory refused) = tt
 none_left NoThread = tt
-none_left NoSeat = tt
 none_left Gate = tt
 
 -- ---- a feed

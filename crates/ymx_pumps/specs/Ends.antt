@@ -3,7 +3,7 @@ use Rattle.std.specs.Prelude.{◌≡◌, ℕ, List, Bool, true, Option}
 use Rattle.std.specs.Io.KnownBytes.{IsAtEnd}
 use Rattle.ymx_model.specs.devices.Devices.{has_failed}
 use Rattle.ymx_pumps.specs.declared.pump_end.PumpWhy.{PumpWhy}
-use Rattle.ymx_pumps.specs.declared.pump_end.PumpWhy.TheVariants.{End, Device, Broken, Memory, Gate, NoThread, NoSeat}
+use Rattle.ymx_pumps.specs.declared.pump_end.PumpWhy.TheVariants.{End, Device, Broken, Memory, Gate, NoThread}
 
 -- A write pump: no call of the writer failed, and the writer was ended; or one of them failed; or there was no memory, which
 -- only a recorder that keeps needs; or its gate has refused.
@@ -14,7 +14,6 @@ WriteEnd keeps fails failed is_ended has_refused (Broken fault) = ⊥
 WriteEnd keeps fails failed is_ended has_refused (Memory refused) = keeps ≡ true
 WriteEnd keeps fails failed is_ended has_refused Gate = has_refused ≡ true
 WriteEnd keeps fails failed is_ended has_refused NoThread = ⊥
-WriteEnd keeps fails failed is_ended has_refused NoSeat = ⊥
 
 -- A read pump: the reader has nothing left; or a call of it failed; or the session broke; or there was no memory, which only a
 -- recorder that keeps needs; or its gate has refused.
@@ -25,7 +24,6 @@ ReadEnd keeps fails failed remaining has_refused (Broken fault) = Unit {0}
 ReadEnd keeps fails failed remaining has_refused (Memory refused) = keeps ≡ true
 ReadEnd keeps fails failed remaining has_refused Gate = has_refused ≡ true
 ReadEnd keeps fails failed remaining has_refused NoThread = ⊥
-ReadEnd keeps fails failed remaining has_refused NoSeat = ⊥
 
 -- a read pump in its feeds
 abbrev pub FeedEnd : (keeps has_refused : Bool) → PumpWhy → Type 0

@@ -15,7 +15,7 @@ use Rattle.ymx_hub.specs.declared.moving.Turn.TheVariants.{Emitted}
 use Rattle.ymx_hub.specs.Pumped.{EmitsOnce, IsAwake}
 use Rattle.ymx_hub.specs.Shown.{IsShown, BooksShown}
 use Rattle.ymx_pumps.specs.declared.pump_end.PumpWhy.{PumpWhy}
-use Rattle.ymx_pumps.specs.declared.pump_end.PumpWhy.TheVariants.{End, Device, Memory, NoThread, NoSeat}
+use Rattle.ymx_pumps.specs.declared.pump_end.PumpWhy.TheVariants.{End, Device, Memory, NoThread}
 use Rattle.ymx_pumps.specs.declared.pump_end.Stop.{Stop}
 use Rattle.ymx_pumps.specs.Pumps.{AreEmits, WriteAdds, AreFeeds, TellsLast, fault_of_end, IsLeft, ReadAdds}
 
@@ -24,7 +24,6 @@ abbrev pub IsInside : PumpWhy → Type 0
 IsInside End = ⊥
 IsInside Device = ⊥
 IsInside NoThread = ⊥
-IsInside NoSeat = ⊥
 IsInside _ = Unit {0}
 
 -- the end of the input was said, or there was no memory for it

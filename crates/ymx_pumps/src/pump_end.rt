@@ -22,8 +22,6 @@ pub enum PumpWhy {
     Gate,
     /// No thread could be made for the pump, which has done nothing: of the write pump of both alone.
     NoThread,
-    /// The hub had no seat for the pump: of pumps alone that take their seats themselves.
-    NoSeat,
 }
 
 /// The end of a pump.

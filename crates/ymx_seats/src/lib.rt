@@ -21,5 +21,5 @@ pub use journal::{Journal, NewJournal, Witness};
 pub use log::Log;
 pub use plays::{EntryName, Knowledge, Naming};
 pub use recorder::{Full, Off, Recorder, Witnessed};
-pub use seat::{Seat, discard};
+pub use seat::{Seat, Sight, discard};
 pub use transcript::Transcript;

@@ -32,6 +32,40 @@ impl<R: Recorder> Model for Seat<R> {
     ghost invariant = { λ s. IsOf s.number s.witness × IsWitnessed R.WITNESSED R.role R.config (seen_by s.witness) };
 }
 
+/// What is left of a seat that was let go: its number, its start, and the history as it had seen it. It may be dropped, and
+/// taken to another thread, where the seat goes on. A contract sees it as a seat with no entries.
+#[derive(Drop)]
+pub struct Sight<R: Recorder> {
+    number: u32,
+    start: u64,
+    witness: Option<Witness<R>>,
+}
+
+impl<R: Recorder> Model for Sight<R> {
+    ghost use Rattle.std.specs.Prelude.{[]};
+    ghost use Rattle.ymx_seats.specs.Views.{SeatView, seen_by, IsOf, IsWitnessed};
+
+    ghost Value = { SeatView };
+
+    ghost view = { λ s. record { number = s.number; start = s.start; entries = []; room = 0; seen = seen_by s.witness } };
+
+    ghost invariant = { λ s. IsOf s.number s.witness × IsWitnessed R.WITNESSED R.role R.config (seen_by s.witness) };
+}
+
+impl<R: Recorder> Sight<R> {
+    /// The seat goes on, with no entries. Takes no memory.
+    pub fn into_seat(self, alloc: Global) -> Seat<R>
+        ensures { result ≡ self }
+    {
+        let Sight {
+            number,
+            start,
+            witness,
+        } = self;
+        Seat::with_witness(alloc, number, start, witness)
+    }
+}
+
 impl<R: Recorder> Seat<R> {
     ghost use Rattle.ymx_seats.specs.Views.{IsWitnessed, IsOf, seen_by};
 
@@ -47,6 +81,7 @@ impl<R: Recorder> Seat<R> {
         ensures number { result.number ≡ number }
         ensures start { result.start ≡ start }
         ensures empty { result.entries ≡ [] }
+        ensures room { result.room ≡ 0 }
         ensures seen { result.seen ≡ seen_by witness }
     {
         Seat {
@@ -122,6 +157,24 @@ impl<R: Recorder> Seat<R> {
         ensures { result.now ≡ self.now.entries }
     {
         &self.entries
+    }
+
+    /// Lets the seat go, with its entries. What it has seen stays known.
+    pub fn into_sight(self) -> Sight<R>
+        ensures { result ≡ record self { entries = []; room = 0 } }
+    {
+        let Seat {
+            number,
+            start,
+            entries: _,
+            witness,
+            kind: _,
+        } = self;
+        Sight {
+            number,
+            start,
+            witness,
+        }
     }
 
     /// Its entries, moved out.

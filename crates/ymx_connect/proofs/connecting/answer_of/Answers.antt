@@ -2,4 +2,4 @@ use Rattle.std.proofs.Common.{refl}
 use Rattle.ymx_connect.proofs.connecting.answer_of.Goals as goal
 
 pub returns : goal.returns
-returns g c = (_, (_, c.work.ensures, refl))
+returns g c = (_, (_, c.work-answer.ensures, refl))
