@@ -1,7 +1,7 @@
 #!/bin/sh
 # Runs all tests that stand beside `rt ci`, a line each, and what a test that failed has to say. With --no-kit it runs
 # those that need no Rattle kit: of the released program, the library for C, and the documents. With --all it
-# proves and runs the programs of the guide too, tries the wrong bodies, talks to Go's
+# proves and runs the programs of the guide too, packs the release and tries that, tries the wrong bodies, talks to Go's
 # yamux where that stands, makes 10,000 random connections, and kills processes, which takes an hour or more.
 # Ends with 'N passed, M failed'.
 set -eu
@@ -74,6 +74,7 @@ if [ "${1-}" != --no-kit ]; then
 fi
 if [ "${1-}" = --all ]; then
     try 'the programs of the guide' "$root/tests/examples/run.sh"
+    try 'the packages' "$root/tests/release/packages.sh"
     try 'wrong bodies' "$root/tests/wrong_bodies.sh"
     try 'wrong statements' "$root/tests/refused.sh"
     try 'real services' "$root/tests/services/run.sh"

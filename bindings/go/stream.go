@@ -14,35 +14,35 @@ type Stream struct {
 	id      uint32
 	sending sync.Mutex // one Write at a time
 
-	// The session's lock guards all below.
+	// The session's lock guards all below. Those of one byte stand together, so that the whole takes 448.
+	nothing    bool // a read would wait
+	stalled    bool // a write would wait
+	finished   bool // our end is on its way, or out
+	closed     bool
+	isUnacked  bool // the peer has not acknowledged it
+	begins     bool // its first frame is out
+	ends       bool // our end is out
+	isFlushing bool // it is in the session's list of those
+	hasTurn    bool // its Write may have the connection
+
 	readable sync.Cond // something has come, or the end; or a credit is out
 	writable sync.Cond // credit has come, or the end; or bytes are out
 	reading  deadline
 	writing  deadline
 
-	place   []byte // where a Read that waits wants its bytes; nil where none has a seat
-	placed  int    // how many are there
-	nothing bool   // a read would wait
-	stalled bool   // a write would wait
-	rest    []byte // what has come after Close, or before the session ended
-	end     error  // what Read returns behind that, once the library has forgotten the stream; nil before
+	place  []byte // where a Read that waits wants its bytes; nil where none has a seat
+	placed int    // how many are there
+	rest   []byte // what has come after Close, or before the session ended
+	end    error  // what Read returns behind that, once the library has forgotten the stream; nil before
 
-	finished  bool // our end is on its way, or out
-	closed    bool
-	closedAt  time.Time
-	isUnacked bool // the peer has not acknowledged it
-	opening   waiting
-	closing   waiting
+	closedAt time.Time
+	opening  waiting
+	closing  waiting
 
 	waiting int    // bytes of a Write that waits, which the library hasn't taken
 	taken   uint64 // bytes that the library took from Write
 	gone    uint64 // how many of them are out
-	begins  bool   // its first frame is out
-	ends    bool   // our end is out
 	credits uint64 // how many credits are out
-
-	isFlushing bool // it is in the session's list of those
-	hasTurn    bool // its Write may have the connection
 }
 
 func newStream(session *Session, id uint32) *Stream {

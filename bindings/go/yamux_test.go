@@ -276,6 +276,107 @@ func TestReadsAtOnceGetEachByteOnce(t *testing.T) {
 	}
 }
 
+// byteAt is what a stream of the next test carries at that place.
+func byteAt(id uint32, place int) byte { return byte(place*31 + place>>8*7 + int(id)) }
+
+// readAnyhow reads a stream by buffers of any size, with deadlines, and breaks it off now and then. Each byte that comes is the
+// next one, and behind those that Read counts the buffer is as it was.
+func readAnyhow(t *testing.T, stream *Stream, chance *rand.Rand) {
+	defer stream.Close()
+	for place := 0; ; {
+		if chance.Intn(50) == 0 {
+			stream.SetReadDeadline(time.Now().Add(time.Duration(chance.Intn(500)) * time.Microsecond))
+		}
+		buffer := make([]byte, 1+chance.Intn(1<<uint(chance.Intn(18))))
+		count, err := stream.Read(buffer)
+		for number, it := range buffer {
+			if number < count && it != byteAt(stream.id, place+number) || number >= count && it != 0 {
+				t.Errorf("stream %d: another byte at %d, of %d that came behind %d", stream.id, number, count, place)
+				return
+			}
+		}
+		place += count
+		if err == ErrTimeout {
+			stream.SetReadDeadline(time.Time{})
+		} else if err != nil {
+			return
+		}
+		switch chance.Intn(400) {
+		case 0:
+			stream.Reset()
+		case 1:
+			go stream.Close()
+		}
+	}
+}
+
+// writeAnyhow writes a stream by writes of any size, with deadlines, and ends or resets it.
+func writeAnyhow(stream *Stream, chance *rand.Rand) {
+	defer stream.Close()
+	for place, writes := 0, 0; writes < 30; writes++ {
+		block := make([]byte, 1+chance.Intn(1<<uint(chance.Intn(18))))
+		for number := range block {
+			block[number] = byteAt(stream.id, place+number)
+		}
+		if chance.Intn(20) == 0 {
+			stream.SetWriteDeadline(time.Now().Add(time.Duration(chance.Intn(500)) * time.Microsecond))
+		}
+		count, err := stream.Write(block)
+		if err != nil {
+			break // what is left of it may still go out
+		}
+		place += count
+		stream.SetWriteDeadline(time.Time{})
+		if chance.Intn(10) == 0 {
+			time.Sleep(time.Duration(chance.Intn(300)) * time.Microsecond)
+		}
+	}
+	if chance.Intn(3) == 0 {
+		stream.Reset()
+	} else {
+		stream.CloseWrite()
+	}
+	io.Copy(io.Discard, stream)
+}
+
+func TestBytesComeInOrderHoweverTheyAreRead(t *testing.T) {
+	for _, begin := range []func(*testing.T, *Config) (*Session, *Session){overTCP, overTLS, overPipe} {
+		config := quiet()
+		config.StreamCloseTimeout = 200 * time.Millisecond
+		client, server := begin(t, config)
+		go func() {
+			for seed := int64(0); ; seed++ {
+				stream, err := server.AcceptStream()
+				if err != nil {
+					return
+				}
+				go readAnyhow(t, stream, rand.New(rand.NewSource(seed)))
+			}
+		}()
+		until := time.Now().Add(time.Second)
+		var all sync.WaitGroup
+		for writer := int64(0); writer < 40; writer++ {
+			all.Add(1)
+			go func(seed int64) {
+				defer all.Done()
+				for ; time.Now().Before(until); seed += 1000 {
+					stream, err := client.OpenStream()
+					if err != nil {
+						t.Error(err)
+						return
+					}
+					writeAnyhow(stream, rand.New(rand.NewSource(seed)))
+				}
+			}(writer)
+		}
+		all.Wait()
+		await(t, "all streams are gone", func() bool { return client.NumStreams() == 0 && server.NumStreams() == 0 })
+		if client.IsClosed() || server.IsClosed() {
+			t.Fatal("a session is over")
+		}
+	}
+}
+
 func TestCloseWriteGoesOnToRead(t *testing.T) {
 	client, server := overTCP(t, quiet())
 	near, far := pair(t, client, server)
