@@ -112,17 +112,6 @@ def is_served(peer):
     return take(peer, 12) == frame(PING, ACK, 0, 7)
 
 
-def gets_nothing(peer):
-    """It gets no answer now."""
-    peer.setblocking(False)
-    try:
-        peer.recv(1)
-        return False
-    except BlockingIOError:
-        peer.setblocking(True)
-        return True
-
-
 def peers_at_once():
     """Each of 16 has its bytes beside all others, and beside one that is broken off. Connections are numbered through all."""
     program, place, target = remote_kept()
@@ -151,18 +140,20 @@ def peers_at_once():
 
 
 def a_place_for_each():
-    """A further peer waits for a place, and is served once one has gone. One that says nothing hinders nobody else."""
+    """A further peer is closed, and served once one has gone. One that says nothing hinders nobody else."""
     program, place, _ = remote_kept("--peers", "3")
     silent = call(place)
-    peers = [call(place) for _ in range(3)]
+    peers = [call(place) for _ in range(2)]
     assert is_served(peers[0]) and is_served(peers[1])
-    peers[2].sendall(frame(PING, SYN, 0, 7))
     says(program, COME, COME, COME)
-    assert gets_nothing(peers[2]), "there are four"
+    further = call(place)
+    assert has_ended(further), "there are four"
+    says(program, "ymx: closed a peer too many from {}:{}\n".format(*further.getsockname()))
     leave(peers[0])
-    assert take(peers[2], 12) == frame(PING, ACK, 0, 7)
-    assert is_served(peers[1])
-    says(program, GONE, COME)
+    says(program, GONE)
+    peers[0] = call(place)
+    assert is_served(peers[0]) and is_served(peers[1])
+    says(program, COME)
     silent.close()
     says(program, GONE)
 
@@ -277,11 +268,12 @@ def a_peer_that_never_closes():
         pass
     peer.connection.sendall(frame(WINDOW, 0, 1, 1 << 24))
     peer.connection.shutdown(socket.SHUT_WR)
-    following = call(place)
-    assert is_served(following)
     said = program.line()
     assert said.startswith("ymx: connection 1: ") and "(lost)" in said, said
-    says(program, GONE, COME)
+    says(program, GONE)
+    following = call(place)
+    assert is_served(following)
+    says(program, COME)
 
 
 def a_peer_that_breaks_the_rules():
@@ -340,11 +332,6 @@ def many_peers():
 # ---- local
 
 
-def let_close():
-    """One call that failed answers all users who have come: who comes while they are closed is closed with them."""
-    time.sleep(0.5)
-
-
 def a_peer_that_comes_again():
     """It is called again at the next connection. Connections are closed while it isn't there."""
     program, place, user, peer, listener = local_kept("--count", "4")
@@ -357,7 +344,6 @@ def a_peer_that_comes_again():
     listener.close()
     assert is_cut(call(place))
     says(program, refused(address), connection(2, "no stream: Lost"))
-    let_close()
     with listen_again(address) as listener:
         users = [call(place)]
         peer = Peer(accept(listener))
@@ -419,7 +405,6 @@ def no_peer_at_first():
     place = program.place()
     assert is_cut(call(place))
     says(program, refused(address), connection(1, "no stream: Lost"))
-    let_close()
     with listen_again(address) as listener:
         user = call(place)
         peer = Peer(accept(listener))

@@ -19,7 +19,7 @@ import time
 import raw
 from beside import Peer, swap
 from kept import COME, LOST, WHOLE, connection, finish, is_refused, says
-from raw import ANY, BAD, GONE, NOT_HERE, SYN, WINDOW, Program, broke, refused
+from raw import ACK, ANY, BAD, GONE, NOT_HERE, PING, SYN, WINDOW, Program, broke, refused
 from raw import accept, break_off, call, free_place, frame, has_ended, is_cut, leave, listen, preloaded, preloads, take
 
 BYTES = random.Random(11).randbytes(300_000)
@@ -34,7 +34,18 @@ def local_links(count, *words, listen_at=ANY, program=Program):
     words = ("--links", str(count), "--listen", listen_at, "--peer", address, *words)
     program = program("local", "-v", *words)
     links = [Peer(accept(listener)) for _ in range(count)]
+    for link in links:
+        sound(link)
     return program, program.place(), links, listener
+
+
+def sound(link):
+    """Gives the link's first sign of life, for which it asks, and before which it gets no user. Behind two questions of the
+    peer's own it has heard that."""
+    link.turn()
+    for number in 1, 2:
+        link.connection.sendall(frame(PING, SYN, 0, number))
+        assert take(link.connection, 12) == frame(PING, ACK, 0, number)
 
 
 def local_kept(count, *words):

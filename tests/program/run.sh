@@ -166,6 +166,7 @@ holds 'one session after another' python3 -B "$here/kept.py" "$ymx" ${dynamic:+"
 holds 'many links to one peer' python3 -B "$here/links.py" "$ymx" ${dynamic:+"$dynamic" "$scratch/slow_acceptor.so"}
 holds 'the side that calls is the one that serves' python3 -B "$here/calling.py" "$ymx"
 holds 'a peer that is silent' python3 -B "$here/silence.py" "$ymx"
+holds 'peers from elsewhere, and too many' python3 -B "$here/strangers.py" "$ymx"
 holds 'what is cut off' python3 -B "$here/cuts.py" "$ymx"
 holds 'closed standard input, output and error' python3 -B "$here/standard.py" "$outside"
 holds 'signs of life that the system asks for' python3 -B "$here/keepalive.py" "$ymx"

@@ -122,6 +122,8 @@ def bytes_that_are_no_frames(name):
     assert passed >= 2 * PATIENCE - EARLY, f"given up after {passed} seconds"
     if name == "local":
         assert is_cut(user), "he was given a user"
+    if name == "remote":
+        says(sides.program, COME, GONE)
     following = call(sides.bound)
     sides.peer = following
     following.sendall(frame(PING, ACK, 0, question(following)))

@@ -1,5 +1,7 @@
 pub mod Counts
+pub mod Doors
 pub mod Echoes
+pub mod Looks
 pub mod Loops
 pub mod Served
 pub mod Sessions

@@ -54,6 +54,7 @@ close_of s = if s.is_followed then Some (nanoseconds 10) else silence_of s
 -- These are the limits of such a session.
 pub record AreLimitsOf (asked : Session) (limits : Limits) : Type 0 where
   pub silence : option_map as_nanos limits.silence ≡ silence_of asked
+  pub sounded : limits.is_sounded ≡ asked.is_sounded
   pub close : option_map as_nanos limits.close ≡ close_of asked
   pub keepalive : limits.keepalive ≡ asked.keepalive
 

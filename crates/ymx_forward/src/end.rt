@@ -1,28 +1,31 @@
 //! What an end with one session after another asks for, done over sockets.
 
-ghost use Rattle.std.specs.Prelude.{ℕ, List, Option, [], ◌∷◌, ◌≡◌, None, ⊤};
+ghost use Rattle.std.specs.Prelude.{ℕ, List, Option, [], ◌∷◌, ◌≡◌, None, IfOk, ⊤};
 ghost use Rattle.ymx_policy.specs.Past.{Adds};
 ghost use Rattle.ymx_policy.specs.declared.asks.Deed.{Deed as Asked};
 ghost use Rattle.ymx_policy.specs.declared.asks.Happened.{Happened as Heard};
+ghost use Rattle.ymx_policy.specs.declared.asks.Peers.{Peers as Awaiting};
+ghost use Rattle.ymx_forward.specs.Doors.{MayCall, MeetsAdmitted};
 ghost use Rattle.ymx_forward.specs.Served.{IsServed, ServesAsAsked};
 
 use crate::accepting::Listening;
+use crate::doorkeeper::Doorkeeper;
 use crate::host::Host;
 use crate::inbox::Inbox;
 use crate::notices::ProgramWatcher;
 use crate::peer::Peer;
 use crate::site::Site;
-use crate::sockets::{accept, listen_at};
+use crate::sockets::{accept_peer, listen_at};
 use crate::starting::{StartFault, failed};
 use crate::tunnel::Served;
-use crate::tunnel_end::{LISTENER, TunnelEnd};
+use crate::tunnel_end::{LISTENER, PEERS, TunnelEnd};
 use crate::voices::WatcherLines;
 use std::alloc::Global;
-use std::net::{SocketAddrV4, TcpListener};
+use std::net::TcpListener;
 use std::sync::Arc;
 use std::thread;
 use std::time::Duration;
-use ymx_policy::{Callee, Deed, Happened, Session, Users, World};
+use ymx_policy::{Callee, Deed, Happened, Networks, Peers, Session, Users, World};
 
 /// The sockets of an end.
 #[derive(Drop)]
@@ -34,7 +37,11 @@ pub(crate) struct EndSockets<'a, R> {
     /// Its side of the tunnel, once it listens for users, or has had a session.
     end: Option<TunnelEnd>,
     /// Where peers come in, while one is awaited.
-    peers: Option<TcpListener>,
+    listener: Option<TcpListener>,
+    /// The same, once a poll tells of who calls.
+    callers: Option<Listening>,
+    /// Who lets them in.
+    keeper: Doorkeeper,
     /// The peer that is there.
     peer: Option<Peer>,
     /// Where users are brought to a link.
@@ -51,7 +58,9 @@ impl<'a, R: Host> EndSockets<'a, R> {
             alloc,
             site: None,
             end: None,
-            peers: None,
+            listener: None,
+            callers: None,
+            keeper: Doorkeeper::new(Networks::all()),
             peer: None,
             inbox: None,
             served: None,
@@ -69,7 +78,9 @@ impl<'a, R: Host> EndSockets<'a, R> {
             alloc: site.alloc,
             site: Some(site),
             end: Some(end),
-            peers: None,
+            listener: None,
+            callers: None,
+            keeper: Doorkeeper::new(Networks::all()),
             peer: None,
             inbox: Some(inbox),
             served: None,
@@ -77,10 +88,14 @@ impl<'a, R: Host> EndSockets<'a, R> {
     }
 
     /// Listens for the peer.
-    fn listen_for_peer(&mut self, address: SocketAddrV4) -> Happened {
-        match listen_at(self.rt, address) {
+    fn listen_for_peer(&mut self, peers: Peers) -> Happened
+        // Only those are let in that may call.
+        ensures { self.new.keeper.from ≡ peers.from }
+    {
+        self.keeper = Doorkeeper::new(peers.from);
+        match listen_at(self.rt, peers.address) {
             Ok((listener, at)) => {
-                self.peers = Some(listener);
+                self.listener = Some(listener);
                 Happened::Listening(at)
             }
             Err(error) => failed(&error),
@@ -116,7 +131,9 @@ impl<'a, R: Host> EndSockets<'a, R> {
     fn call(&mut self, callee: Callee) -> Happened {
         match Peer::call(self.rt, callee) {
             Ok(peer) => {
-                self.resume();
+                if let Some(inbox) = &self.inbox {
+                    inbox.note_peer(self.rt);
+                }
                 self.peer = Some(peer);
                 Happened::PeerCame
             }
@@ -129,30 +146,54 @@ impl<'a, R: Host> EndSockets<'a, R> {
         }
     }
 
-    /// A link can serve again.
-    fn resume(&self) {
-        if let Some(inbox) = &self.inbox {
-            inbox.resume(self.rt);
+    /// A link can serve again. One whose peer never gave a sign of life is to be spared for a while.
+    fn part(&self, was_heard: bool) {
+        match &self.inbox {
+            Some(inbox) if was_heard => inbox.resume(self.rt),
+            Some(inbox) => inbox.rest(self.rt),
+            None => {}
         }
     }
 
-    /// Waits until the peer calls. With `--keep` users that come meanwhile are closed, and without they wait.
-    fn await_peer<V: ProgramWatcher>(&mut self, watcher: &mut V) -> Happened {
-        let Some(listener) = self.peers.take() else {
-            return Happened::Failed(None);
-        };
-        let met = match (&mut self.end, &mut self.site) {
-            (Some(end), Some(site)) if end.is_kept => end.await_peer(site, listener, watcher),
-            _ => accept(listener)
-                .and_then(Peer::over)
-                .map_err(|error| failed(&error)),
-        };
-        match met {
+    /// Waits until the peer calls, after which nobody listens for it. Who may not call is closed.
+    fn await_peer<V: ProgramWatcher>(&mut self, watcher: &mut V) -> Happened
+        // The peer that came may call from where it does.
+        ensures { MeetsAdmitted self.old.keeper.from self.new.peer result }
+    {
+        match self.meet(watcher) {
             Ok(peer) => {
+                self.listener = None;
+                self.callers = None;
                 self.peer = Some(peer);
                 Happened::PeerCame
             }
-            Err(happened) => happened,
+            Err(Happened::TurnedAway(from)) => Happened::TurnedAway(from),
+            Err(Happened::AllCame) => Happened::AllCame,
+            Err(Happened::NoUsers(why)) => Happened::NoUsers(why),
+            Err(Happened::Failed(why)) => Happened::Failed(why),
+            Err(_) => Happened::Failed(None),
+        }
+    }
+
+    /// The next peer that calls. With `--keep` users that come meanwhile are closed, and without they wait.
+    fn meet<V: ProgramWatcher>(&mut self, watcher: &mut V) -> Result<Peer, Happened>
+        ensures { IfOk result (MayCall self.old.keeper.from) }
+    {
+        let keeper = &mut self.keeper;
+        match (&mut self.end, &mut self.site) {
+            (Some(end), Some(site)) if end.is_kept => {
+                if let Some(listener) = self.listener.take() {
+                    self.callers = Listening::new(listener, None, true, &site.poll, PEERS).ok();
+                }
+                match &mut self.callers {
+                    Some(callers) => end.await_peer(site, callers, keeper, watcher),
+                    None => Err(Happened::Failed(None)),
+                }
+            }
+            _ => match &self.listener {
+                Some(listener) => accept_peer(self.rt, listener, keeper),
+                None => Err(Happened::Failed(None)),
+            },
         }
     }
 
@@ -181,8 +222,9 @@ impl<'a, R: Host> EndSockets<'a, R> {
             _ => return Happened::Failed(None),
         };
         let how = served.end();
+        let was_heard = served.was_heard();
         self.served = Some(served);
-        self.resume();
+        self.part(was_heard);
         Happened::SessionEnded(how)
     }
 
@@ -194,10 +236,13 @@ impl<'a, R: Host> EndSockets<'a, R> {
         Ok(())
     }
 
-    /// Closes the user that waits, if one does.
+    /// Closes the user that waits, if one does. A link gives it back, so that another may serve it.
     fn close_user<V: ProgramWatcher>(&mut self, watcher: &mut V) -> Happened {
         match &mut self.end {
             Some(end) => {
+                if let Some(inbox) = &self.inbox {
+                    end.give_back(self.rt, inbox);
+                }
                 end.refuse_waiting(watcher);
                 end.no_users().unwrap_or(Happened::Done)
             }
@@ -240,9 +285,12 @@ impl<R: Host, V: ProgramWatcher> World<V, WatcherLines> for EndSockets<'_, R> {
         ensures unwritten { let none : Option (List ℕ) = None in let zero : ℕ = 0 in (none ≡ none) × (zero ≡ zero) }
         // A session that ended is the one that was asked for.
         ensures served { ServesAsAsked deed self.new.served result }
+        // A peer that was awaited and came may call from where it does.
+        ensures admitted { deed ≡ Deed.AwaitPeer → MeetsAdmitted self.old.keeper.from self.new.peer result }
+        ensures from { (peers : Awaiting) → deed ≡ Deed.ListenForPeer peers → self.new.keeper.from ≡ peers.from }
     {
         match deed {
-            Deed::ListenForPeer(address) => self.listen_for_peer(address),
+            Deed::ListenForPeer(peers) => self.listen_for_peer(peers),
             Deed::ListenForUsers(users) => self.listen_for_users(users),
             Deed::Call(callee) => self.call(callee),
             Deed::AwaitPeer => self.await_peer(watcher),

@@ -43,8 +43,51 @@ pub(crate) struct Inbox {
     load: AtomicU64,
     /// Ends the wait of the loop.
     waker: Waker,
-    /// Ends the wait of the thread that accepts.
-    acceptor: Arc<Waker, Global>,
+    /// The thread that accepts.
+    acceptor: Arc<Acceptor, Global>,
+}
+
+/// The thread that accepts, as links know it.
+#[derive(Drop)]
+pub(crate) struct Acceptor {
+    /// Ends its wait.
+    waker: Waker,
+    /// Connections that links had no session for, the first that came at the front.
+    returned: Mutex<VecDeque<TcpConnection>>,
+}
+
+impl Acceptor {
+    /// One that this wakes, to which nobody was given back.
+    pub(crate) fn new(alloc: Global, waker: Waker) -> Acceptor {
+        Acceptor {
+            waker,
+            returned: Mutex::new(VecDeque::new(alloc)),
+        }
+    }
+
+    /// Ends its wait.
+    fn wake(&self) {
+        self.waker.wake();
+    }
+
+    /// Gives it a connection back. Where there is no memory for that, the connection comes back.
+    fn give_back<R: Wait>(
+        &self,
+        rt: &R,
+        socket: TcpConnection,
+    ) -> Result<(), AllocFailed<TcpConnection>> {
+        let mut returned = self.returned.lock(rt);
+        returned.push_back(socket)?;
+        drop(returned);
+        self.wake();
+        Ok(())
+    }
+
+    /// Takes the connection that was given back first.
+    pub(crate) fn take<R: Wait>(&self, rt: &R) -> Option<TcpConnection> {
+        let mut returned = self.returned.lock(rt);
+        returned.pop_front()
+    }
 }
 
 /// What was taken from an inbox.
@@ -91,6 +134,8 @@ struct Weight {
 pub(crate) enum Room {
     /// A link is there for it.
     Found,
+    /// All links rest.
+    Resting,
     /// All links are full. One of them wakes the thread that accepts once it has a place.
     Full,
     /// All are full that don't rest. One of them does so, or a rest ends.
@@ -109,11 +154,16 @@ pub(crate) enum NotLeft {
 }
 
 impl Inbox {
-    /// An empty inbox of the loop that the first of these wakes. The other wakes the thread that accepts.
-    pub(crate) fn new(alloc: Global, waker: Waker, acceptor: Arc<Waker, Global>) -> Inbox {
+    /// An empty inbox of the loop that this wakes, for the thread that accepts. Where its link `has_peer`, it has no place for a connection before that has given a sign of life.
+    pub(crate) fn new(
+        alloc: Global,
+        waker: Waker,
+        acceptor: Arc<Acceptor, Global>,
+        has_peer: bool,
+    ) -> Inbox {
         let content = Content {
             waiting: VecDeque::new(alloc),
-            room: ROOM,
+            room: if has_peer { 0 } else { ROOM },
             is_wanted: false,
             is_away: false,
             is_closed: false,
@@ -151,6 +201,28 @@ impl Inbox {
             Some(socket) => Taken::Connection(socket),
             None if content.is_closed => Taken::Closed,
             None => Taken::NotNow,
+        }
+    }
+
+    /// Gives a connection back to the thread that accepts, as the link has no session for it. It comes back where no more come
+    /// to the link, or there is no memory.
+    pub(crate) fn give_back<R: Wait>(
+        &self,
+        rt: &R,
+        socket: TcpConnection,
+    ) -> Result<(), TcpConnection> {
+        let content = self.content.lock(rt);
+        let is_closed = content.is_closed;
+        drop(content);
+        if is_closed {
+            return Err(socket);
+        }
+        match self.acceptor.give_back(rt, socket) {
+            Ok(()) => {
+                self.note_ended();
+                Ok(())
+            }
+            Err(refused) => Err(refused.value),
         }
     }
 
@@ -212,20 +284,25 @@ impl Inbox {
     pub(crate) fn rest<R: Clock + Wait>(&self, rt: &R) {
         let mut stillness = Stillness::new();
         stillness.go_on(rt);
-        self.begin_anew(rt, Some(stillness));
+        self.begin_anew(rt, Some(stillness), ROOM);
     }
 
-    /// The link can serve again.
+    /// The link can serve again, and no longer rests.
     pub(crate) fn resume<R: Wait>(&self, rt: &R) {
-        self.begin_anew(rt, None);
+        self.begin_anew(rt, None, ROOM);
     }
 
-    /// The session of the link is over, and another one is to follow, before which it rests or doesn't.
-    fn begin_anew<R: Wait>(&self, rt: &R, rest: Option<Stillness>) {
+    /// The link has a peer. Before that has given a sign of life it has a place for nobody but who waits.
+    pub(crate) fn note_peer<R: Wait>(&self, rt: &R) {
+        self.begin_anew(rt, None, 0);
+    }
+
+    /// The session of the link is over, or is to begin: it rests or doesn't, and has so many places.
+    fn begin_anew<R: Wait>(&self, rt: &R, rest: Option<Stillness>, places: usize) {
         let mut content = self.content.lock(rt);
         content.rest = rest;
         content.is_away = false;
-        content.room = ROOM.saturating_sub(content.waiting.len());
+        content.room = places.saturating_sub(content.waiting.len());
         let is_wanted = content.is_wanted;
         content.is_wanted = false;
         drop(content);
@@ -291,7 +368,7 @@ fn lightest<'a, R: Clock + Wait>(
     lightest
 }
 
-/// Whether a link is there for one more connection: one that has a place or, where all rest, any.
+/// Whether a link is there for one more connection.
 pub(crate) fn room_of<R: Clock + Wait>(rt: &R, inboxes: &[Arc<Inbox, Global>]) -> Room {
     let mut has_resting = false;
     let mut has_full = false;
@@ -307,7 +384,7 @@ pub(crate) fn room_of<R: Clock + Wait>(rt: &R, inboxes: &[Arc<Inbox, Global>]) -
     match (has_full, has_resting) {
         (true, true) => Room::FullForNow,
         (true, false) => Room::Full,
-        (false, true) => Room::Found,
+        (false, true) => Room::Resting,
         (false, false) => Room::Closed,
     }
 }

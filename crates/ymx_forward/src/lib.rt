@@ -9,6 +9,7 @@
 
 mod accepting;
 mod closing;
+mod doorkeeper;
 mod echoing;
 mod end;
 mod host;

@@ -6,7 +6,7 @@ ghost use Rattle.std.specs.Thread.{IsSend};
 
 use crate::accepting::Listening;
 use crate::host::Host;
-use crate::inbox::{Inbox, NotLeft, Room, close_all, leave_lightest, room_of};
+use crate::inbox::{Acceptor, Inbox, NotLeft, Room, close_all, leave_lightest, room_of};
 use crate::link::{Link, LinkJob, Report};
 use crate::notices::ProgramWatcher;
 use crate::peer::Peer;
@@ -157,8 +157,8 @@ pub(crate) struct LinkSockets<'a, R> {
     site: Site<'a, R>,
     options: LocalOptions,
     starter: Starter,
-    /// Ends the wait of the thread that accepts.
-    acceptor: Arc<Waker, Global>,
+    /// The thread that accepts, as the links know it.
+    acceptor: Arc<Acceptor, Global>,
     /// The peers that were called for links.
     peers: Vec<Peer>,
     /// The links that have no thread yet.
@@ -168,6 +168,8 @@ pub(crate) struct LinkSockets<'a, R> {
     listening: Option<Listening>,
     /// The user that has come, until a link has it.
     user: Option<TcpConnection>,
+    /// A link had no session for it.
+    is_returned: bool,
 }
 
 impl<'a, R: Host> LinkSockets<'a, R> {
@@ -179,7 +181,8 @@ impl<'a, R: Host> LinkSockets<'a, R> {
         starter: Starter,
     ) -> Result<LinkSockets<'a, R>, StartFault> {
         let site = Site::new(rt, alloc)?;
-        let acceptor = Arc::new(alloc, Waker::new(&site.poll, REPORTS)?)?;
+        let waker = Waker::new(&site.poll, REPORTS)?;
+        let acceptor = Arc::new(alloc, Acceptor::new(alloc, waker))?;
         Ok(LinkSockets {
             site,
             options,
@@ -190,6 +193,7 @@ impl<'a, R: Host> LinkSockets<'a, R> {
             inboxes: Vec::new(alloc),
             listening: None,
             user: None,
+            is_returned: false,
         })
     }
 
@@ -234,7 +238,8 @@ impl<'a, R: Host> LinkSockets<'a, R> {
         let poll = Poll::new(self.site.rt, alloc)?;
         let waker = Waker::new(&poll, LISTENER)?;
         let acceptor = Arc::try_clone(&self.acceptor)?;
-        let inbox = Arc::new(alloc, Inbox::new(alloc, waker, acceptor))?;
+        let peer = self.peers.pop();
+        let inbox = Arc::new(alloc, Inbox::new(alloc, waker, acceptor, peer.is_some()))?;
         let end = TunnelEnd::linked(Arc::try_clone(&inbox)?, self.options.is_kept);
         self.inboxes.push(Arc::try_clone(&inbox)?)?;
         let counted = Arc::try_clone(&inbox)?;
@@ -245,7 +250,7 @@ impl<'a, R: Host> LinkSockets<'a, R> {
             inbox,
             counted,
             reported,
-            peer: self.peers.pop(),
+            peer,
         };
         self.links.push(link)?;
         Ok(())
@@ -292,7 +297,12 @@ impl<'a, R: Host> LinkSockets<'a, R> {
             if let Ok(report) = self.starter.reports.try_recv(rt) {
                 return report.happened();
             }
-            if room == Room::Found {
+            if room == Room::Found || room == Room::Resting {
+                if let Some(socket) = self.acceptor.take(rt) {
+                    self.user = Some(socket);
+                    self.is_returned = true;
+                    return PoolHappened::Came;
+                }
                 if let Some(socket) = listening.accept(rt, 0) {
                     self.user = Some(socket);
                     return PoolHappened::Came;
@@ -317,16 +327,23 @@ impl<'a, R: Host> LinkSockets<'a, R> {
         }
     }
 
-    /// Leaves the user that came at the link that has the fewest. Where there is none it is closed.
+    /// Leaves the user that came at the link that has the fewest. Where there is none it is closed, as is one that a link had
+    /// no session for where now all rest.
     fn place<V: Watcher>(&mut self, watcher: &mut V) -> PoolHappened {
         let Some(user) = self.user.take() else {
             return PoolHappened::Done;
         };
+        if self.is_returned {
+            self.is_returned = false;
+            if room_of(self.site.rt, self.inboxes.as_slice()) == Room::Resting {
+                refuse(user, watcher);
+                return PoolHappened::Done;
+            }
+        }
         match leave_lightest(self.site.rt, user, self.inboxes.as_slice()) {
             Ok(()) => PoolHappened::Done,
             Err(NotLeft::Closed(socket)) => {
-                let origin = watcher.begins(&socket);
-                watcher.refused(origin, Declined::BySession(CallFault::Lost));
+                refuse(socket, watcher);
                 PoolHappened::Done
             }
             Err(NotLeft::OutOfMemory(refused)) => {
@@ -337,11 +354,18 @@ impl<'a, R: Host> LinkSockets<'a, R> {
         }
     }
 
-    /// Listens no more, and brings no more users to any link.
-    fn close(&mut self) -> PoolHappened {
+    /// Listens no more, and brings no more users to any link. Those that links had no session for are closed.
+    fn close<V: Watcher>(&mut self, watcher: &mut V) -> PoolHappened {
         self.listening = None;
         close_all(self.site.rt, self.inboxes.as_slice());
-        PoolHappened::Done
+        let rt = self.site.rt;
+        for _ in rt.forever() {
+            match self.acceptor.take(rt) {
+                Some(socket) => refuse(socket, watcher),
+                None => return PoolHappened::Done,
+            }
+        }
+        unreachable!()
     }
 
     /// Lets so many seconds go by.
@@ -349,6 +373,12 @@ impl<'a, R: Host> LinkSockets<'a, R> {
         thread::sleep(self.site.rt, Duration::from_secs(seconds));
         PoolHappened::Done
     }
+}
+
+/// Closes a user for whom there is no session.
+fn refuse<V: Watcher>(socket: TcpConnection, watcher: &mut V) {
+    let origin = watcher.begins(&socket);
+    watcher.refused(origin, Declined::BySession(CallFault::Lost));
 }
 
 /// Why no users come any more.
@@ -371,9 +401,9 @@ impl<R: Host, V: ProgramWatcher> PoolWorld<V, WatcherLines> for LinkSockets<'_, 
             PoolDeed::Call(callee) => self.call(callee),
             PoolDeed::Start(session) => self.begin(session),
             PoolDeed::Await => self.wait(),
-            PoolDeed::AwaitLeaving => self.wait_for_report(),
+            PoolDeed::AwaitLeaving | PoolDeed::RefusePeers => self.wait_for_report(),
             PoolDeed::PlaceUser => self.place(watcher),
-            PoolDeed::CloseLinks => self.close(),
+            PoolDeed::CloseLinks => self.close(watcher),
             PoolDeed::Pause(seconds) => self.pause(seconds),
             PoolDeed::ListenForPeers(_) => PoolHappened::Failed(None),
             PoolDeed::End(_) => PoolHappened::Done,

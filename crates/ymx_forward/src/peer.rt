@@ -1,5 +1,7 @@
 //! The connection to a peer.
 
+ghost use Rattle.std.specs.Prelude.{◌≡◌};
+
 use crate::stream::Stream;
 use crate::system::{TcpConnection, connect, connect_within};
 use std::io;
@@ -11,6 +13,8 @@ use ymx_policy::{Callee, Keepalive};
 #[derive(Drop)]
 pub(crate) struct Peer {
     socket: TcpConnection,
+    /// Where it is, if the system says so.
+    address: Option<SocketAddrV4>,
 }
 
 impl Peer {
@@ -32,17 +36,21 @@ impl Peer {
     /// A peer over this connection, which never waits.
     pub(crate) fn of(socket: TcpConnection) -> Peer {
         socket.send_at_once();
+        let address = match socket.peer() {
+            Some(SocketAddr::V4(address)) => Some(address),
+            _ => None,
+        };
         Peer {
             socket: socket.to_peer(),
+            address,
         }
     }
 
     /// Where it is, if the system says so.
-    pub(crate) fn address(&self) -> Option<SocketAddrV4> {
-        match self.socket.peer() {
-            Some(SocketAddr::V4(address)) => Some(address),
-            _ => None,
-        }
+    pub(crate) fn address(&self) -> Option<SocketAddrV4>
+        ensures { result ≡ self.now.address }
+    {
+        self.address
     }
 
     /// Where nothing comes of it for so long, the system asks whether it is still there.
@@ -59,7 +67,7 @@ impl Peer {
 
     /// Its connection.
     pub(crate) fn into_socket(self) -> TcpConnection {
-        let Peer { socket } = self;
+        let Peer { socket, address: _ } = self;
         socket
     }
 }

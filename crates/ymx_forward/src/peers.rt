@@ -1,12 +1,15 @@
 //! What an end with many peers at once asks for, done over sockets and threads: one thread lets peers in, and each session
 //! has one of its own, which leaves in a channel how it ended.
 
-ghost use Rattle.std.specs.Prelude.{◌≡◌, None};
+ghost use Rattle.std.specs.Prelude.{◌≡◌, ◌≢◌, false, Some, None};
 ghost use Rattle.std.specs.Thread.{IsSend, IsSync};
 ghost use Rattle.ymx_policy.specs.Endings.{EndsAt};
 ghost use Rattle.ymx_policy.specs.Plans.{terms_of};
+ghost use Rattle.ymx_forward.specs.Doors.{LetsAdmittedIn};
+ghost use Rattle.ymx_forward.specs.Looks.{SeesAdmitted};
 
 use crate::accepting::Listening;
+use crate::doorkeeper::{Caller, Doorkeeper};
 use crate::host::Host;
 use crate::notices::ProgramWatcher;
 use crate::peer::Peer;
@@ -26,8 +29,8 @@ use std::thread::Threads;
 use std::time::Duration;
 use std::{io, thread};
 use ymx_policy::{
-    Errors, Lines, Named, Plan, PoolDeed, PoolEnd, PoolHappened, PoolWorld, Reason, Session,
-    SessionEnd, run_pool_to_end,
+    Errors, Lines, Named, Networks, Peers, Plan, PoolDeed, PoolEnd, PoolHappened, PoolWorld,
+    Reason, Session, SessionEnd, run_pool_to_end,
 };
 
 /// The token of the listener.
@@ -74,10 +77,23 @@ struct PeerSockets<'a, R> {
     rt: &'a R,
     entrance: Entrance,
     listening: Option<Listening>,
+    /// Who lets peers in.
+    keeper: Doorkeeper,
     /// The peer that has come, until it has its thread.
     peer: Option<Peer>,
     /// A thread waits to begin.
     is_begun: bool,
+}
+
+/// What a look at who calls says.
+#[derive(Clone, Copy)]
+enum Look {
+    /// This has happened.
+    Happened(PoolHappened),
+    /// Somebody was closed, and others may wait.
+    Closed,
+    /// Nobody calls.
+    Nobody,
 }
 
 /// Where peers come in, and what makes a thread for one: whether that could be done.
@@ -182,6 +198,7 @@ pub(crate) fn run_peers<
                 rt,
                 entrance,
                 listening: None,
+                keeper: Doorkeeper::new(Networks::all()),
                 peer: None,
                 is_begun: false,
             };
@@ -207,51 +224,84 @@ fn run_threads<R: Host, F: FnMut(Peer, Session) -> bool, T, L: Lines<T>, D, E: E
 
 impl<R: Host> PeerSockets<'_, R> {
     /// Listens for peers.
-    fn listen(&mut self, address: SocketAddrV4) -> PoolHappened {
-        match self.open(address) {
+    fn listen(&mut self, peers: Peers) -> PoolHappened
+        // Only those are let in that may call.
+        ensures { self.new.keeper.from ≡ peers.from }
+    {
+        self.keeper = Doorkeeper::new(peers.from);
+        match self.open(peers.address) {
             Ok(at) => PoolHappened::Listening(at),
             Err(fault) => fault.happened_to_pool(),
         }
     }
 
     /// Listens for peers, and answers where.
-    fn open(&mut self, address: SocketAddrV4) -> Result<SocketAddrV4, StartFault> {
+    fn open(&mut self, address: SocketAddrV4) -> Result<SocketAddrV4, StartFault>
+        ensures { self.new.keeper ≡ self.old.keeper }
+    {
         let (listener, at) = listen_at(self.rt, address)?;
         let listening = Listening::new(listener, None, true, &self.entrance.poll, KNOCKS)?;
         self.listening = Some(listening);
         Ok(at)
     }
 
-    /// Waits until a peer comes, or a session ends.
-    fn wait(&mut self) -> PoolHappened {
+    /// Waits until a session ends or, where there is room for it, a peer comes that is let in. Others who call are closed.
+    fn wait(&mut self, has_room: bool) -> PoolHappened
+        // The peer that has come may call from where it does, and there is room for it.
+        ensures admitted { LetsAdmittedIn self.old.keeper.from self.new.peer result }
+        ensures full { has_room ≡ false → result ≢ PoolHappened.Came }
+    {
         for _ in self.rt.forever() {
             if let Ok(how) = self.entrance.ends.try_recv(self.rt) {
                 return PoolHappened::Left(how);
             }
-            if let Some(happened) = self.look() {
-                return happened;
-            }
-            if self.sleep().is_err() {
-                return PoolHappened::NobodyComes(None);
+            match self.look(has_room) {
+                Look::Happened(happened) => return happened,
+                Look::Closed => {}
+                Look::Nobody => {
+                    if self.sleep().is_err() {
+                        return PoolHappened::NobodyComes(None);
+                    }
+                }
             }
         }
         unreachable!()
     }
 
-    /// Lets a peer in that knocks. None where nobody does.
-    fn look(&mut self) -> Option<PoolHappened> {
+    /// Lets a peer in that calls, if it may and there is room for it, or closes it.
+    fn look(&mut self, has_room: bool) -> Look
+        ensures admitted { SeesAdmitted self.old.keeper.from self.new.peer result }
+        ensures full { has_room ≡ false → result ≢ Look.Happened PoolHappened.Came }
+        ensures from { self.new.keeper.from ≡ self.old.keeper.from }
+    {
         let Some(listening) = &mut self.listening else {
-            return Some(PoolHappened::NobodyComes(None));
+            return Look::Happened(PoolHappened::NobodyComes(None));
         };
-        if let Some(socket) = listening.accept(self.rt, 0) {
-            self.peer = Some(Peer::of(socket));
-            return Some(PoolHappened::Came);
+        let Some(socket) = listening.accept(self.rt, 0) else {
+            return match refused(listening) {
+                Some(happened) => Look::Happened(happened),
+                None => Look::Nobody,
+            };
+        };
+        let caller = if has_room {
+            self.keeper.judge(self.rt, socket)
+        } else {
+            self.keeper.close(self.rt, socket)
+        };
+        match caller {
+            Caller::Peer(peer) => {
+                self.peer = Some(peer);
+                Look::Happened(PoolHappened::Came)
+            }
+            Caller::TurnedAway(from) => Look::Happened(PoolHappened::TurnedAway(from)),
+            Caller::Closed => Look::Closed,
         }
-        refused(listening)
     }
 
     /// Waits for who knocks or leaves, and only for a while where one could not be let in.
-    fn sleep(&mut self) -> io::Result<()> {
+    fn sleep(&mut self) -> io::Result<()>
+        ensures { self.new.keeper ≡ self.old.keeper }
+    {
         let is_full = match &self.listening {
             Some(listening) => listening.is_full(),
             None => false,
@@ -284,7 +334,9 @@ impl<R: Host> PeerSockets<'_, R> {
 }
 
 /// Why nobody could be let in: for now, or any more. None where nobody knocks.
-pub(crate) fn refused(listening: &mut Listening) -> Option<PoolHappened> {
+pub(crate) fn refused(listening: &mut Listening) -> Option<PoolHappened>
+    ensures { result ≢ Some PoolHappened.Came }
+{
     let reason = listening.take_refusal();
     if listening.is_over() {
         return Some(PoolHappened::NobodyComes(reason));
@@ -304,7 +356,7 @@ impl<R: Host, T, L: Lines<T>, F: FnMut(Peer, Session) -> bool> PoolWorld<T, L>
     fn perform(&mut self, deed: PoolDeed, _lines: &mut T) -> PoolHappened {
         self.sockets.release();
         match deed {
-            PoolDeed::ListenForPeers(address) => self.sockets.listen(address),
+            PoolDeed::ListenForPeers(peers) => self.sockets.listen(peers),
             PoolDeed::Start(session) => {
                 let Some(peer) = self.sockets.peer.take() else {
                     return PoolHappened::Failed(None);
@@ -316,7 +368,8 @@ impl<R: Host, T, L: Lines<T>, F: FnMut(Peer, Session) -> bool> PoolWorld<T, L>
                     PoolHappened::Failed(Some(Reason::NoThread))
                 }
             }
-            PoolDeed::Await => self.sockets.wait(),
+            PoolDeed::Await => self.sockets.wait(true),
+            PoolDeed::RefusePeers => self.sockets.wait(false),
             PoolDeed::AwaitLeaving => self.sockets.wait_for_leaving(),
             PoolDeed::Pause(seconds) => self.sockets.pause(seconds),
             PoolDeed::ListenForUsers(_) | PoolDeed::Call(_) => PoolHappened::Failed(None),

@@ -322,6 +322,7 @@ fn session_of(side: Side) -> Session {
         window: WINDOW,
         ping: None,
         keepalive: None,
+        is_sounded: false,
         is_followed: false,
     }
 }

@@ -87,7 +87,7 @@ impl Silence {
 
 /// Whether the peer has given a sign of life since so many bytes of it had come: `bytes` have by now, of which this many stand
 /// behind the last whole frame, or a payload is under way.
-fn is_sign(before: u64, bytes: u64, unframed: Option<usize>) -> bool
+pub(crate) fn is_sign(before: u64, bytes: u64, unframed: Option<usize>) -> bool
     ensures { result ≡ is_sign before bytes unframed }
 {
     match unframed {

@@ -1,10 +1,19 @@
 //! Connections and listeners of the system.
 
+ghost use Rattle.std.specs.Prelude.{◌≡◌, IfOk};
+ghost use Rattle.ymx_forward.specs.Doors.{MayCall};
+
+use crate::doorkeeper::{Caller, Doorkeeper};
+use crate::peer::Peer;
+use crate::starting::failed;
 use crate::system;
-use crate::system::{address_of, listen, send_at_once};
+use crate::system::{TcpConnection, address_of, listen, send_at_once};
 use std::io;
 use std::io::ErrorKind;
 use std::net::{Net, SocketAddr, SocketAddrV4, TcpListener, TcpStream};
+use std::sync::Wait;
+use std::time::Clock;
+use ymx_policy::Happened;
 
 /// How often an accept whose connection went away meanwhile is made again in a row.
 const RETRIES: u32 = 1_024;
@@ -32,10 +41,33 @@ pub(crate) fn listen_at<R: Net<Stream = TcpStream, Listener = TcpListener>>(
     Ok((listener, at))
 }
 
-/// Accepts one connection, after which nobody listens.
-pub(crate) fn accept(listener: TcpListener) -> io::Result<TcpStream> {
+/// Waits until a peer calls that is let in, or somebody who is to be told to have been closed.
+pub(crate) fn accept_peer<R: Clock + Wait>(
+    rt: &R,
+    listener: &TcpListener,
+    keeper: &mut Doorkeeper,
+) -> Result<Peer, Happened>
+    ensures from { keeper.new.from ≡ keeper.old.from }
+    // It may call from where it does.
+    ensures admitted { IfOk result (MayCall keeper.old.from) }
+{
+    for _ in rt.forever() {
+        match accept(listener).and_then(TcpConnection::of) {
+            Ok(socket) => match keeper.judge(rt, socket) {
+                Caller::Peer(peer) => return Ok(peer),
+                Caller::TurnedAway(from) => return Err(Happened::TurnedAway(from)),
+                Caller::Closed => {}
+            },
+            Err(error) => return Err(failed(&error)),
+        }
+    }
+    unreachable!()
+}
+
+/// Accepts one connection.
+pub(crate) fn accept(listener: &TcpListener) -> io::Result<TcpStream> {
     for _ in 0..RETRIES {
-        match system::accept(&listener) {
+        match system::accept(listener) {
             Err(e) if e.kind() == ErrorKind::ConnectionAborted => {}
             accepted => return accepted,
         }

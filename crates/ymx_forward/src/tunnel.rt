@@ -11,6 +11,8 @@ ghost use Rattle.ymx_engine.specs.Ways.{is_over};
 ghost use Rattle.ymx_engine.specs.Work.{HasRead, ServesOne, WorksOnce, Writes, has_work};
 ghost use Rattle.ymx_forward.specs.Counts.{CountsOne};
 ghost use Rattle.ymx_forward.specs.Loops.{NeedsEvents, WaitsInNeed, WasLost};
+ghost use Rattle.ymx_forward.specs.Signs.{is_sign};
+ghost use Rattle.ymx_engine.specs.Engines.{unframed};
 ghost use Rattle.ymx_forward.specs.Users.{IsStated, awaits_sign, can_open_later, has_no_place, is_followed, must_wait, user_is_due};
 ghost use Rattle.ymx_forward.specs.Sessions.{IsBegunFor, free_target, has_failed, rule_of};
 ghost use Rattle.ymx_law_session.specs.Limits.{IsWithin};
@@ -20,7 +22,7 @@ ghost use Rattle.ymx_session.specs.NewSessions.{first_id};
 
 use crate::inbox::Places;
 use crate::peer::Peer;
-use crate::silence::{Due, Silence, shorter};
+use crate::silence::{Due, Silence, is_sign, shorter};
 use crate::socket::Socket;
 use crate::stillness::Stillness;
 use crate::stream::Stream;
@@ -104,6 +106,8 @@ pub(crate) struct Served {
     how: SessionEnd,
     /// How its loop came to its end. None where it didn't, or no loop could begin.
     finished: Option<Finished>,
+    /// Its peer gave a sign of life, or wasn't to give one.
+    was_heard: bool,
     ghost ran: { finished ≡ None → (how.is_unwatched || how.lacked_memory) ≡ true },
 }
 
@@ -117,6 +121,7 @@ impl Served {
             session,
             how,
             finished: None,
+            was_heard: false,
         }
     }
 
@@ -126,6 +131,13 @@ impl Served {
     {
         self.how.has_lasted = has_lasted;
         self.how.peer = peer;
+    }
+
+    /// Whether its peer gave a sign of life, or wasn't to give one.
+    pub(crate) fn was_heard(&self) -> bool
+        ensures { result ≡ self.now.was_heard }
+    {
+        self.was_heard
     }
 
     /// How it ended.
@@ -216,6 +228,7 @@ impl<'a> TunnelLoop<'a> {
             session,
             how,
             finished,
+            was_heard: self.is_heard,
         }
     }
 
@@ -267,30 +280,59 @@ impl<'a> TunnelLoop<'a> {
         self.is_to_be_followed() && self.stillness.has_lasted(rt, Duration::from_secs(PATIENCE))
     }
 
-    /// Asks the peer for its first sign of life, if it is to give any.
+    /// Asks the peer for its first sign of life, if it is to give one before it is given users.
     fn begin_silence<R: Clock>(&mut self, rt: &R) -> Option<Silence>
+        ensures runs { Runs self.old.tunnel self.new.tunnel }
+        ensures heard { self.new.is_heard ≡ not self.old.tunnel_end.now.limits.is_sounded }
+    {
+        let is_sounded = self.tunnel_end.limits.is_sounded;
+        let pending = self.ask_first(is_sounded);
+        self.is_heard = !is_sounded;
+        let mut silence = Silence::new(rt, self.tunnel_end.limits.silence)?;
+        silence.pending = pending;
+        Some(silence)
+    }
+
+    /// Asks the peer for a sign, if it `is_sounded` before it is given users.
+    fn ask_first(&mut self, is_sounded: bool) -> Option<u32>
         ensures { Runs self.old.tunnel self.new.tunnel }
     {
-        let silence = Silence::new(rt, self.tunnel_end.limits.silence);
-        self.is_heard = silence.is_none();
-        let mut silence = silence?;
-        silence.pending = self.ping();
-        Some(silence)
+        if is_sounded {
+            return self.ping();
+        }
+        None
+    }
+
+    /// So many bytes have come of the peer: hears whether it has given its first sign of life, behind which there are places
+    /// for users.
+    fn hear_first<R: Wait>(&mut self, rt: &R, pulled: u64)
+        ensures heard { self.new.is_heard ≡ (self.old.is_heard || is_sign 0 pulled (unframed self.old.tunnel.engine)) }
+        ensures same { self.new.tunnel ≡ self.old.tunnel }
+    {
+        if !self.is_heard && is_sign(0, pulled, self.tunnel.unframed()) {
+            self.is_heard = true;
+            self.show_room(rt);
+        }
     }
 
     /// Hears whether the peer is silent: then it is asked for a sign, and given up where none comes. How long it may be
     /// silent yet, or None if for ever.
-    fn hear_silence<R: Clock>(&mut self, rt: &R, silence: &mut Option<Silence>) -> Option<Duration>
+    fn hear_silence<R: Clock + Wait>(
+        &mut self,
+        rt: &R,
+        silence: &mut Option<Silence>,
+    ) -> Option<Duration>
         ensures { Runs self.old.tunnel self.new.tunnel }
     {
-        let Some(silence) = silence else {
-            return None;
-        };
         if self.is_lost() {
             return None;
         }
         let pulled = self.tunnel.wire().pulled();
-        self.is_heard |= silence.hear(rt, pulled, self.tunnel.unframed());
+        self.hear_first(rt, pulled);
+        let Some(silence) = silence else {
+            return None;
+        };
+        let _ = silence.hear(rt, pulled, self.tunnel.unframed());
         match silence.due(rt) {
             Due::In(left) => Some(left),
             Due::Ping => {
@@ -711,7 +753,8 @@ impl<'a> TunnelLoop<'a> {
 
     /// Where another thread brings connections, it is told how many places there are, if that is due.
     fn show_room<R: Wait>(&mut self, rt: &R)
-        ensures { self.new.tunnel ≡ self.old.tunnel }
+        ensures same { self.new.tunnel ≡ self.old.tunnel }
+        ensures heard { self.new.is_heard ≡ self.old.is_heard }
     {
         if self.tunnel_end.owes_room() && !self.is_to_be_followed() {
             let places = self.places();

@@ -1,20 +1,22 @@
 //! One end of a tunnel, through all its sessions.
 
-ghost use Rattle.std.specs.Prelude.{◌≡◌, IfSome};
+ghost use Rattle.std.specs.Prelude.{◌≡◌, IfOk, IfSome, None, is_some};
 ghost use Rattle.ymx_policy.specs.declared.asks.Session.{Session as Asked};
+ghost use Rattle.ymx_forward.specs.Doors.{MayCall};
 ghost use Rattle.ymx_forward.specs.Sessions.{AreLimitsOf, Serves, asked_to_go, goes_to, has_failed};
 ghost use Rattle.ymx_forward.specs.Users.{comes_to, may_wait};
 
 use crate::accepting::Listening;
+use crate::doorkeeper::{Caller, Doorkeeper};
 use crate::inbox::{Inbox, Places};
 use crate::peer::Peer;
 use crate::site::Site;
 use crate::system::TcpConnection;
 use crate::watching::{Declined, Watcher};
 use std::alloc::Global;
-use std::net::{SocketAddr, SocketAddrV4, TcpListener};
+use std::net::{SocketAddr, SocketAddrV4};
 use std::sync::{Arc, Wait};
-use std::time::Duration;
+use std::time::{Clock, Duration};
 use ymx_model::CallFault;
 use ymx_policy::{Happened, Keepalive, Named, Reason, Session, Side as SessionSide};
 
@@ -31,7 +33,7 @@ const WAITING: u32 = 4_096;
 pub(crate) const LISTENER: usize = 1;
 
 /// The token of the listener for peers, which is there while there is no session.
-const PEERS: usize = 2;
+pub(crate) const PEERS: usize = 2;
 
 /// Where connections come from, or where they go to.
 #[derive(Drop)]
@@ -47,6 +49,8 @@ pub(crate) enum Side {
 pub(crate) struct Limits {
     /// After how long a silence the peer is asked for a sign, and then after how long it counts as gone. None if never.
     pub(crate) silence: Option<Duration>,
+    /// The peer is asked for a sign at first, before which no user is given to it.
+    pub(crate) is_sounded: bool,
     /// After how long a silence the connection is closed at the end, though the peer hasn't closed it. None if never.
     pub(crate) close: Option<Duration>,
     /// How the system sees whether the other side of a connection is still there, the peer's and those of users and targets.
@@ -71,6 +75,7 @@ impl Limits {
         };
         Limits {
             silence,
+            is_sounded: session.is_sounded,
             close,
             keepalive: session.keepalive,
         }
@@ -103,6 +108,7 @@ impl TunnelEnd {
             is_kept,
             limits: Limits {
                 silence: None,
+                is_sounded: false,
                 close: None,
                 keepalive: None,
             },
@@ -128,6 +134,7 @@ impl TunnelEnd {
             is_kept: false,
             limits: Limits {
                 silence: None,
+                is_sounded: false,
                 close: None,
                 keepalive: None,
             },
@@ -183,27 +190,31 @@ impl TunnelEnd {
         unreachable!()
     }
 
-    /// Waits, while there is no session, for the next peer at this listener, which is closed then. Connections that come
-    /// meanwhile are closed. At the limit of descriptors it goes on once there is one.
-    pub(crate) fn await_peer<R: Wait, V: Watcher>(
+    /// Waits, while there is no session, until a peer calls that is let in, or somebody who is to be told to have been
+    /// closed. Connections that come meanwhile are closed. At the limit of descriptors it goes on once there is one.
+    pub(crate) fn await_peer<R: Clock + Wait, V: Watcher>(
         &mut self,
         site: &mut Site<'_, R>,
-        listener: TcpListener,
+        peers: &mut Listening,
+        keeper: &mut Doorkeeper,
         watcher: &mut V,
-    ) -> Result<Peer, Happened> {
-        let mut peers = match Listening::new(listener, None, true, &site.poll, PEERS) {
-            Ok(peers) => peers,
-            Err(_) => return Err(Happened::Failed(None)),
-        };
+    ) -> Result<Peer, Happened>
+        ensures from { keeper.new.from ≡ keeper.old.from }
+        // It may call from where it does.
+        ensures admitted { IfOk result (MayCall keeper.old.from) }
+    {
         for _ in site.rt.forever() {
             self.note_all();
             peers.note_event();
             if let Some(socket) = peers.accept(site.rt, 0) {
-                return Ok(Peer::of(socket));
-            }
-            if self.take_waiting(site.rt) {
+                match keeper.judge(site.rt, socket) {
+                    Caller::Peer(peer) => return Ok(peer),
+                    Caller::TurnedAway(from) => return Err(Happened::TurnedAway(from)),
+                    Caller::Closed => {}
+                }
+            } else if self.take_waiting(site.rt) {
                 self.refuse_waiting(watcher);
-            } else if let Some(end) = self.end_of_wait(&mut peers) {
+            } else if let Some(end) = self.end_of_wait(peers) {
                 return Err(end);
             } else if site.wait(self.is_full() || peers.is_full()).is_err() {
                 return Err(Happened::Failed(None));
@@ -275,7 +286,9 @@ impl TunnelEnd {
     }
 
     /// Accepts a connection that the next session is to serve. False if none waits.
-    fn take_waiting<R: Wait>(&mut self, rt: &R) -> bool {
+    fn take_waiting<R: Wait>(&mut self, rt: &R) -> bool
+        ensures { result ≡ is_some self.new.waiting }
+    {
         if self.waiting.is_none() {
             if let Side::Local(listening) = &mut self.side {
                 self.waiting = listening.accept(rt, 0);
@@ -285,22 +298,36 @@ impl TunnelEnd {
     }
 
     /// Closes the connection that waits for a session, if one does, as there is none to be had.
-    pub(crate) fn refuse_waiting<V: Watcher>(&mut self, watcher: &mut V) {
+    pub(crate) fn refuse_waiting<V: Watcher>(&mut self, watcher: &mut V)
+        ensures { self.new.waiting ≡ None }
+    {
         if let Some(socket) = self.waiting.take() {
             let origin = watcher.begins(&socket);
             watcher.refused(origin, Declined::BySession(CallFault::Lost));
         }
     }
 
-    /// Closes the connection that waits for a session, and all others that have come and wait, as there is none to be had.
-    pub(crate) fn refuse_all_waiting<R: Wait, V: Watcher>(&mut self, rt: &R, watcher: &mut V) {
-        self.note_all();
-        'refused: for _ in 0..WAITING {
-            self.refuse_waiting(watcher);
-            if !self.take_waiting(rt) {
-                return;
-            }
+    /// Gives the connection that waits for a session back to who accepts for many links, so that another has it.
+    pub(crate) fn give_back<R: Wait>(&mut self, rt: &R, inbox: &Inbox) {
+        if let Some(socket) = self.waiting.take() {
+            self.waiting = inbox.give_back(rt, socket).err();
         }
+    }
+
+    /// Closes the connection that waits for a session, and all others that have come and wait, as there is none to be had.
+    /// The one that came first is the last: so none is closed that comes because it was.
+    pub(crate) fn refuse_all_waiting<R: Wait, V: Watcher>(&mut self, rt: &R, watcher: &mut V)
+        ensures { self.new.waiting ≡ None }
+    {
+        self.note_all();
+        let first = self.waiting.take();
+        'refused: for _ in 0..WAITING {
+            if !self.take_waiting(rt) {
+                break 'refused;
+            }
+            self.refuse_waiting(watcher);
+        }
+        self.waiting = first;
         self.refuse_waiting(watcher);
     }
 

@@ -1,6 +1,6 @@
 -- A good end of a pool says that nothing went wrong in any session.
 use Rattle.std.specs.Prelude.{is_some}
-use Rattle.std.proofs.Common.{◌≡◌, ◌&&◌, ◌||◌, ◌-◌, ℕ, List, [], ◌∷◌, Bool, true, false, Option, None, Some, refl, ap, sym, ◌∙◌, subst, arith}
+use Rattle.std.proofs.Common.{◌≡◌, ◌&&◌, ◌||◌, ◌-◌, ℕ, List, Bool, true, false, Option, None, refl, sym, ◌∙◌, arith}
 use Rattle.std.specs.declared.net.socket_addr.SocketAddrV4.{SocketAddrV4}
 use Rattle.ymx_policy.specs.declared.plan.Terms.{Terms}
 use Rattle.ymx_policy.specs.declared.reason.Reason.{Reason}
@@ -8,18 +8,17 @@ use Rattle.ymx_policy.specs.declared.asks.Fault.{Fault}
 use Rattle.ymx_policy.specs.declared.asks.Words.{Words}
 use Rattle.ymx_policy.specs.declared.asks.Notice.{Notice}
 use Rattle.ymx_policy.specs.declared.asks.SessionEnd.{SessionEnd}
-use Rattle.ymx_policy.specs.declared.asks.PoolDeed.{PoolDeed}
 use Rattle.ymx_policy.specs.declared.asks.PoolDeed.TheVariants as deed
 use Rattle.ymx_policy.specs.declared.asks.PoolAsk.{PoolAsk}
 use Rattle.ymx_policy.specs.declared.asks.PoolHappened.{PoolHappened}
-use Rattle.ymx_policy.specs.declared.asks.PoolHappened.TheVariants.{Listening, Failed, LackedMemory, Came, Delayed, AllCame, NobodyComes, NoLinks, Started, Left, Met}
+use Rattle.ymx_policy.specs.declared.asks.PoolHappened.TheVariants.{Listening, Failed, LackedMemory, Came, Delayed, TurnedAway, AllCame, NobodyComes, NoLinks, Started, Left, Met}
 use Rattle.ymx_policy.specs.declared.pool.PoolStage.{PoolStage}
 use Rattle.ymx_policy.specs.declared.pool.PoolStage.TheVariants as stage
 use Rattle.ymx_policy.specs.declared.pool.Pool.{Pool}
 use Rattle.ymx_policy.specs.declared.asks.Named.TheVariants as option
 use Rattle.ymx_policy.specs.Table.{cannot_meet, first_fault, refusal, silence}
-use Rattle.ymx_policy.specs.PoolTable.{after_at, after_calling, after_last, after_no_thread, after_opening, after_peers, after_placing, after_starting, after_users, after_waiting, asked, after, behind_start, both, clean, deed_at, ending_at, fresh, has_links, heeds, leaving, let_in, listening, meets, one_more, rests, settles_at, shuts, unlinked}
-use Rattle.ymx_policy.specs.PoolPast.{IsPast, asks, is_end, pool_of}
+use Rattle.ymx_policy.specs.PoolTable.{after_at, after_calling, after_last, after_no_thread, after_opening, after_peers, after_placing, after_starting, after_users, after_waiting, asked, behind_start, both, clean, deed_at, ending_at, has_links, heeds, leaving, let_in, listening, meets, one_more, rests, settles_at, shuts, unlinked}
+use Rattle.ymx_policy.specs.PoolPast.{IsPast, asks, pool_of}
 use Rattle.ymx_policy.specs.Laws.{is_clean}
 use Rattle.ymx_policy.specs.PoolLaws.{all_clean, clean_after}
 use Rattle.ymx_policy.proofs.PoolKeeping.{keeps}
@@ -110,6 +109,7 @@ is_heard_well other = true
 waiting_fine : (links : Bool) (t : Terms) (p : Pool) (h : PoolHappened) → IsFine (after_waiting links t p h) → IsFine p × (is_heard_well h ≡ true)
 waiting_fine links t p Came f = (f, refl)
 waiting_fine links t p (Delayed why) f = (f, refl)
+waiting_fine links t p (TurnedAway from) f = (f, refl)
 waiting_fine links t p (Left how) f =
     heeds_fine t.goes_on t (record p { running = p.running - 1 }) (leaving links t.goes_on) None how (settles_fine _ t (heeds t.goes_on t (record p { running = p.running - 1 }) (leaving links t.goes_on) None how) f)
 waiting_fine links t p (Met m why) f = absurd (meets_bad t.goes_on p m why f)
@@ -119,27 +119,30 @@ placing_fine : (t : Terms) (p : Pool) (h : PoolHappened) → IsFine (after_placi
 placing_fine t p LackedMemory f = (heeds_fine t.goes_on t p silence None (record clean { lacked_memory = true }) f).0
 placing_fine t p other f = f
 
-waiting_clean : (room : Bool) (t : Terms) (peers : SocketAddrV4) (bad : Bool) (h : PoolHappened) (before : Bool) → before ≡ true → is_heard_well h ≡ true → clean_after (deed_at stage.Waiting t room peers bad) h before ≡ true
-waiting_clean true t peers bad (Left how) before e w = rw (e, w) refl
-waiting_clean true t peers bad (Met f why) before e w = cc
-waiting_clean true t peers bad other before e w = e
-waiting_clean false t peers bad (Left how) before e w = rw (e, w) refl
-waiting_clean false t peers bad (Met f why) before e w = cc
-waiting_clean false t peers bad other before e w = e
+waiting_clean : (room shut : Bool) (t : Terms) (peers : SocketAddrV4) (bad : Bool) (h : PoolHappened) (before : Bool) → before ≡ true → is_heard_well h ≡ true → clean_after (deed_at stage.Waiting t room shut peers bad) h before ≡ true
+waiting_clean true shut t peers bad (Left how) before e w = rw (e, w) refl
+waiting_clean true shut t peers bad (Met f why) before e w = cc
+waiting_clean true shut t peers bad other before e w = e
+waiting_clean false true t peers bad (Left how) before e w = rw (e, w) refl
+waiting_clean false true t peers bad (Met f why) before e w = cc
+waiting_clean false true t peers bad other before e w = e
+waiting_clean false false t peers bad (Left how) before e w = rw (e, w) refl
+waiting_clean false false t peers bad (Met f why) before e w = cc
+waiting_clean false false t peers bad other before e w = e
 
 opening_clean : (links : Bool) (t : Terms) (peers : SocketAddrV4) (h : PoolHappened) (before : Bool) → clean_after (listening links t peers) h before ≡ before
 opening_clean true t peers h before = refl
 opening_clean false t peers h before = refl
 
-fine_at : (at : PoolStage) (t : Terms) (p : Pool) (h : PoolHappened) (room bad before : Bool) → (IsFine p → before ≡ true) → IsFine (after_at at t p h) → clean_after (deed_at at t room p.peers bad) h before ≡ true
-fine_at stage.Calling t p h room bad before e f = e (calling_fine t p h f)
-fine_at stage.Opening t p h room bad before e f = opening_clean (has_links t.role) t p.peers h before ∙ e (opening_fine (has_links t.role) t p h f)
-fine_at stage.Starting t p h room bad before e f = e (starting_fine (has_links t.role) t p h f)
-fine_at stage.Waiting t p h room bad before e f = let w = waiting_fine (has_links t.role) t p h f in waiting_clean room t p.peers bad h before (e w.0) w.1
-fine_at stage.Placing t p h room bad before e f = e (placing_fine t p h f)
-fine_at stage.Closing t p h room bad before e f = e (settles_fine _ t (record p { words = silence; is_shut = true }) f)
-fine_at stage.Resting t p h room bad before e f = e (settles_fine _ t (record p { words = silence }) f)
-fine_at stage.Over t p h room bad before e f = e f
+fine_at : (at : PoolStage) (t : Terms) (p : Pool) (h : PoolHappened) (room shut bad before : Bool) → (IsFine p → before ≡ true) → IsFine (after_at at t p h) → clean_after (deed_at at t room shut p.peers bad) h before ≡ true
+fine_at stage.Calling t p h room shut bad before e f = e (calling_fine t p h f)
+fine_at stage.Opening t p h room shut bad before e f = opening_clean (has_links t.role) t p.peers h before ∙ e (opening_fine (has_links t.role) t p h f)
+fine_at stage.Starting t p h room shut bad before e f = e (starting_fine (has_links t.role) t p h f)
+fine_at stage.Waiting t p h room shut bad before e f = let w = waiting_fine (has_links t.role) t p h f in waiting_clean room shut t p.peers bad h before (e w.0) w.1
+fine_at stage.Placing t p h room shut bad before e f = e (placing_fine t p h f)
+fine_at stage.Closing t p h room shut bad before e f = e (settles_fine _ t (record p { words = silence; is_shut = true }) f)
+fine_at stage.Resting t p h room shut bad before e f = e (settles_fine _ t (record p { words = silence }) f)
+fine_at stage.Over t p h room shut bad before e f = e f
 
 -- ---- where it ends with no fault said, none is gathered
 
@@ -199,6 +202,7 @@ meets_ends false p m why w o f = cc
 waiting_ends : (links : Bool) (t : Terms) (p : Pool) (h : PoolHappened) → p.stage ≡ stage.Waiting → EndsFine (after_waiting links t p h)
 waiting_ends links t p Came w o f = absurd (comes_in links _ o)
 waiting_ends links t p (Delayed why) w o f = cc
+waiting_ends links t p (TurnedAway from) w o f = cc
 waiting_ends links t p (Left how) w o f = settles_ends _ t (heeds t.goes_on t (record p { running = p.running - 1 }) (leaving links t.goes_on) None how) o f
 waiting_ends links t p (Met m why) w o f = meets_ends t.goes_on p m why w o f
 waiting_ends links t p other w o f = last_ends links t p other o f
@@ -225,7 +229,7 @@ record IsWell (t : Terms) (past : List (PoolAsk × PoolHappened)) (p : Pool) : T
 
 well : (t : Terms) (past : List (PoolAsk × PoolHappened)) → IsPast t past → IsWell t past (pool_of t past)
 well t = keeps t (λ past p. IsWell t past p) (record { fine = λ f. refl; ends = λ o f. refl })
-    (λ past p h goes w. record { fine = λ f. fine_at p.stage t p h _ _ (all_clean past) w.fine f; ends = ends_at p.stage t p h refl w.ends })
+    (λ past p h goes w. record { fine = λ f. fine_at p.stage t p h _ _ _ (all_clean past) w.fine f; ends = ends_at p.stage t p h refl w.ends })
 
 at_end : (t : Terms) (p : Pool) → (asked t p).deed ≡ deed.End 0 → (p.stage ≡ stage.Over) × (p.has_faulted ≡ false)
 at_end t p a = grind arith

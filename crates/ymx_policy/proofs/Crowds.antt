@@ -1,19 +1,17 @@
 -- How many sessions a pool has, and what a good end of one says.
-use Rattle.std.specs.Prelude.{is_some, nat_lt}
-use Rattle.std.proofs.Common.{◌≡◌, ◌≢◌, ◌≤◌, ◌<◌, ◌&&◌, ◌||◌, ◌-◌, ℕ, zero, suc, List, [], ◌∷◌, Bool, true, false, Option, None, Some, refl, ap, sym, ◌∙◌, subst, arith}
+use Rattle.std.proofs.Common.{◌≡◌, ◌≤◌, ◌<◌, ◌||◌, ◌-◌, ℕ, suc, List, Bool, true, false, Option, None, refl, ap, sym, ◌∙◌, arith}
+use Rattle.std.proofs.lemmas.Bool.Decides.{nat_tests}
 use Rattle.std.specs.declared.net.socket_addr.SocketAddrV4.{SocketAddrV4}
-use Rattle.ymx_policy.specs.declared.plan.Role.TheVariants.{LocalCalls, RemoteAwaits}
 use Rattle.ymx_policy.specs.declared.plan.Terms.{Terms}
 use Rattle.ymx_policy.specs.declared.asks.Fault.{Fault}
 use Rattle.ymx_policy.specs.declared.asks.Words.{Words}
 use Rattle.ymx_policy.specs.declared.asks.Notice.{Notice}
 use Rattle.ymx_policy.specs.declared.asks.Users.{Users}
 use Rattle.ymx_policy.specs.declared.asks.SessionEnd.{SessionEnd}
-use Rattle.ymx_policy.specs.declared.asks.PoolDeed.{PoolDeed}
 use Rattle.ymx_policy.specs.declared.asks.PoolDeed.TheVariants as deed
 use Rattle.ymx_policy.specs.declared.asks.PoolAsk.{PoolAsk}
 use Rattle.ymx_policy.specs.declared.asks.PoolHappened.{PoolHappened}
-use Rattle.ymx_policy.specs.declared.asks.PoolHappened.TheVariants.{Failed, LackedMemory, Came, Delayed, AllCame, NobodyComes, NoLinks, Started, Left, Met}
+use Rattle.ymx_policy.specs.declared.asks.PoolHappened.TheVariants.{Failed, LackedMemory, Came, Delayed, TurnedAway, AllCame, NobodyComes, NoLinks, Started, Left, Met}
 use Rattle.ymx_policy.specs.declared.reason.Reason.{Reason}
 use Rattle.ymx_policy.specs.declared.asks.Named.TheVariants as option
 use Rattle.ymx_policy.specs.declared.pool.PoolStage.{PoolStage}
@@ -21,9 +19,8 @@ use Rattle.ymx_policy.specs.declared.pool.PoolStage.TheVariants as stage
 use Rattle.ymx_policy.specs.declared.pool.Pool.{Pool}
 use Rattle.ymx_policy.specs.Table.{refusal, silence}
 use Rattle.ymx_policy.specs.PoolTable.{after_at, after_calling, after_last, after_no_thread, after_opening, after_peers, after_placing, after_starting, after_users, after_waiting, clean, deed_at, fresh, asked, after, has_links, heeds, leaving, listening, meets, one_more, rests, shuts, unlinked}
-use Rattle.ymx_policy.specs.PoolPast.{IsPast, asks, is_end, pool_of}
-use Rattle.ymx_policy.specs.Laws.{is_clean}
-use Rattle.ymx_policy.specs.PoolLaws.{all_clean, called, called_after, clean_after, has_served, running, running_after, served_after, started, started_after}
+use Rattle.ymx_policy.specs.PoolPast.{IsPast, asks, pool_of}
+use Rattle.ymx_policy.specs.PoolLaws.{called, called_after, running, running_after}
 use Rattle.ymx_policy.proofs.PoolKeeping.{keeps}
 
 -- ---- how many run
@@ -103,33 +100,36 @@ waiting_running : (links : Bool) (t : Terms) (p : Pool) (h : PoolHappened) → (
 unfolding left_one
 waiting_running links t p Came = refl
 waiting_running links t p (Delayed why) = refl
+waiting_running links t p (TurnedAway from) = refl
 waiting_running links t p (Left how) = heeds_running t.goes_on t (record p { running = p.running - 1 }) (leaving links t.goes_on) None how
 waiting_running links t p (Met f why) = meets_running t.goes_on p f why
 waiting_running links t p other = last_running links t p other
 
-waiting_count : (room : Bool) (t : Terms) (peers : SocketAddrV4) (bad : Bool) (h : PoolHappened) (n : ℕ) → running_after (deed_at stage.Waiting t room peers bad) h n ≡ left_one h n
+waiting_count : (room shut : Bool) (t : Terms) (peers : SocketAddrV4) (bad : Bool) (h : PoolHappened) (n : ℕ) → running_after (deed_at stage.Waiting t room shut peers bad) h n ≡ left_one h n
 unfolding left_one
-waiting_count true t peers bad (Left how) n = refl
-waiting_count true t peers bad other n = refl
-waiting_count false t peers bad (Left how) n = refl
-waiting_count false t peers bad other n = refl
+waiting_count true shut t peers bad (Left how) n = refl
+waiting_count true shut t peers bad other n = refl
+waiting_count false true t peers bad (Left how) n = refl
+waiting_count false true t peers bad other n = refl
+waiting_count false false t peers bad (Left how) n = refl
+waiting_count false false t peers bad other n = refl
 
 placing_running : (t : Terms) (p : Pool) (h : PoolHappened) → (after_placing t p h).running ≡ p.running
 placing_running t p LackedMemory = heeds_running t.goes_on t p silence None (record clean { lacked_memory = true })
 placing_running t p other = refl
 
-running_at : (at : PoolStage) (t : Terms) (p : Pool) (h : PoolHappened) (room bad : Bool) → has_place at p.running t.places → (after_at at t p h).running ≡ running_after (deed_at at t room p.peers bad) h p.running
-running_at stage.Calling t p h room bad e = calling_running t p h
-running_at stage.Opening t p h room bad e = opening_running (has_links t.role) t p h ∙ sym (opening_count (has_links t.role) t p.peers h p.running)
-running_at stage.Starting t p h room bad e = starting_running (has_links t.role) t p h e
-running_at stage.Waiting t p h room bad e = waiting_running (has_links t.role) t p h ∙ sym (waiting_count room t p.peers bad h p.running)
-running_at stage.Placing t p h room bad e = placing_running t p h
-running_at stage.Closing t p h room bad e = refl
-running_at stage.Resting t p h room bad e = refl
-running_at stage.Over t p h room bad e = refl
+running_at : (at : PoolStage) (t : Terms) (p : Pool) (h : PoolHappened) (room shut bad : Bool) → has_place at p.running t.places → (after_at at t p h).running ≡ running_after (deed_at at t room shut p.peers bad) h p.running
+running_at stage.Calling t p h room shut bad e = calling_running t p h
+running_at stage.Opening t p h room shut bad e = opening_running (has_links t.role) t p h ∙ sym (opening_count (has_links t.role) t p.peers h p.running)
+running_at stage.Starting t p h room shut bad e = starting_running (has_links t.role) t p h e
+running_at stage.Waiting t p h room shut bad e = waiting_running (has_links t.role) t p h ∙ sym (waiting_count room shut t p.peers bad h p.running)
+running_at stage.Placing t p h room shut bad e = placing_running t p h
+running_at stage.Closing t p h room shut bad e = refl
+running_at stage.Resting t p h room shut bad e = refl
+running_at stage.Over t p h room shut bad e = refl
 
 count_step : (t : Terms) (p : Pool) (h : PoolHappened) (n : ℕ) → has_place p.stage p.running t.places → p.running ≡ n → (after t p h).running ≡ running_after (asked t p).deed h n
-count_step t p h n r e = running_at p.stage t p h _ _ r ∙ ap (running_after (asked t p).deed h) e
+count_step t p h n r e = running_at p.stage t p h _ _ _ r ∙ ap (running_after (asked t p).deed h) e
 
 record IsCounted (t : Terms) (past : List (PoolAsk × PoolHappened)) (p : Pool) : Type 0 where
   place : has_place p.stage p.running t.places
@@ -144,6 +144,18 @@ few_in t p n r e = grind arith
 
 pub few : (t : Terms) (past : List (PoolAsk × PoolHappened)) → 0 < t.places → IsPast t past → running past ≤ t.places
 few t past some valid = let c = counted t past some valid in few_in t (pool_of t past) (running past) c.place c.count
+
+full_at : (t : Terms) (p : Pool) (n : ℕ) → (asked t p).deed ≡ deed.RefusePeers → has_place p.stage p.running t.places → p.running ≡ n → n ≡ t.places
+full_at t p n a b e = grind (arith, nat_tests)
+
+pub full : (t : Terms) (past : List (PoolAsk × PoolHappened)) → 0 < t.places → IsPast t past → (asks t past).deed ≡ deed.RefusePeers → running past ≡ t.places
+full t past some valid a = let c = counted t past some valid in full_at t (pool_of t past) (running past) a c.place c.count
+
+free_at : (t : Terms) (p : Pool) (n : ℕ) → has_links t.role ≡ false → (asked t p).deed ≡ deed.Await → p.running ≡ n → n < t.places
+free_at t p n l a e = grind (arith, nat_tests)
+
+pub free : (t : Terms) (past : List (PoolAsk × PoolHappened)) → 0 < t.places → has_links t.role ≡ false → IsPast t past → (asks t past).deed ≡ deed.Await → running past < t.places
+free t past some l valid a = let c = counted t past some valid in free_at t (pool_of t past) (running past) l a c.count
 
 empty_end : (t : Terms) (p : Pool) (n m : ℕ) → (asked t p).deed ≡ deed.End n → has_place p.stage p.running t.places → p.running ≡ m → m ≡ 0
 empty_end t p n m a b e = grind arith

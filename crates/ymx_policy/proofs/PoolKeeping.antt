@@ -1,12 +1,11 @@
 -- What holds of a pool at each moment.
 use Rattle.std.specs.Prelude.{is_some}
-use Rattle.std.proofs.Common.{◌≡◌, ◌≤◌, ◌<◌, ◌&&◌, ◌||◌, ◌-◌, ℕ, zero, suc, List, [], ◌∷◌, Bool, true, false, Option, None, Some, refl, ap, sym, ◌∙◌, subst, arith}
-use Rattle.ymx_policy.specs.declared.plan.Role.TheVariants.{LocalCalls, RemoteAwaits}
+use Rattle.std.proofs.Common.{◌≡◌, ◌||◌, ◌-◌, ℕ, List, [], ◌∷◌, Bool, true, false, Option, None, Some, refl, ap, sym, ◌∙◌, subst, arith}
+use Rattle.ymx_policy.specs.declared.plan.Role.TheVariants.{RemoteAwaits}
 use Rattle.ymx_policy.specs.declared.plan.Terms.{Terms}
 use Rattle.ymx_policy.specs.declared.asks.Fault.{Fault}
 use Rattle.ymx_policy.specs.declared.asks.SessionEnd.{SessionEnd}
 use Rattle.ymx_policy.specs.declared.asks.Words.{Words}
-use Rattle.ymx_policy.specs.declared.asks.PoolDeed.{PoolDeed}
 use Rattle.ymx_policy.specs.declared.asks.PoolDeed.TheVariants as deed
 use Rattle.ymx_policy.specs.declared.asks.PoolAsk.{PoolAsk}
 use Rattle.ymx_policy.specs.declared.asks.PoolHappened.{PoolHappened}
@@ -15,10 +14,11 @@ use Rattle.ymx_policy.specs.declared.pool.PoolStage.TheVariants as stage
 use Rattle.ymx_policy.specs.declared.pool.Pool.{Pool}
 use Rattle.ymx_policy.specs.declared.reason.Reason.{Reason}
 use Rattle.ymx_policy.specs.declared.asks.Named.TheVariants as option
-use Rattle.ymx_policy.specs.declared.asks.PoolHappened.TheVariants.{Listening, Failed, LackedMemory, Came, Delayed, AllCame, NobodyComes, NoLinks, Started, Left, Met, Done}
+use Rattle.ymx_policy.specs.declared.asks.PoolHappened.TheVariants.{Failed, LackedMemory, Came, Delayed, TurnedAway, AllCame, NobodyComes, NoLinks, Started, Left, Met}
 use Rattle.ymx_policy.specs.declared.asks.Notice.{Notice}
 use Rattle.ymx_policy.specs.Table.{refusal, silence}
-use Rattle.ymx_policy.specs.PoolTable.{after_at, after_calling, after_last, after_no_thread, after_opening, after_peers, after_placing, after_starting, after_users, after_waiting, clean, deed_at, fresh, asked, after, has_links, heeds, leaving, left, meets, rests, settles, settles_at, shuts, unlinked, waits}
+use Rattle.std.specs.declared.net.socket_addr.SocketAddrV4.{SocketAddrV4}
+use Rattle.ymx_policy.specs.PoolTable.{goes, has_room, turned_away, after_at, after_calling, after_last, after_no_thread, after_opening, after_peers, after_placing, after_starting, after_users, after_waiting, clean, deed_at, fresh, asked, after, has_links, heeds, leaving, left, meets, rests, settles, settles_at, shuts, unlinked, waits}
 use Rattle.ymx_policy.specs.Past.{then_said, then_told, with}
 use Rattle.ymx_policy.specs.PoolPast.{IsPast, asks, faults, is_end, notices, pool_of}
 use Rattle.ymx_policy.specs.Laws.{is_some_fault, status_of}
@@ -122,9 +122,14 @@ last_marks : (links : Bool) (t : Terms) (p : Pool) (h : PoolHappened) (fs : List
 last_marks true t p h fs e = users_marks t p h fs e
 last_marks false t p h fs e = peers_marks t p h fs e
 
+turned_marks : (room : Bool) (p : Pool) (from : Option SocketAddrV4) (fs : List Fault) → p.has_faulted ≡ is_some_fault fs → IsMarked (goes p stage.Waiting (turned_away room from)) fs
+turned_marks true p from fs e = e
+turned_marks false p from fs e = e
+
 waiting_marks : (links : Bool) (t : Terms) (p : Pool) (h : PoolHappened) (fs : List Fault) → p.has_faulted ≡ is_some_fault fs → IsMarked (after_waiting links t p h) fs
 waiting_marks links t p Came fs e = e
 waiting_marks links t p (Delayed why) fs e = e
+waiting_marks links t p (TurnedAway from) fs e = turned_marks (has_room links p.running t.places p.is_shut) p from fs e
 waiting_marks links t p (Left how) fs e = left_marks links t p how fs e
 waiting_marks links t p (Met f why) fs e = meets_marks t.goes_on p f why fs e
 waiting_marks links t p other fs e = last_marks links t p other fs e
@@ -134,18 +139,18 @@ placing_marks t p LackedMemory fs e =
     marks (waits (heeds t.goes_on t p silence None (record clean { lacked_memory = true }))) fs (heeds_end t.goes_on t p silence None (record clean { lacked_memory = true }) refl) (heeds_marks t.goes_on t p silence None (record clean { lacked_memory = true }) fs refl e)
 placing_marks t p other fs e = e
 
-marked_at : (at : PoolStage) (t : Terms) (p : Pool) (h : PoolHappened) (room bad : Bool) (fs : List Fault) → is_end (deed_at at t room p.peers bad) ≡ false → p.has_faulted ≡ is_some_fault fs → IsMarked (after_at at t p h) fs
-marked_at stage.Calling t p h room bad fs goes e = calling_marks t p h fs e
-marked_at stage.Opening t p h room bad fs goes e = opening_marks (has_links t.role) t p h fs e
-marked_at stage.Starting t p h room bad fs goes e = starting_marks (has_links t.role) t p h fs e
-marked_at stage.Waiting t p h room bad fs goes e = waiting_marks (has_links t.role) t p h fs e
-marked_at stage.Placing t p h room bad fs goes e = placing_marks t p h fs e
-marked_at stage.Closing t p h room bad fs goes e = settles_marks t (record p { words = silence; is_shut = true }) fs e
-marked_at stage.Resting t p h room bad fs goes e = settles_marks t (record p { words = silence }) fs e
-marked_at stage.Over t p h room bad fs goes e = cc
+marked_at : (at : PoolStage) (t : Terms) (p : Pool) (h : PoolHappened) (room shut bad : Bool) (fs : List Fault) → is_end (deed_at at t room shut p.peers bad) ≡ false → p.has_faulted ≡ is_some_fault fs → IsMarked (after_at at t p h) fs
+marked_at stage.Calling t p h room shut bad fs goes e = calling_marks t p h fs e
+marked_at stage.Opening t p h room shut bad fs goes e = opening_marks (has_links t.role) t p h fs e
+marked_at stage.Starting t p h room shut bad fs goes e = starting_marks (has_links t.role) t p h fs e
+marked_at stage.Waiting t p h room shut bad fs goes e = waiting_marks (has_links t.role) t p h fs e
+marked_at stage.Placing t p h room shut bad fs goes e = placing_marks t p h fs e
+marked_at stage.Closing t p h room shut bad fs goes e = settles_marks t (record p { words = silence; is_shut = true }) fs e
+marked_at stage.Resting t p h room shut bad fs goes e = settles_marks t (record p { words = silence }) fs e
+marked_at stage.Over t p h room shut bad fs goes e = cc
 
 faulted_step : (t : Terms) (p : Pool) (h : PoolHappened) (fs : List Fault) → is_end (asked t p).deed ≡ false → p.has_faulted ≡ is_some_fault fs → (after t p h).has_faulted ≡ is_some_fault (then_said (after t p h).words fs)
-faulted_step t p h fs goes e = marked_at p.stage t p h _ _ fs goes e
+faulted_step t p h fs goes e = marked_at p.stage t p h _ _ _ fs goes e
 
 has_faulted : (t : Terms) (past : List (PoolAsk × PoolHappened)) → IsPast t past → (pool_of t past).has_faulted ≡ is_some_fault (said_now past (pool_of t past))
 has_faulted t = keeps t (λ past p. p.has_faulted ≡ is_some_fault (said_now past p)) refl (λ past p h goes e. faulted_step t p h (said_now past p) goes e)

@@ -1,6 +1,5 @@
 -- A reason is told by a pool with its fault, and only so.
-use Rattle.std.specs.Prelude.{is_some}
-use Rattle.std.proofs.Common.{◌≡◌, ◌||◌, ◌-◌, ℕ, List, [], ◌∷◌, Bool, true, false, Option, None, Some, refl, ap, sym, ◌∙◌, subst, arith}
+use Rattle.std.proofs.Common.{◌≡◌, ◌||◌, ◌-◌, List, [], ◌∷◌, Bool, true, false, Option, None, refl, sym, subst, arith}
 use Rattle.ymx_policy.specs.declared.plan.Terms.{Terms}
 use Rattle.ymx_policy.specs.declared.reason.Reason.{Reason}
 use Rattle.ymx_policy.specs.declared.asks.Fault.{Fault}
@@ -11,13 +10,14 @@ use Rattle.ymx_policy.specs.declared.asks.Named.TheVariants as option
 use Rattle.ymx_policy.specs.declared.asks.PoolDeed.TheVariants as deed
 use Rattle.ymx_policy.specs.declared.asks.PoolAsk.{PoolAsk}
 use Rattle.ymx_policy.specs.declared.asks.PoolHappened.{PoolHappened}
-use Rattle.ymx_policy.specs.declared.asks.PoolHappened.TheVariants.{Came, Delayed, Failed, Left, LackedMemory, Met, NobodyComes, NoLinks, AllCame, Started}
+use Rattle.ymx_policy.specs.declared.asks.PoolHappened.TheVariants.{Came, Delayed, TurnedAway, Failed, Left, LackedMemory, Met, NobodyComes, NoLinks, AllCame, Started}
 use Rattle.ymx_policy.specs.declared.pool.PoolStage.{PoolStage}
 use Rattle.ymx_policy.specs.declared.pool.PoolStage.TheVariants as stage
 use Rattle.ymx_policy.specs.declared.pool.Pool.{Pool}
 use Rattle.ymx_policy.specs.Table.{cannot_meet, first_fault, first_reason, refusal, silence}
-use Rattle.ymx_policy.specs.PoolTable.{after_at, after_calling, after_last, after_no_thread, after_opening, after_peers, after_placing, after_starting, after_users, after_waiting, asked, after, cause_at, clean, deed_at, ending_at, has_links, heeds, leaving, meets, rests, settles, settles_at, shuts, shuts_for, unlinked, waits}
-use Rattle.ymx_policy.specs.PoolPast.{IsPast, asks, faults, is_end, notices, pool_of}
+use Rattle.std.specs.declared.net.socket_addr.SocketAddrV4.{SocketAddrV4}
+use Rattle.ymx_policy.specs.PoolTable.{has_room, turned_away, after_at, after_calling, after_last, after_no_thread, after_opening, after_peers, after_placing, after_starting, after_users, after_waiting, cause_at, clean, ending_at, has_links, heeds, leaving, meets, rests, settles_at, shuts, unlinked}
+use Rattle.ymx_policy.specs.PoolPast.{IsPast, asks, faults, notices, pool_of}
 use Rattle.ymx_policy.specs.Past.{then_said, then_told}
 use Rattle.ymx_policy.proofs.PoolKeeping.{keeps, said}
 use Rattle.ymx_policy.proofs.ReasonsTold.{IsMute, no_reason, none_said, unsaid, untold}
@@ -98,9 +98,14 @@ last_mute : (links : Bool) (t : Terms) (p : Pool) (h : PoolHappened) → IsMute 
 last_mute true t p h = users_mute t p h
 last_mute false t p h = peers_mute t p h
 
+turned_mute : (room : Bool) (from : Option SocketAddrV4) → IsMute (turned_away room from)
+turned_mute true from = record { reason = λ e. refl; cause = λ e. refl }
+turned_mute false from = record { reason = λ e. refl; cause = λ e. refl }
+
 waiting_mute : (links : Bool) (t : Terms) (p : Pool) (h : PoolHappened) → IsMute (after_waiting links t p h).words
 waiting_mute links t p Came = record { reason = λ e. refl; cause = λ e. refl }
 waiting_mute links t p (Delayed why) = record { reason = λ e. refl; cause = λ e. refl }
+waiting_mute links t p (TurnedAway from) = turned_mute (has_room links p.running t.places p.is_shut) from
 waiting_mute links t p (Left how) =
     let q : Pool = record p { running = p.running - 1 } in
     settles_mute _ t (heeds t.goes_on t q (leaving links t.goes_on) None how) (heeds_even t.goes_on t q (leaving links t.goes_on) None how (leaving_even links t.goes_on)).0

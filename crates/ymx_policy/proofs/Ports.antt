@@ -1,13 +1,13 @@
 -- Who is there, and what comes first: users, peers, and what ends an end.
-use Rattle.std.proofs.Common.{◌≡◌, ◌≢◌, ◌||◌, ℕ, List, [], ◌∷◌, Bool, true, false, refl, sym, ◌∙◌, arith}
+use Rattle.std.proofs.Common.{◌≡◌, ◌≢◌, ◌||◌, ℕ, List, Bool, true, false, refl, ◌∙◌, arith}
 use Rattle.std.specs.declared.net.socket_addr.SocketAddrV4.{SocketAddrV4}
 use Rattle.ymx_policy.specs.declared.plan.Role.{Role}
-use Rattle.ymx_policy.specs.declared.plan.Role.TheVariants.{LocalCalls, LocalAwaits, Link, RemoteCalls}
+use Rattle.ymx_policy.specs.declared.plan.Role.TheVariants.{LocalCalls, LocalAwaits, RemoteCalls}
 use Rattle.ymx_policy.specs.declared.plan.Terms.{Terms}
+use Rattle.ymx_policy.specs.declared.asks.Peers.{Peers}
 use Rattle.ymx_policy.specs.declared.asks.Session.{Session}
 use Rattle.ymx_policy.specs.declared.asks.Users.{Users}
 use Rattle.ymx_policy.specs.declared.asks.Callee.{Callee}
-use Rattle.ymx_policy.specs.declared.asks.Deed.{Deed}
 use Rattle.ymx_policy.specs.declared.asks.Deed.TheVariants as deed
 use Rattle.ymx_policy.specs.declared.asks.Ask.{Ask}
 use Rattle.ymx_policy.specs.declared.asks.Happened.{Happened}
@@ -15,7 +15,7 @@ use Rattle.ymx_policy.specs.declared.state.Stage.{Stage}
 use Rattle.ymx_policy.specs.declared.state.Stage.TheVariants as stage
 use Rattle.ymx_policy.specs.declared.state.State.{State}
 use Rattle.ymx_policy.specs.Machine.{fresh, asked, after}
-use Rattle.ymx_policy.specs.Past.{IsPast, asks, is_end, state_of}
+use Rattle.ymx_policy.specs.Past.{IsPast, asks, state_of}
 use Rattle.ymx_policy.specs.Laws.{has_opened, has_peer, is_local, listened, opens, peer_after, peers_of}
 use Rattle.ymx_policy.proofs.Keeping.{keeps}
 
@@ -129,8 +129,8 @@ peers_step t s h peers e = grind arith
 pub met_at : (t : Terms) (past : List (Ask × Happened)) → IsPast t past → (state_of t past).peers ≡ peers_of t past
 met_at t = keeps t (λ past s. s.peers ≡ peers_of t past) refl (λ past s h goes e. peers_step t s h (peers_of t past) e)
 
-at_peers : (t : Terms) (s : State) (peers : SocketAddrV4) → (asked t s).deed ≡ deed.ListenForPeer peers → peers ≡ s.peers
+at_peers : (t : Terms) (s : State) (peers : Peers) → (asked t s).deed ≡ deed.ListenForPeer peers → (peers.address ≡ s.peers) × (peers.from ≡ t.from)
 at_peers t s peers a = grind arith
 
-pub awaits_there : (t : Terms) (past : List (Ask × Happened)) (peers : SocketAddrV4) → IsPast t past → (asks t past).deed ≡ deed.ListenForPeer peers → peers ≡ peers_of t past
-awaits_there t past peers valid a = at_peers t (state_of t past) peers a ∙ met_at t past valid
+pub awaits_there : (t : Terms) (past : List (Ask × Happened)) (peers : Peers) → IsPast t past → (asks t past).deed ≡ deed.ListenForPeer peers → (peers.address ≡ peers_of t past) × (peers.from ≡ t.from)
+awaits_there t past peers valid a = let there = at_peers t (state_of t past) peers a in (there.0 ∙ met_at t past valid, there.1)

@@ -1,6 +1,7 @@
 pub mod Endings
 pub mod Laws
 pub mod Machine
+pub mod Networks
 pub mod Past
 pub mod Plans
 pub mod PoolLaws

@@ -2,7 +2,7 @@
 use Rattle.std.specs.Prelude.{◌||◌, ℕ, Bool, true, false, is_some, if◌then◌else◌, Option, Some, None}
 use Rattle.std.specs.declared.net.socket_addr.SocketAddrV4.{SocketAddrV4}
 use Rattle.ymx_policy.specs.declared.plan.Role.{Role}
-use Rattle.ymx_policy.specs.declared.plan.Role.TheVariants.{LocalCalls, Link, RemoteCalls}
+use Rattle.ymx_policy.specs.declared.plan.Role.TheVariants.{RemoteCalls}
 use Rattle.ymx_policy.specs.declared.plan.Terms.{Terms}
 use Rattle.ymx_policy.specs.declared.reason.Reason.{Reason}
 use Rattle.ymx_policy.specs.declared.asks.Named.TheVariants as option
@@ -15,7 +15,7 @@ use Rattle.ymx_policy.specs.declared.asks.Deed.{Deed}
 use Rattle.ymx_policy.specs.declared.asks.Deed.TheVariants as deed
 use Rattle.ymx_policy.specs.declared.asks.Ask.{Ask}
 use Rattle.ymx_policy.specs.declared.asks.Happened.{Happened}
-use Rattle.ymx_policy.specs.declared.asks.Happened.TheVariants.{Listening, Failed, LackedMemory, PeerCame, UserCame, AllCame, NoUsers, SessionEnded}
+use Rattle.ymx_policy.specs.declared.asks.Happened.TheVariants.{Listening, Failed, LackedMemory, PeerCame, TurnedAway, UserCame, AllCame, NoUsers, SessionEnded}
 use Rattle.ymx_policy.specs.declared.state.Stage.{Stage}
 use Rattle.ymx_policy.specs.declared.state.Stage.TheVariants as stage
 use Rattle.ymx_policy.specs.declared.state.State.{State}
@@ -34,7 +34,7 @@ fresh t = record {
 
 -- what each stage asks for
 abbrev pub deed_at : Stage → Terms → (pause : ℕ) → (peers : SocketAddrV4) → (has_faulted : Bool) → Deed
-deed_at stage.OpeningPeers t pause peers bad = deed.ListenForPeer peers
+deed_at stage.OpeningPeers t pause peers bad = deed.ListenForPeer (record { address = peers; from = t.from })
 deed_at stage.OpeningUsers t pause peers bad = deed.ListenForUsers t.users
 deed_at stage.Calling t pause peers bad = deed.Call (record { address = t.peer; limit = t.limit })
 deed_at stage.AwaitingPeer t pause peers bad = deed.AwaitPeer
@@ -95,9 +95,10 @@ after_calling t s PeerCame = goes s (behind_call t.role s.has_users) (came t.goe
 after_calling t s (Failed why) = after_no_call t.role t.goes_on t.peer (refusal (option.Peer t.peer) why) s
 after_calling t s other = after_no_call t.role t.goes_on t.peer None s
 
--- the peer that it awaited is there, or none comes
+-- the peer that it awaited is there, or none comes; who was turned away is told, and it goes on
 abbrev pub after_awaiting_peer : Terms → State → Happened → State
 after_awaiting_peer t s PeerCame = goes s stage.Serving (came t.goes_on)
+after_awaiting_peer t s (TurnedAway from) = goes s stage.AwaitingPeer (tells (notice.Stranger from))
 after_awaiting_peer t s AllCame = goes s stage.Over silence
 after_awaiting_peer t s (NoUsers why) = no_users t s None why
 after_awaiting_peer t s (Failed why) = no_peers s None why

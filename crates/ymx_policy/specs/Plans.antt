@@ -45,15 +45,23 @@ call_limit true None = Some 10
 call_limit false None = None
 
 -- of `local`: users come to --listen, --count of them; the session has --window, --ping and --keepalive; with --keep it goes on, and with it or several
--- --links users wait for the end of a call
+-- --links users wait for the end of a call; with --ping or several --links they wait for the first sign of the peer
 abbrev pub local_terms : LocalOptions → Role → Terms
 local_terms o which = record {
   role = which;
   goes_on = o.is_kept;
   peer = address_of o.peer;
+  from = o.from;
   limit = call_limit (o.is_kept || nat_lt 1 o.links) o.timeout;
   users = record { address = o.listen; count = o.count; is_patient = o.is_kept };
-  session = record { side = Client; window = o.window; ping = o.ping; keepalive = keepalive_of o.keepalive; is_followed = o.is_kept };
+  session = record {
+    side = Client;
+    window = o.window;
+    ping = o.ping;
+    keepalive = keepalive_of o.keepalive;
+    is_sounded = is_some o.ping || nat_lt 1 o.links;
+    is_followed = o.is_kept;
+  };
   places = o.links;
   is_verbose = o.is_verbose;
 }
@@ -64,9 +72,17 @@ remote_terms o = record {
   role = remote_role o.peer;
   goes_on = o.is_kept;
   peer = address_of o.peer;
+  from = o.from;
   limit = call_limit o.is_kept o.timeout;
   users = record { address = address_of o.peer; count = None; is_patient = o.is_kept };
-  session = record { side = Server o.target o.workers; window = o.window; ping = o.ping; keepalive = keepalive_of o.keepalive; is_followed = o.is_kept || is_some o.peers };
+  session = record {
+    side = Server o.target o.workers;
+    window = o.window;
+    ping = o.ping;
+    keepalive = keepalive_of o.keepalive;
+    is_sounded = is_some o.ping;
+    is_followed = o.is_kept || is_some o.peers;
+  };
   places = unwrap_or o.peers 16;
   is_verbose = o.is_verbose;
 }

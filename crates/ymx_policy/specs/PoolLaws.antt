@@ -1,16 +1,17 @@
 -- What a user can see of what a pool did: words that know nothing of the machine (this project's own).
-use Rattle.std.specs.Prelude.{◌-◌, ◌&&◌, ◌||◌, ℕ, suc, List, [], ◌∷◌, Bool, true, false, Option}
+use Rattle.std.specs.Prelude.{◌-◌, ◌&&◌, ℕ, suc, List, [], ◌∷◌, Bool, true, false}
 use Rattle.ymx_policy.specs.declared.asks.PoolDeed.{PoolDeed}
 use Rattle.ymx_policy.specs.declared.asks.PoolDeed.TheVariants as deed
 use Rattle.ymx_policy.specs.declared.asks.PoolAsk.{PoolAsk}
 use Rattle.ymx_policy.specs.declared.asks.PoolHappened.{PoolHappened}
-use Rattle.ymx_policy.specs.declared.asks.PoolHappened.TheVariants.{Listening, Came, AllCame, NoLinks, Started, Left, Met}
+use Rattle.ymx_policy.specs.declared.asks.PoolHappened.TheVariants.{Came, Started, Left, Met}
 use Rattle.ymx_policy.specs.Laws.{is_clean}
 
 -- it waits for what comes
 abbrev pub waits : PoolDeed → Bool
 waits deed.Await = true
 waits deed.AwaitLeaving = true
+waits deed.RefusePeers = true
 waits other = false
 
 -- how many sessions run, behind this
@@ -18,6 +19,7 @@ abbrev pub running_after : PoolDeed → PoolHappened → ℕ → ℕ
 running_after (deed.Start session) Started n = suc n
 running_after deed.Await (Left how) n = n - 1
 running_after deed.AwaitLeaving (Left how) n = n - 1
+running_after deed.RefusePeers (Left how) n = n - 1
 running_after other happened n = n
 
 -- how many sessions run
@@ -29,8 +31,10 @@ running (entry ∷ past) = running_after entry.0.deed entry.1 (running past)
 abbrev pub clean_after : PoolDeed → PoolHappened → Bool → Bool
 clean_after deed.Await (Left how) before = before && is_clean how
 clean_after deed.AwaitLeaving (Left how) before = before && is_clean how
+clean_after deed.RefusePeers (Left how) before = before && is_clean how
 clean_after deed.Await (Met f why) before = false
 clean_after deed.AwaitLeaving (Met f why) before = false
+clean_after deed.RefusePeers (Met f why) before = false
 clean_after other happened before = before
 
 -- nothing went wrong in any session

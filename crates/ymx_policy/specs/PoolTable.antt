@@ -18,7 +18,7 @@ use Rattle.ymx_policy.specs.declared.asks.PoolDeed.{PoolDeed}
 use Rattle.ymx_policy.specs.declared.asks.PoolDeed.TheVariants as deed
 use Rattle.ymx_policy.specs.declared.asks.PoolAsk.{PoolAsk}
 use Rattle.ymx_policy.specs.declared.asks.PoolHappened.{PoolHappened}
-use Rattle.ymx_policy.specs.declared.asks.PoolHappened.TheVariants.{Listening, Failed, LackedMemory, Came, Delayed, AllCame, NobodyComes, NoLinks, Started, Left, Met, Done}
+use Rattle.ymx_policy.specs.declared.asks.PoolHappened.TheVariants.{Listening, Failed, LackedMemory, Came, Delayed, TurnedAway, AllCame, NobodyComes, NoLinks, Started, Left, Met}
 use Rattle.ymx_policy.specs.declared.pool.PoolStage.{PoolStage}
 use Rattle.ymx_policy.specs.declared.pool.PoolStage.TheVariants as stage
 use Rattle.ymx_policy.specs.declared.pool.Pool.{Pool}
@@ -123,19 +123,21 @@ fresh t = record {
 -- where it listens
 abbrev pub listening : (links : Bool) → Terms → (peers : SocketAddrV4) → PoolDeed
 listening true t peers = deed.ListenForUsers t.users
-listening false t peers = deed.ListenForPeers peers
+listening false t peers = deed.ListenForPeers (record { address = peers; from = t.from })
 
--- what each stage asks for; while it waits, whether there is room for one more
-abbrev pub deed_at : PoolStage → Terms → (room : Bool) → (peers : SocketAddrV4) → (has_faulted : Bool) → PoolDeed
-deed_at stage.Calling t room peers bad = deed.Call (record { address = t.peer; limit = t.limit })
-deed_at stage.Opening t room peers bad = listening (has_links t.role) t peers
-deed_at stage.Starting t room peers bad = deed.Start t.session
-deed_at stage.Waiting t true peers bad = deed.Await
-deed_at stage.Waiting t false peers bad = deed.AwaitLeaving
-deed_at stage.Placing t room peers bad = deed.PlaceUser
-deed_at stage.Closing t room peers bad = deed.CloseLinks
-deed_at stage.Resting t room peers bad = deed.Pause 1
-deed_at stage.Over t room peers bad = deed.End (if bad then 1 else 0)
+-- What each stage asks for; while it waits, whether there is room for one more. Where there is none as all places are taken, peers that
+-- call meanwhile are closed; links always have room until nobody comes in any more.
+abbrev pub deed_at : PoolStage → Terms → (room shut : Bool) → (peers : SocketAddrV4) → (has_faulted : Bool) → PoolDeed
+deed_at stage.Calling t room shut peers bad = deed.Call (record { address = t.peer; limit = t.limit })
+deed_at stage.Opening t room shut peers bad = listening (has_links t.role) t peers
+deed_at stage.Starting t room shut peers bad = deed.Start t.session
+deed_at stage.Waiting t true shut peers bad = deed.Await
+deed_at stage.Waiting t false true peers bad = deed.AwaitLeaving
+deed_at stage.Waiting t false false peers bad = deed.RefusePeers
+deed_at stage.Placing t room shut peers bad = deed.PlaceUser
+deed_at stage.Closing t room shut peers bad = deed.CloseLinks
+deed_at stage.Resting t room shut peers bad = deed.Pause 1
+deed_at stage.Over t room shut peers bad = deed.End (if bad then 1 else 0)
 
 -- somebody may come in: a user while links take some, or a peer while there is a place for one more
 abbrev pub has_room : (links : Bool) → (running places : ℕ) → (shut : Bool) → Bool
@@ -144,7 +146,7 @@ has_room false running places shut = nat_lt running places && not shut
 
 -- what is asked for now
 abbrev pub asked : Terms → Pool → PoolAsk
-asked t p = record { words = p.words; deed = deed_at p.stage t (has_room (has_links t.role) p.running t.places p.is_shut) p.peers p.has_faulted }
+asked t p = record { words = p.words; deed = deed_at p.stage t (has_room (has_links t.role) p.running t.places p.is_shut) p.is_shut p.peers p.has_faulted }
 
 -- ---- what follows
 
@@ -214,6 +216,11 @@ after_opening links t p other = ends p None (cannot_open links t p.peers)
 abbrev pub begun : (links : Bool) → Words
 begun true = silence
 begun false = tells notice.PeerCame
+
+-- what is told of a peer that was closed: where there was room for one, that it called from elsewhere, and else that all places are taken
+abbrev pub turned_away : (room : Bool) → (from : Option SocketAddrV4) → Words
+turned_away true from = tells (notice.Stranger from)
+turned_away false from = tells (notice.Crowded from)
 
 -- no thread could be made for a link: that counts as a peer that can't be watched, and ends it
 abbrev pub unlinked : SessionEnd
@@ -296,6 +303,7 @@ after_last false t p h = after_peers t p h
 abbrev pub after_waiting : (links : Bool) → Terms → Pool → PoolHappened → Pool
 after_waiting links t p Came = goes p (let_in links (has_room links p.running t.places p.is_shut)) silence
 after_waiting links t p (Delayed why) = goes p stage.Waiting (record silence { first = refusal (opening links t p.peers) (Some why) })
+after_waiting links t p (TurnedAway from) = goes p stage.Waiting (turned_away (has_room links p.running t.places p.is_shut) from)
 after_waiting links t p (Left how) = left links t p how
 after_waiting links t p (Met f why) = meets t.goes_on p f why
 after_waiting links t p other = after_last links t p other

@@ -1,5 +1,6 @@
 //! What an end of a tunnel, or a pool of sessions, asks for, and what it is told.
 
+use crate::options::Networks;
 use crate::reason::Reason;
 use std::net::SocketAddrV4;
 
@@ -50,8 +51,19 @@ pub struct Session {
     pub ping: Option<u32>,
     /// How it is seen whether the other sides of its connections, the peer's among them, are still there. None if it isn't.
     pub keepalive: Option<Keepalive>,
+    /// The peer is asked for a sign of life at first, before which no user is given to it.
+    pub is_sounded: bool,
     /// Others wait for its end: what lingers behind it is cut off after a while.
     pub is_followed: bool,
+}
+
+/// Where peers come from.
+#[derive(Clone, Copy)]
+pub struct Peers {
+    /// Where they connect to.
+    pub address: SocketAddrV4,
+    /// From where they may. Who calls from elsewhere is closed, and nothing of him is read.
+    pub from: Networks,
 }
 
 /// Whom it calls.
@@ -89,6 +101,10 @@ pub enum Notice {
     PeerGone,
     /// The peer at this address can't be reached, and is called again.
     Unreached(SocketAddrV4),
+    /// Who called from this address, if it is known, was closed, as peers may not call from there.
+    Stranger(Option<SocketAddrV4>),
+    /// The peer that called from this address, if it is known, was closed, as all places are taken.
+    Crowded(Option<SocketAddrV4>),
     /// The system refused, for this reason, what this option asks for.
     Refused(Named, Reason),
     /// In a session with the peer at this address, if it is known, this rule of yamux was broken: 1 for B1.
@@ -148,13 +164,14 @@ pub struct SessionEnd {
 /// What is to be done.
 #[derive(Clone, Copy)]
 pub enum Deed {
-    /// Listen for the peer here.
-    ListenForPeer(SocketAddrV4),
+    /// Listen for the peer.
+    ListenForPeer(Peers),
     /// Listen for users.
     ListenForUsers(Users),
     /// Call the peer there.
     Call(Callee),
-    /// Wait until the peer calls, after which nobody listens for it. Users that come meanwhile and can't wait are closed.
+    /// Wait until the peer calls, after which nobody listens for it. Who calls and isn't let in is closed, and so are users
+    /// that come meanwhile and can't wait.
     AwaitPeer,
     /// Wait until a user comes.
     AwaitUser,
@@ -190,6 +207,8 @@ pub enum Happened {
     LackedMemory,
     /// The peer is there.
     PeerCame,
+    /// Somebody called from this address, if it is known, and was closed. Of those in a second one is told.
+    TurnedAway(Option<SocketAddrV4>),
     /// A user waits.
     UserCame,
     /// All users have come that were to.
@@ -207,16 +226,18 @@ pub enum Happened {
 /// What is to be done for a pool.
 #[derive(Clone, Copy)]
 pub enum PoolDeed {
-    /// Listen for peers here.
-    ListenForPeers(SocketAddrV4),
+    /// Listen for peers.
+    ListenForPeers(Peers),
     /// Listen for users.
     ListenForUsers(Users),
     /// Call the peer there once more, for one more link.
     Call(Callee),
     /// Make a thread that runs such a session, with the peer that came, or of the next link.
     Start(Session),
-    /// Wait until somebody comes, or a session ends.
+    /// Wait until somebody comes, or a session ends. Peers that call and aren't let in are closed.
     Await,
+    /// Wait until a session ends, and close the peers that call meanwhile.
+    RefusePeers,
     /// Wait until a session ends.
     AwaitLeaving,
     /// Bring the user that came to the link that has the fewest.
@@ -251,6 +272,8 @@ pub enum PoolHappened {
     Came,
     /// Somebody could not be let in now, for this reason.
     Delayed(Reason),
+    /// A peer that called from this address, if it is known, was closed. Of those in a second one is told.
+    TurnedAway(Option<SocketAddrV4>),
     /// All users have come that were to.
     AllCame,
     /// Nobody can come in any more, for this reason if one is known.

@@ -1,6 +1,6 @@
 //! What holds of each end, and of each pool, at each moment, whatever happens: in the words of a user.
 
-ghost use Rattle.std.specs.Prelude.{◌≡◌, ◌≢◌, ◌⊎◌, ◌<◌, ◌≤◌, ℕ, List, [], ◌∷◌, Bool, true, false, Some, None, length, map};
+ghost use Rattle.std.specs.Prelude.{◌≡◌, ◌≢◌, ◌⊎◌, ◌<◌, ◌≤◌, ℕ, List, [], ◌∷◌, Bool, true, false, Some, None, is_some, length, map};
 ghost use Rattle.std.specs.declared.net.socket_addr.SocketAddrV4.{SocketAddrV4 as Address};
 ghost use Rattle.ymx_policy.specs.Past.{IsPast, asks, faults, notices, then_said, then_told};
 ghost use Rattle.ymx_policy.specs.Plans.{terms_of, address_of, has_pool, is_called, keepalive_of};
@@ -17,6 +17,7 @@ ghost use Rattle.ymx_policy.specs.declared.asks.Fault.{Fault as Faulted};
 ghost use Rattle.ymx_policy.specs.declared.asks.Callee.{Callee as Called};
 ghost use Rattle.ymx_policy.specs.declared.asks.Session.{Session as Served};
 ghost use Rattle.ymx_policy.specs.declared.asks.Users.{Users as Awaited};
+ghost use Rattle.ymx_policy.specs.declared.asks.Peers.{Peers as Awaiting};
 ghost use Rattle.ymx_policy.specs.declared.asks.SessionEnd.{SessionEnd as Ended};
 ghost use Rattle.ymx_policy.specs.declared.reason.Reason.{Reason as System};
 ghost use Rattle.ymx_policy.specs.declared.asks.PoolAsk.{PoolAsk as PoolAsked};
@@ -100,12 +101,13 @@ pub fn each_fault_is_said()
 {}
 
 /// What is done is what the plan says: the peer is called at its address, for as long as a call may take, users come to
-/// theirs, each session is the plan's, and a peer is awaited at its address, or later where the first one was.
+/// theirs, each session is the plan's, and a peer is awaited at its address, or later where the first one was, and from where
+/// it may call.
 pub fn does_as_told()
     ensures calls { (t : Told) (past : List (Asked × Heard)) (callee : Called) → IsPast t past → (asks t past).deed ≡ Deed.Call callee → (callee.address ≡ t.peer) × (callee.limit ≡ t.limit) }
     ensures listens { (t : Told) (past : List (Asked × Heard)) (users : Awaited) → IsPast t past → (asks t past).deed ≡ Deed.ListenForUsers users → users ≡ t.users }
     ensures serves { (t : Told) (past : List (Asked × Heard)) (session : Served) → IsPast t past → (asks t past).deed ≡ Deed.Serve session → session ≡ t.session }
-    ensures awaits { (t : Told) (past : List (Asked × Heard)) (peers : Address) → IsPast t past → (asks t past).deed ≡ Deed.ListenForPeer peers → peers ≡ peers_of t past }
+    ensures awaits { (t : Told) (past : List (Asked × Heard)) (peers : Awaiting) → IsPast t past → (asks t past).deed ≡ Deed.ListenForPeer peers → (peers.address ≡ peers_of t past) × (peers.from ≡ t.from) }
 {}
 
 /// Each option of `local` does what it says.
@@ -119,6 +121,9 @@ pub fn local_options()
     ensures timeout { (o : LocalGiven) (n : ℕ) → o.timeout ≡ Some n → (terms_of (Plan.Local o)).limit ≡ Some n }
     ensures awaited { (o : LocalGiven) → o.timeout ≡ None → (o.is_kept ≡ true) ⊎ (1 < o.links) → (terms_of (Plan.Local o)).limit ≡ Some 10 }
     ensures unlimited { (o : LocalGiven) → o.timeout ≡ None → o.is_kept ≡ false → o.links ≤ 1 → (terms_of (Plan.Local o)).limit ≡ None }
+    ensures from { (o : LocalGiven) → (terms_of (Plan.Local o)).from ≡ o.from }
+    ensures sounded { (o : LocalGiven) → (is_some o.ping ≡ true) ⊎ (1 < o.links) → (terms_of (Plan.Local o)).session.is_sounded ≡ true }
+    ensures unsounded { (o : LocalGiven) → o.ping ≡ None → o.links ≤ 1 → (terms_of (Plan.Local o)).session.is_sounded ≡ false }
     ensures side { (o : LocalGiven) → (terms_of (Plan.Local o)).session.side ≡ Side.Client }
     ensures keep { (o : LocalGiven) → (terms_of (Plan.Local o)).goes_on ≡ o.is_kept }
     ensures links { (o : LocalGiven) → (terms_of (Plan.Local o)).places ≡ o.links }
@@ -135,6 +140,8 @@ pub fn remote_options()
     ensures timeout { (o : RemoteGiven) (n : ℕ) → o.timeout ≡ Some n → (terms_of (Plan.Remote o)).limit ≡ Some n }
     ensures awaited { (o : RemoteGiven) → o.timeout ≡ None → o.is_kept ≡ true → (terms_of (Plan.Remote o)).limit ≡ Some 10 }
     ensures unlimited { (o : RemoteGiven) → o.timeout ≡ None → o.is_kept ≡ false → (terms_of (Plan.Remote o)).limit ≡ None }
+    ensures from { (o : RemoteGiven) → (terms_of (Plan.Remote o)).from ≡ o.from }
+    ensures sounded { (o : RemoteGiven) → (terms_of (Plan.Remote o)).session.is_sounded ≡ is_some o.ping }
     ensures keep { (o : RemoteGiven) → (terms_of (Plan.Remote o)).goes_on ≡ o.is_kept }
     ensures peers { (o : RemoteGiven) (n : ℕ) → o.peers ≡ Some n → (terms_of (Plan.Remote o)).places ≡ n }
     ensures unsaid { (o : RemoteGiven) → o.peers ≡ None → (terms_of (Plan.Remote o)).places ≡ 16 }
@@ -219,4 +226,13 @@ pub fn pool_does_as_told()
     ensures calls { (t : Told) (past : List (PoolAsked × PoolHeard)) (callee : Called) → IsPoolPast t past → (pool_asks t past).deed ≡ PoolDeed.Call callee → (callee.address ≡ t.peer) × (callee.limit ≡ t.limit) }
     ensures listens { (t : Told) (past : List (PoolAsked × PoolHeard)) (users : Awaited) → IsPoolPast t past → (pool_asks t past).deed ≡ PoolDeed.ListenForUsers users → users ≡ t.users }
     ensures serves { (t : Told) (past : List (PoolAsked × PoolHeard)) (session : Served) → IsPoolPast t past → (pool_asks t past).deed ≡ PoolDeed.Start session → session ≡ t.session }
+    ensures admits { (t : Told) (past : List (PoolAsked × PoolHeard)) (peers : Awaiting) → IsPoolPast t past → (pool_asks t past).deed ≡ PoolDeed.ListenForPeers peers → peers.from ≡ t.from }
+{}
+
+/// A pool of peers that serves as many as it may closes who calls meanwhile. It lets peers in only while there is a place, and
+/// one of links closes nobody so.
+pub fn pool_refuses()
+    ensures full { (t : Told) (past : List (PoolAsked × PoolHeard)) → 0 < t.places → IsPoolPast t past → (pool_asks t past).deed ≡ PoolDeed.RefusePeers → running past ≡ t.places }
+    ensures free { (t : Told) (past : List (PoolAsked × PoolHeard)) → 0 < t.places → has_links t.role ≡ false → IsPoolPast t past → (pool_asks t past).deed ≡ PoolDeed.Await → running past < t.places }
+    ensures peers { (t : Told) (past : List (PoolAsked × PoolHeard)) → IsPoolPast t past → (pool_asks t past).deed ≡ PoolDeed.RefusePeers → has_links t.role ≡ false }
 {}

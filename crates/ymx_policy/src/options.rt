@@ -1,5 +1,9 @@
 //! What the two ends of a tunnel are told to do, as the words of a command line gave it.
 
+ghost use Rattle.std.specs.Prelude.{◌≡◌};
+ghost use Rattle.std.specs.List.{list_any};
+ghost use Rattle.ymx_policy.specs.Networks.{admits, all, has, has_all};
+
 use std::net::{Ipv4Addr, SocketAddrV4};
 
 /// Where an end of the tunnel meets its peer.
@@ -30,9 +34,38 @@ pub struct Networks {
     pub networks: [Network; NETWORKS],
 }
 
+impl Network {
+    /// Whether this address is one of it.
+    fn has(self, address: Ipv4Addr) -> bool
+        ensures { result ≡ has self address }
+    {
+        let others = 32u32.saturating_sub(self.bits as u32);
+        (address.to_bits() as u64) >> others == (self.address.to_bits() as u64) >> others
+    }
+
+    /// Whether it has all addresses.
+    fn has_all(self) -> bool
+        ensures { result ≡ has_all self }
+    {
+        self.bits == 0
+    }
+}
+
 impl Networks {
+    /// Whether who calls from this address is let in. Where it isn't known, only where all are.
+    pub fn admits(&self, from: Option<SocketAddrV4>) -> bool
+        ensures { result ≡ admits self.now from }
+    {
+        match from {
+            Some(address) => any_has(&self.networks, *address.ip()),
+            None => any_is_all(&self.networks),
+        }
+    }
+
     /// From everywhere.
-    pub fn all() -> Networks {
+    pub fn all() -> Networks
+        ensures { result ≡ all }
+    {
         let all = Network {
             address: Ipv4Addr::UNSPECIFIED,
             bits: 0,
@@ -41,6 +74,20 @@ impl Networks {
             networks: [all; NETWORKS],
         }
     }
+}
+
+/// Whether this address is one of these networks.
+fn any_has(networks: &[Network], address: Ipv4Addr) -> bool
+    ensures { result ≡ list_any (λ network. has network address) networks.now }
+{
+    networks.iter().any(|network| network.has(address))
+}
+
+/// Whether one of these networks has all addresses.
+fn any_is_all(networks: &[Network]) -> bool
+    ensures { result ≡ list_any has_all networks.now }
+{
+    networks.iter().any(|network| network.has_all())
 }
 
 /// The options of `ymx local`.

@@ -4,7 +4,7 @@ ghost use Rattle.std.specs.Prelude.{◌≡◌};
 ghost use Rattle.ymx_policy.specs.Plans.{address_of, call_limit, has_pool, is_called, keepalive_of, local_role, local_terms, remote_role, remote_terms, terms_of};
 
 use crate::asks::{Keepalive, Session, Side, Users};
-use crate::options::{LocalOptions, PeerAddress, RemoteOptions};
+use crate::options::{LocalOptions, Networks, PeerAddress, RemoteOptions};
 use std::net::SocketAddrV4;
 
 /// How many peers a `remote` with `--keep` serves at once where the command line says nothing.
@@ -51,6 +51,8 @@ pub struct Terms {
     pub goes_on: bool,
     /// Where the peer is called, or calls.
     pub peer: SocketAddrV4,
+    /// From where it may call.
+    pub from: Networks,
     /// How many seconds a call to it may take. None for as long as the system tries.
     pub limit: Option<u32>,
     /// Where users come from.
@@ -163,6 +165,7 @@ fn local_terms(options: LocalOptions, role: Role) -> Terms
         role,
         goes_on: options.is_kept,
         peer: options.peer.address(),
+        from: options.from,
         limit: call_limit(options.is_kept || options.links > 1, options.timeout),
         users: Users {
             address: options.listen,
@@ -174,6 +177,7 @@ fn local_terms(options: LocalOptions, role: Role) -> Terms
             window: options.window,
             ping: options.ping,
             keepalive: keepalive_of(options.keepalive),
+            is_sounded: options.ping.is_some() || options.links > 1,
             is_followed: options.is_kept,
         },
         places: options.links,
@@ -189,6 +193,7 @@ fn remote_terms(options: RemoteOptions) -> Terms
         role: remote_role(options.peer),
         goes_on: options.is_kept,
         peer: options.peer.address(),
+        from: options.from,
         limit: call_limit(options.is_kept, options.timeout),
         users: Users {
             address: options.peer.address(),
@@ -203,6 +208,7 @@ fn remote_terms(options: RemoteOptions) -> Terms
             window: options.window,
             ping: options.ping,
             keepalive: keepalive_of(options.keepalive),
+            is_sounded: options.ping.is_some(),
             is_followed: options.is_kept || options.peers.is_some(),
         },
         places: options.peers.unwrap_or(PEERS),

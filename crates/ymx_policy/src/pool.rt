@@ -1,10 +1,10 @@
 //! Several sessions at once, each in a thread of its own: where such a pool has come to, and where what happens leads it.
 
 ghost use Rattle.std.specs.Prelude.{◌≡◌};
-ghost use Rattle.ymx_policy.specs.PoolTable.{fresh, asked, deed_at, listening, after, goes, ends, settles, settles_at, has_links, heeds, shuts, shuts_for, rests, left, meets, after_users, after_peers, after_last, after_calling, after_opening, after_no_thread, after_starting, after_waiting, after_placing, clean, first_rule, first_notice, both, begins, behind_opening, one_more, behind_call, behind_start, settled, ending_at, cause_at, has_room, opening, cannot_open, peers_at, begun, unlinked, leaving, lost_links, serving, let_in};
+ghost use Rattle.ymx_policy.specs.PoolTable.{fresh, asked, deed_at, listening, after, goes, ends, settles, settles_at, has_links, heeds, shuts, shuts_for, rests, left, meets, after_users, after_peers, after_last, after_calling, after_opening, after_no_thread, after_starting, after_waiting, after_placing, clean, first_rule, first_notice, both, begins, behind_opening, one_more, behind_call, behind_start, settled, ending_at, cause_at, has_room, turned_away, opening, cannot_open, peers_at, begun, unlinked, leaving, lost_links, serving, let_in};
 
 use crate::asks::{
-    Callee, Fault, Named, Notice, PoolAsk, PoolDeed, PoolHappened, SessionEnd, Words,
+    Callee, Fault, Named, Notice, Peers, PoolAsk, PoolDeed, PoolHappened, SessionEnd, Words,
 };
 use crate::plan::{Role, Terms};
 use crate::reason::Reason;
@@ -90,7 +90,7 @@ impl Pool {
 
     /// What is to be done now, where there is room for one more, or none.
     fn deed(&self, terms: &Terms, room: bool) -> PoolDeed
-        ensures { result ≡ deed_at self.now.stage terms.now room self.now.peers self.now.has_faulted }
+        ensures { result ≡ deed_at self.now.stage terms.now room self.now.is_shut self.now.peers self.now.has_faulted }
     {
         match self.stage {
             PoolStage::Calling => PoolDeed::Call(Callee {
@@ -100,7 +100,8 @@ impl Pool {
             PoolStage::Opening => self.listening(terms),
             PoolStage::Starting => PoolDeed::Start(terms.session),
             PoolStage::Waiting if room => PoolDeed::Await,
-            PoolStage::Waiting => PoolDeed::AwaitLeaving,
+            PoolStage::Waiting if self.is_shut => PoolDeed::AwaitLeaving,
+            PoolStage::Waiting => PoolDeed::RefusePeers,
             PoolStage::Placing => PoolDeed::PlaceUser,
             PoolStage::Closing => PoolDeed::CloseLinks,
             PoolStage::Resting => PoolDeed::Pause(1),
@@ -115,7 +116,10 @@ impl Pool {
         if has_links(terms.role) {
             PoolDeed::ListenForUsers(terms.users)
         } else {
-            PoolDeed::ListenForPeers(self.peers)
+            PoolDeed::ListenForPeers(Peers {
+                address: self.peers,
+                from: terms.from,
+            })
         }
     }
 
@@ -324,6 +328,10 @@ impl Pool {
                 let mut words = silence();
                 words.first = refusal(opening(links, terms, self.peers), Some(why));
                 self.go(PoolStage::Waiting, words);
+            }
+            PoolHappened::TurnedAway(from) => {
+                let room = has_room(links, self.running, terms.places, self.is_shut);
+                self.go(PoolStage::Waiting, turned_away(room, from));
             }
             PoolHappened::Left(how) => self.leave(links, terms, how),
             PoolHappened::Met(fault, reason) => self.meet(terms.goes_on, fault, reason),
@@ -623,6 +631,18 @@ fn begun(links: bool) -> Words
         silence()
     } else {
         tells(Notice::PeerCame)
+    }
+}
+
+/// What is told of a peer that was closed, where there was room for one, or none: that it called from elsewhere, or that all
+/// places are taken.
+fn turned_away(room: bool, from: Option<SocketAddrV4>) -> Words
+    ensures { result ≡ turned_away room from }
+{
+    if room {
+        tells(Notice::Stranger(from))
+    } else {
+        tells(Notice::Crowded(from))
     }
 }
 

@@ -3,7 +3,7 @@
 ghost use Rattle.std.specs.Prelude.{◌≡◌};
 ghost use Rattle.ymx_policy.specs.Machine.{fresh, deed_at, asked, after, goes, ends, no_users, no_peers, parted, after_opening_peers, after_opening_users, after_no_call, after_calling, after_awaiting_peer, after_awaiting_user, after_closing, after_serving};
 
-use crate::asks::{Ask, Callee, Deed, Fault, Happened, Named, Notice, SessionEnd, Words};
+use crate::asks::{Ask, Callee, Deed, Fault, Happened, Named, Notice, Peers, SessionEnd, Words};
 use crate::plan::{Role, Terms};
 use crate::reason::Reason;
 use crate::table::{
@@ -85,7 +85,10 @@ impl State {
         ensures { result ≡ deed_at self.now.stage terms.now self.now.pause self.now.peers self.now.has_faulted }
     {
         match self.stage {
-            Stage::OpeningPeers => Deed::ListenForPeer(self.peers),
+            Stage::OpeningPeers => Deed::ListenForPeer(Peers {
+                address: self.peers,
+                from: terms.from,
+            }),
             Stage::OpeningUsers => Deed::ListenForUsers(terms.users),
             Stage::Calling => Deed::Call(Callee {
                 address: terms.peer,
@@ -239,6 +242,9 @@ impl State {
     {
         match happened {
             Happened::PeerCame => self.go(Stage::Serving, came(terms.goes_on)),
+            Happened::TurnedAway(from) => {
+                self.go(Stage::AwaitingPeer, tells(Notice::Stranger(from)));
+            }
             Happened::AllCame => self.go(Stage::Over, silence()),
             Happened::NoUsers(why) => self.end_users(terms, None, why),
             Happened::Failed(why) => self.end_peers(None, why),

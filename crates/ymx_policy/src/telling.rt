@@ -59,6 +59,14 @@ pub fn notice_text(notice: Notice) -> Text
             text.push_str("ymx: cannot reach ");
             push_address(&mut text, address);
         }
+        Notice::Stranger(from) => {
+            text.push_str("ymx: closed a stranger");
+            push_source(&mut text, from);
+        }
+        Notice::Crowded(from) => {
+            text.push_str("ymx: closed a peer too many");
+            push_source(&mut text, from);
+        }
         Notice::Refused(option, reason) => {
             text.push_str("ymx: ");
             push_option(&mut text, option);

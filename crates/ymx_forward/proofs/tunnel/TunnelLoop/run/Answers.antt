@@ -4,7 +4,7 @@ use Rattle.ymx_forward.proofs.Waiting.{waits_never, waits_behind, waits_before}
 use Rattle.ymx_forward.proofs.tunnel.TunnelLoop.run.Goals as goal
 
 pub loop-init : goal.loop-init
-loop-init g c = record { next = (tt, tt); runs = c.begin_silence-silence.ensures; waits = λ serving. waits_never _ _ _ _ c.begin_silence-silence.ensures refl }
+loop-init g c = record { next = (tt, tt); runs = c.begin_silence-silence.ensures.runs; waits = λ serving. waits_never _ _ _ _ c.begin_silence-silence.ensures.runs refl }
 
 pub loop-preserved : goal.loop-preserved
 loop-preserved g c = record {

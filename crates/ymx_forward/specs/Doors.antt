@@ -1,0 +1,40 @@
+-- Which peers are let in (this project's own).
+use Rattle.std.specs.Prelude.{◌≡◌, true, Option, Some, None}
+use Rattle.ymx_policy.specs.Networks.{admits}
+use Rattle.ymx_policy.specs.declared.options.Networks.{Networks}
+use Rattle.ymx_policy.specs.declared.asks.PoolHappened.{PoolHappened}
+use Rattle.ymx_policy.specs.declared.asks.PoolHappened.TheVariants.{Came}
+use Rattle.ymx_policy.specs.declared.asks.Happened.{Happened}
+use Rattle.ymx_policy.specs.declared.asks.Happened.TheVariants.{PeerCame}
+use Rattle.ymx_forward.specs.declared.peer.Peer.{Peer}
+use Rattle.ymx_forward.specs.declared.doorkeeper.Caller.{Caller}
+use Rattle.ymx_forward.specs.declared.doorkeeper.Caller.TheVariants as caller
+
+-- a peer may call from where it does
+abbrev pub MayCall : Networks → Peer → Type 0
+MayCall from peer = admits from peer.address ≡ true
+
+-- who is let in may call from where he does
+abbrev pub IsAdmitted : Networks → Caller → Type 0
+IsAdmitted from (caller.Peer peer) = MayCall from peer
+IsAdmitted from other = Unit {0}
+
+-- nobody is let in
+abbrev pub IsNobody : Caller → Type 0
+IsNobody (caller.Peer peer) = ⊥
+IsNobody other = Unit {0}
+
+-- there is a peer, and it may call from where it does
+abbrev pub IsMet : Networks → Option Peer → Type 0
+IsMet from (Some peer) = MayCall from peer
+IsMet from None = ⊥
+
+-- where a peer came, it is there, and may call from where it does
+abbrev pub MeetsAdmitted : Networks → Option Peer → Happened → Type 0
+MeetsAdmitted from peer PeerCame = IsMet from peer
+MeetsAdmitted from peer other = Unit {0}
+
+-- the same of a pool
+abbrev pub LetsAdmittedIn : Networks → Option Peer → PoolHappened → Type 0
+LetsAdmittedIn from peer Came = IsMet from peer
+LetsAdmittedIn from peer other = Unit {0}

@@ -1,0 +1,84 @@
+//! Who lets peers in.
+
+ghost use Rattle.std.specs.Prelude.{◌≡◌, None};
+ghost use Rattle.ymx_forward.specs.Doors.{IsAdmitted, IsNobody};
+
+use crate::peer::Peer;
+use crate::system::TcpConnection;
+use std::net::SocketAddrV4;
+use std::time::{Clock, Duration, Instant};
+use ymx_policy::Networks;
+
+/// How many seconds lie between two of those who are closed and told, at least.
+const PAUSE: u64 = 1;
+
+/// Who called.
+#[derive(Drop)]
+pub(crate) enum Caller {
+    /// A peer, which is let in.
+    Peer(Peer),
+    /// Somebody at this address, if it is known, who was closed, which is to be told.
+    TurnedAway(Option<SocketAddrV4>),
+    /// Somebody who was closed.
+    Closed,
+}
+
+/// Lets peers in that may call from where they do, and closes others.
+#[derive(Clone, Copy)]
+pub(crate) struct Doorkeeper {
+    /// From where peers may call.
+    from: Networks,
+    /// When somebody was last closed who was told.
+    told: Option<Instant>,
+}
+
+impl Doorkeeper {
+    /// Lets in who calls from there.
+    pub(crate) fn new(from: Networks) -> Doorkeeper
+        ensures { result.from ≡ from }
+    {
+        Doorkeeper { from, told: None }
+    }
+
+    /// Lets in who has called, if he may. Else he is closed, and nothing of him was read.
+    pub(crate) fn judge<R: Clock>(&mut self, rt: &R, socket: TcpConnection) -> Caller
+        ensures from { self.new.from ≡ self.old.from }
+        ensures admitted { IsAdmitted self.old.from result }
+    {
+        let peer = Peer::of(socket);
+        let address = peer.address();
+        if self.from.admits(address) {
+            Caller::Peer(peer)
+        } else {
+            self.turn_away(rt, address)
+        }
+    }
+
+    /// Closes who has called.
+    pub(crate) fn close<R: Clock>(&mut self, rt: &R, socket: TcpConnection) -> Caller
+        ensures from { self.new.from ≡ self.old.from }
+        ensures nobody { IsNobody result }
+    {
+        let address = Peer::of(socket).address();
+        self.turn_away(rt, address)
+    }
+
+    /// Somebody is closed. Of those in a second the first is told.
+    fn turn_away<R: Clock>(&mut self, rt: &R, address: Option<SocketAddrV4>) -> Caller
+        ensures from { self.new.from ≡ self.old.from }
+        ensures nobody { IsNobody result }
+        ensures first { self.old.told ≡ None → result ≡ Caller.TurnedAway address }
+    {
+        let is_due = match self.told {
+            Some(told) => told
+                .elapsed(rt)
+                .is_ok_and(|passed| passed >= Duration::from_secs(PAUSE)),
+            None => true,
+        };
+        if !is_due {
+            return Caller::Closed;
+        }
+        self.told = Instant::now(rt).ok();
+        Caller::TurnedAway(address)
+    }
+}

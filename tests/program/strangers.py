@@ -1,0 +1,128 @@
+"""Calls `ymx remote --bind` and `ymx local --bind` from where peers may call, and from elsewhere; and with more peers than
+there are places. Looks who is let in, and who is closed: at once, with nothing read.
+
+It says which tests failed, and nothing where none did. No test follows one that hangs.
+
+usage: strangers.py YMX
+"""
+
+import socket
+import sys
+import threading
+
+import raw
+from kept import COME, is_served, says
+from links import ask, echo
+from raw import ACK, ANY, GONE, PING, SYN, WINDOW, Program
+from raw import accept, call, frame, has_ended, leave, listen, take
+
+# Who may call, and who may not.
+FRIEND, STRANGER = "127.0.0.1", "127.0.0.2"
+# So many peers `remote --keep` serves at once.
+PLACES = 16
+USERS, LINKS = 64, 32
+
+
+def call_from(host, place):
+    """A connection to this place from this address."""
+    address, port = place.rsplit(":", 1)
+    return socket.create_connection((address, int(port)), source_address=(host, 0))
+
+
+def is_closed(connection):
+    """It is closed, whether by an end or by a reset, and no byte comes."""
+    try:
+        return connection.recv(1) == b""
+    except ConnectionResetError:
+        return True
+
+
+def closed(connection, who="stranger"):
+    return "ymx: closed a {} from {}:{}\n".format(who, *connection.getsockname())
+
+
+def only_from_there(networks, *words):
+    """Who calls from elsewhere is closed, with -v is told, and the next one is served."""
+    target, address = listen()
+    options = [word for network in networks for word in ("--from", network)]
+    program = Program("remote", "-v", "--bind", ANY, "--target", address, *options, *words)
+    place = program.place()
+    stranger = call_from(STRANGER, place)
+    assert is_closed(stranger), "a stranger is let in"
+    says(program, closed(stranger))
+    # Within a second another one is closed, and isn't told.
+    assert is_closed(call_from(STRANGER, place)), "a stranger is let in"
+    peer = call_from(FRIEND, place)
+    assert is_served(peer)
+    if words:
+        says(program, COME)
+    peer.sendall(frame(WINDOW, SYN, 1, 0))
+    accept(target)
+    leave(peer)
+
+
+def of_local(*words):
+    """The peer of `local` is one of them, and no user is given to another."""
+    program = Program("local", "-v", "--bind", ANY, "--listen", ANY, "--from", FRIEND, *words)
+    bound, place = program.place(), program.place()
+    stranger = call_from(STRANGER, bound)
+    assert is_closed(stranger), "a stranger is let in"
+    says(program, closed(stranger))
+    peer = call_from(FRIEND, bound)
+    if words:
+        says(program, COME)
+    assert is_served(peer)
+    call(place)
+    assert take(peer, 12) == frame(WINDOW, SYN, 1, 0)
+
+
+def silent_ones():
+    """As many as there are places hold them for twice the seconds of --ping, and no longer. One more is closed at once."""
+    program = Program("remote", "-v", "--keep", "--ping", "1", "--bind", ANY, "--target", ANY)
+    place = program.place()
+    silent = [call(place) for _ in range(PLACES)]
+    says(program, *[COME] * PLACES)
+    further = call(place)
+    assert is_closed(further), "it is let in"
+    says(program, closed(further, "peer too many"), *[GONE] * PLACES)
+    for connection in silent:
+        assert take(connection, 13) == frame(PING, SYN, 0, 0), "it was handed more"
+    peer = call(place)
+    question = take(peer, 12)
+    peer.sendall(question[:3] + bytes([ACK]) + question[4:])
+    assert is_served(peer)
+
+
+def more_links_than_places(*words):
+    """Each user has its bytes, by the links that have a place; also with `--keep`."""
+    target, address = listen()
+    threading.Thread(target=echo, args=(target,), daemon=True).start()
+    far = Program("remote", "--keep", "--bind", ANY, "--target", address, "-v")
+    peer = far.place()
+    threading.Thread(target=far.process.stderr.read, daemon=True).start()
+    near = Program("local", "-v", "--links", str(LINKS), "--listen", ANY, "--peer", peer, *words)
+    place = near.place()
+    threading.Thread(target=near.process.stderr.read, daemon=True).start()
+    bad = []
+    for _ in range(2):
+        users = [threading.Thread(target=ask, args=(place, seed, bad)) for seed in range(USERS)]
+        for user in users:
+            user.start()
+        for user in users:
+            user.join()
+    assert not bad, f"{len(bad)} came back otherwise"
+
+
+TESTS = (
+    ("remote --from", only_from_there, ((f"{FRIEND}/32",),)),
+    ("remote --keep --from", only_from_there, ((f"{FRIEND}/32",), "--keep")),
+    ("several --from", only_from_there, (("10.0.0.0/8", FRIEND), "--keep")),
+    ("local --from", of_local, ()),
+    ("local --keep --from", of_local, ("--keep",)),
+    ("silent ones", silent_ones, ()),
+    ("more links than places", more_links_than_places, ()),
+    ("more links than places, with --keep", more_links_than_places, ("--keep",)),
+)
+
+if __name__ == "__main__":
+    sys.exit(raw.main(TESTS))
