@@ -1,9 +1,11 @@
 pub mod Counts
 pub mod Echoes
 pub mod Loops
+pub mod Requests
 pub mod Served
 pub mod Sessions
 pub mod Sides
 pub mod Signs
 pub mod Sockets
+pub mod Status
 pub mod Users

@@ -9,6 +9,8 @@
 
 mod accepting;
 mod closing;
+mod counts;
+mod drain;
 mod echoing;
 mod end;
 mod host;
@@ -16,9 +18,11 @@ mod inbox;
 mod link;
 mod links;
 mod notices;
+mod page;
 mod peer;
 mod peers;
 mod programs;
+mod requests;
 mod selftest;
 mod shared;
 mod silence;
@@ -26,6 +30,7 @@ mod site;
 mod socket;
 mod sockets;
 mod starting;
+mod status;
 mod stillness;
 mod stream;
 mod system;
