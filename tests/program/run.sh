@@ -173,6 +173,7 @@ holds 'signs of life that the system asks for' python3 -B "$here/keepalive.py" "
 holds 'a target that answers nobody' python3 -B "$here/unanswered.py" "$ymx"
 holds 'the calls of an idle tunnel' python3 -B "$here/idle.py" "$ymx"
 holds 'peers that never answer a call' python3 -B "$here/timeouts.py" "$ymx"
+holds 'what an end counts, and how it is drained' python3 -B "$here/status.py" "$ymx"
 holds 'a thousand users at once' python3 -B "$here/bursts.py" "$ymx" 1000
 
 expect 0 "$here/help" nothing hello --help

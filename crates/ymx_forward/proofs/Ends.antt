@@ -1,18 +1,21 @@
 -- How the programs of the tunnel end.
 use Rattle.std.specs.Prelude.{map}
-use Rattle.std.proofs.Common.{◌≡◌, ℕ, List, [], Bool, true, false, Option, refl, subst, sym, ◌∙◌}
+use Rattle.std.proofs.Common.{◌≡◌, ℕ, List, [], Bool, true, false, Option, Some, inr, refl, subst, sym, ◌∙◌}
+use Rattle.std.specs.declared.net.socket_addr.SocketAddrV4.{SocketAddrV4}
 use Rattle.ymx_policy.specs.declared.options.PeerAddress.{PeerAddress}
 use Rattle.ymx_policy.specs.declared.options.PeerAddress.TheVariants.{Connect, Listen}
 use Rattle.ymx_policy.specs.declared.options.RemoteOptions.{RemoteOptions}
+use Rattle.ymx_policy.specs.declared.plan.Plan.{Plan}
 use Rattle.ymx_policy.specs.declared.plan.Plan.TheVariants.{Remote}
 use Rattle.ymx_policy.specs.declared.plan.Role.TheVariants.{RemoteAwaits}
 use Rattle.ymx_policy.specs.declared.plan.Terms.{Terms}
 use Rattle.ymx_policy.specs.Plans.{is_called, remote_role, terms_of}
+use Rattle.ymx_policy.specs.declared.reason.Reason.{Reason}
 use Rattle.ymx_policy.specs.declared.asks.Words.{Words}
 use Rattle.ymx_policy.specs.Texts.{fault_text, notice_text}
 use Rattle.ymx_policy.specs.Voices.{AreSaid}
 use Rattle.ymx_policy.specs.Past.{then_said, then_told}
-use Rattle.ymx_policy.specs.Endings.{EndsAlone, EndsAt, EndsTogether}
+use Rattle.ymx_policy.specs.Endings.{EndsAlone, EndsAt, EndsAtOnce, EndsBy, EndsTogether, is_watched_at, unwatched_words}
 use Rattle.ymx_policy.proofs.Endings.{ends_behind}
 
 -- with -v nothing is claimed of the device for lines
@@ -63,3 +66,17 @@ pub behind : (t : Terms) (status new : ℕ) (words : Words) (taken taken_new : O
 behind t status new words taken taken_new failures failures_new lines lines_new unwritten unwritten_new at e said told =
     let P : Bool → Type 0 = λ v. AreSaid lines lines_new unwritten unwritten_new (map notice_text (then_told v words [])) in
     rw e (ends_behind t status words taken taken_new failures failures_new lines lines_new unwritten unwritten_new at (λ k. said) (λ k silent. subst P silent told))
+
+-- one that could not be watched, and has said so
+pub unwatched : (p : Plan) (address : SocketAddrV4) (why : Option Reason) (words : Words) (status : ℕ) (taken taken_new : Option (List ℕ)) (failures failures_new : ℕ) (lines lines_new : Option (List ℕ)) (unwritten unwritten_new : ℕ)
+    → is_watched_at p ≡ Some address → words ≡ unwatched_words address why → status ≡ 1
+    → AreSaid taken taken_new failures failures_new (map fault_text (then_said words [])) → AreSaid lines lines_new unwritten unwritten_new (map notice_text (then_told (terms_of p).is_verbose words []))
+    → EndsBy p status taken taken_new failures failures_new lines lines_new unwritten unwritten_new
+unwatched p address why words status taken taken_new failures failures_new lines lines_new unwritten unwritten_new at e s said told =
+    let so : EndsAtOnce (terms_of p).is_verbose (Some address) status taken taken_new failures failures_new lines lines_new unwritten unwritten_new = record {
+      why = why;
+      ends = s;
+      says = subst (λ w. AreSaid taken taken_new failures failures_new (map fault_text (then_said w []))) e said;
+      tells = subst (λ w. AreSaid lines lines_new unwritten unwritten_new (map notice_text (then_told (terms_of p).is_verbose w []))) e told;
+    } in
+    inr (subst (λ o. EndsAtOnce (terms_of p).is_verbose o status taken taken_new failures failures_new lines lines_new unwritten unwritten_new) (sym at) so)

@@ -3,9 +3,11 @@ pub mod Doors
 pub mod Echoes
 pub mod Looks
 pub mod Loops
+pub mod Requests
 pub mod Served
 pub mod Sessions
 pub mod Sides
 pub mod Signs
 pub mod Sockets
+pub mod Status
 pub mod Users

@@ -3,6 +3,7 @@
 ghost use Rattle.std.specs.Prelude.{◌≡◌, ◌-◌, Some, IfSome, IfNone, IsNone, option_map};
 ghost use Rattle.ymx_forward.specs.Users.{is_failed, is_less, is_shut, may_come};
 
+use crate::drain::Drain;
 use crate::inbox::{Inbox, Places, Taken};
 use crate::system::{Listener, Poll, TcpConnection};
 use std::alloc::Global;
@@ -45,6 +46,8 @@ pub(crate) struct Listening {
     refusal: Option<Reason>,
     /// Who brings connections is to be told how many places there are.
     is_room_due: bool,
+    /// Says when no more are to be accepted. None where nothing does.
+    drain: Option<Arc<Drain, Global>>,
 }
 
 impl Listening {
@@ -66,6 +69,7 @@ impl Listening {
             full_at: None,
             refusal: None,
             is_room_due: false,
+            drain: None,
         };
         listening.stop_at_count();
         Ok(listening)
@@ -81,6 +85,23 @@ impl Listening {
             full_at: None,
             refusal: None,
             is_room_due: true,
+            drain: None,
+        }
+    }
+
+    /// No more are accepted once this asks for that.
+    pub(crate) fn until(self, drain: Option<Arc<Drain, Global>>) -> Listening {
+        let mut listening = self;
+        listening.drain = drain;
+        listening
+    }
+
+    /// No more are accepted if that was asked for.
+    pub(crate) fn heed_drain(&mut self) {
+        if let Some(drain) = &self.drain {
+            if drain.is_asked() && !self.is_over() {
+                self.stop();
+            }
         }
     }
 
@@ -88,6 +109,7 @@ impl Listening {
     pub(crate) fn note_event(&mut self) {
         self.can_accept = true;
         self.is_room_due = true;
+        self.heed_drain();
     }
 
     /// Whether a connection may wait to be accepted, where so many are open.

@@ -10,6 +10,7 @@ ghost use Rattle.ymx_forward.specs.Served.{IsServed, ServesAsAsked};
 
 use crate::accepting::Listening;
 use crate::doorkeeper::Doorkeeper;
+use crate::drain::Drain;
 use crate::host::Host;
 use crate::inbox::Inbox;
 use crate::notices::ProgramWatcher;
@@ -17,12 +18,13 @@ use crate::peer::Peer;
 use crate::site::Site;
 use crate::sockets::{accept_peer, listen_at};
 use crate::starting::{StartFault, failed};
+use crate::system::{Poll, Waker};
 use crate::tunnel::Served;
 use crate::tunnel_end::{LISTENER, PEERS, TunnelEnd};
 use crate::voices::WatcherLines;
 use std::alloc::Global;
 use std::net::TcpListener;
-use std::sync::Arc;
+use std::sync::{Arc, Wait};
 use std::thread;
 use std::time::Duration;
 use ymx_policy::{Callee, Deed, Happened, Networks, Peers, Session, Users, World};
@@ -48,11 +50,17 @@ pub(crate) struct EndSockets<'a, R> {
     inbox: Option<Arc<Inbox, Global>>,
     /// The last session that was served.
     served: Option<Served>,
+    /// Says when no more users are to be taken. None where nothing does.
+    drain: Option<Arc<Drain, Global>>,
 }
 
 impl<'a, R: Host> EndSockets<'a, R> {
-    /// None is open.
-    pub(crate) fn new(rt: &'a R, alloc: Global) -> EndSockets<'a, R> {
+    /// None is open. No more users are taken once `drain` asks for that.
+    pub(crate) fn new(
+        rt: &'a R,
+        alloc: Global,
+        drain: Option<Arc<Drain, Global>>,
+    ) -> EndSockets<'a, R> {
         EndSockets {
             rt,
             alloc,
@@ -64,6 +72,7 @@ impl<'a, R: Host> EndSockets<'a, R> {
             peer: None,
             inbox: None,
             served: None,
+            drain,
         }
     }
 
@@ -84,6 +93,7 @@ impl<'a, R: Host> EndSockets<'a, R> {
             peer: None,
             inbox: Some(inbox),
             served: None,
+            drain: None,
         }
     }
 
@@ -122,6 +132,8 @@ impl<'a, R: Host> EndSockets<'a, R> {
             is_patient,
         } = users;
         let listening = Listening::new(listener, count, is_patient, &site.poll, LISTENER)?;
+        let drain = wake_by(self.rt, &self.drain, self.alloc, &site.poll)?;
+        let listening = listening.until(drain);
         self.end = Some(TunnelEnd::local(listening, Some(address), is_patient));
         self.site = Some(site);
         Ok(())
@@ -270,6 +282,21 @@ impl<'a, R: Host> EndSockets<'a, R> {
             end.refuse_waiting(watcher);
         }
     }
+}
+
+/// Has this poll woken, as by a user, once no more are to be taken.
+fn wake_by<R: Wait>(
+    rt: &R,
+    drain: &Option<Arc<Drain, Global>>,
+    alloc: Global,
+    poll: &Poll,
+) -> Result<Option<Arc<Drain, Global>>, StartFault> {
+    let Some(drain) = drain else {
+        return Ok(None);
+    };
+    let waker = Arc::new(alloc, Waker::new(poll, LISTENER)?)?;
+    let _ = drain.wakes(rt, waker);
+    Ok(Some(Arc::try_clone(drain)?))
 }
 
 impl<R: Host, V: ProgramWatcher> World<V, WatcherLines> for EndSockets<'_, R> {

@@ -51,14 +51,14 @@ pub(crate) struct Inbox {
 #[derive(Drop)]
 pub(crate) struct Acceptor {
     /// Ends its wait.
-    waker: Waker,
+    waker: Arc<Waker, Global>,
     /// Connections that links had no session for, the first that came at the front.
     returned: Mutex<VecDeque<TcpConnection>>,
 }
 
 impl Acceptor {
     /// One that this wakes, to which nobody was given back.
-    pub(crate) fn new(alloc: Global, waker: Waker) -> Acceptor {
+    pub(crate) fn new(alloc: Global, waker: Arc<Waker, Global>) -> Acceptor {
         Acceptor {
             waker,
             returned: Mutex::new(VecDeque::new(alloc)),

@@ -125,6 +125,10 @@ impl<R: Wait, V: ProgramWatcher> Watcher for LinkWatcher<'_, R, V> {
     fn failed(&mut self, option: Named, reason: Reason) {
         self.shared.failed(option, reason);
     }
+
+    fn peer(&mut self, is_there: bool) {
+        self.shared.peer(is_there);
+    }
 }
 
 impl<R: Wait, V: ProgramWatcher> ProgramWatcher for LinkWatcher<'_, R, V> {

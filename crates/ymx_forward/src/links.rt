@@ -5,6 +5,7 @@ ghost use Rattle.std.specs.Prelude.{None, ⊤};
 ghost use Rattle.std.specs.Thread.{IsSend};
 
 use crate::accepting::Listening;
+use crate::drain::Drain;
 use crate::host::Host;
 use crate::inbox::{Acceptor, Inbox, NotLeft, Room, close_all, leave_lightest, room_of};
 use crate::link::{Link, LinkJob, Report};
@@ -129,6 +130,7 @@ pub(crate) fn new_links<'a, R: Host>(
     rt: &'a R,
     alloc: Global,
     options: LocalOptions,
+    drain: Option<Arc<Drain, Global>>,
 ) -> Result<(LinkSockets<'a, R>, LinkThreads), StartFault> {
     let (give, jobs) = bounded::<LinkJob, Global>(alloc, LINKS)?;
     let (attends, attended) = bounded::<bool, Global>(alloc, 1)?;
@@ -141,7 +143,7 @@ pub(crate) fn new_links<'a, R: Host>(
         started,
         reports: heard,
     };
-    let sockets = LinkSockets::new(rt, alloc, options, starter)?;
+    let sockets = LinkSockets::new(rt, alloc, options, starter, drain)?;
     let threads = LinkThreads {
         jobs,
         attends,
@@ -170,6 +172,8 @@ pub(crate) struct LinkSockets<'a, R> {
     user: Option<TcpConnection>,
     /// A link had no session for it.
     is_returned: bool,
+    /// Says when no more users are to be taken. None where nothing does.
+    drain: Option<Arc<Drain, Global>>,
 }
 
 impl<'a, R: Host> LinkSockets<'a, R> {
@@ -179,9 +183,13 @@ impl<'a, R: Host> LinkSockets<'a, R> {
         alloc: Global,
         options: LocalOptions,
         starter: Starter,
+        drain: Option<Arc<Drain, Global>>,
     ) -> Result<LinkSockets<'a, R>, StartFault> {
         let site = Site::new(rt, alloc)?;
-        let waker = Waker::new(&site.poll, REPORTS)?;
+        let waker = Arc::new(alloc, Waker::new(&site.poll, REPORTS)?)?;
+        if let Some(drain) = &drain {
+            let _ = drain.wakes(rt, Arc::try_clone(&waker)?);
+        }
         let acceptor = Arc::new(alloc, Acceptor::new(alloc, waker))?;
         Ok(LinkSockets {
             site,
@@ -194,6 +202,7 @@ impl<'a, R: Host> LinkSockets<'a, R> {
             listening: None,
             user: None,
             is_returned: false,
+            drain,
         })
     }
 
@@ -225,7 +234,7 @@ impl<'a, R: Host> LinkSockets<'a, R> {
         } = users;
         let (listener, at) = listen_at(self.site.rt, address)?;
         let listening = Listening::new(listener, count, is_patient, &self.site.poll, USERS)?;
-        self.listening = Some(listening);
+        self.listening = Some(listening.until(self.drain.take()));
         for _ in 0..self.options.links {
             self.add_link()?;
         }
@@ -286,6 +295,7 @@ impl<'a, R: Host> LinkSockets<'a, R> {
             return PoolHappened::NobodyComes(None);
         };
         for _ in rt.forever() {
+            listening.heed_drain();
             // This comes first: links that close behind the last user are no fault.
             if listening.is_over() {
                 return last_of(listening);

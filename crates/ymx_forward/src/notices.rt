@@ -82,6 +82,8 @@ impl<L: Outlet> Watcher for Notices<'_, L> {
     fn failed(&mut self, option: Named, reason: Reason) {
         self.say_notice(Notice::Refused(option, reason));
     }
+
+    fn peer(&mut self, _is_there: bool) {}
 }
 
 /// The line of a connection that has ended.

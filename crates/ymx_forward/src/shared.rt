@@ -38,4 +38,9 @@ impl<R: Wait, V: ProgramWatcher> Watcher for Shared<'_, R, V> {
         let mut watcher = self.watcher.lock(self.rt);
         watcher.failed(option, reason);
     }
+
+    fn peer(&mut self, is_there: bool) {
+        let mut watcher = self.watcher.lock(self.rt);
+        watcher.peer(is_there);
+    }
 }

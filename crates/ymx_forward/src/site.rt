@@ -74,10 +74,12 @@ impl<R: Net + Clock + Wait> Site<'_, R> {
         if let Some(patience) = end.limits.silence {
             peer.limit_silence(patience);
         }
+        watcher.peer(true);
         let mut served = match wire_of(peer, &self.poll) {
             Some(wire) => self.run(end, wire, session, watcher),
             None => Served::unbegun(session, unwatched()),
         };
+        watcher.peer(false);
         served.note(self.has_lasted(began), address);
         served
     }

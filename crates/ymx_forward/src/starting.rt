@@ -26,6 +26,14 @@ impl StartFault {
         }
     }
 
+    /// Why the system refused. None where there was no memory.
+    pub(crate) fn reason(self) -> Option<Reason> {
+        match self {
+            StartFault::Unwatched(error) => Some(Reason::of(&error)),
+            StartFault::OutOfMemory(_) => None,
+        }
+    }
+
     /// What happened to a pool.
     pub(crate) fn happened_to_pool(self) -> PoolHappened {
         match self {

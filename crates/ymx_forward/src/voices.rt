@@ -75,20 +75,27 @@ impl<R: Wait, V: ProgramWatcher> ProgramWatcher for Shared<'_, R, V> {
     }
 }
 
-/// A world of which nobody watches the connections: where notices are told it tells nothing.
+/// A world of whose connections nothing is told where notices are: only this watcher hears of them.
 #[derive(Drop)]
-pub(crate) struct Unheard<W> {
+pub(crate) struct Aside<W, V> {
     pub(crate) world: W,
+    pub(crate) watcher: V,
 }
 
-impl<W: World<Unwatched, WatcherLines>, T, L: Lines<T>> World<T, L> for Unheard<W> {
+impl<W: World<V, WatcherLines>, V: ProgramWatcher, T, L: Lines<T>> World<T, L> for Aside<W, V> {
     ghost log = { λ u. W.log u.world };
 
     ghost may = { λ u. W.may u.world };
 
     fn perform(&mut self, deed: Deed, _lines: &mut T) -> Happened {
-        self.world.perform(deed, &mut Unwatched)
+        self.world.perform(deed, &mut self.watcher)
     }
+}
+
+/// A world of which nobody watches the connections that it has itself: where notices are told it tells nothing.
+#[derive(Drop)]
+pub(crate) struct Unheard<W> {
+    pub(crate) world: W,
 }
 
 impl<W: PoolWorld<Unwatched, WatcherLines>, T, L: Lines<T>> PoolWorld<T, L> for Unheard<W> {

@@ -91,6 +91,9 @@ pub(crate) trait Watcher {
 
     /// The system refused, for this reason, what this option asks for.
     fn failed(&mut self, option: Named, reason: Reason);
+
+    /// A session with a peer begins, or has ended.
+    fn peer(&mut self, is_there: bool);
 }
 
 /// Watches nothing.
@@ -109,6 +112,8 @@ impl Watcher for Unwatched {
     fn lost(&mut self) {}
 
     fn failed(&mut self, _option: Named, _reason: Reason) {}
+
+    fn peer(&mut self, _is_there: bool) {}
 }
 
 impl EndedConnection {

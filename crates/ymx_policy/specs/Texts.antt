@@ -45,6 +45,7 @@ option_text (option.Peer address) = codes "--peer " ++ socket_v4_text address
 option_text (option.Bind address) = codes "--bind " ++ socket_v4_text address
 option_text option.Peers = codes "--peers"
 option_text option.Links = codes "--links"
+option_text (option.Status address) = codes "--status " ++ socket_v4_text address
 
 -- what was done against a rule of yamux: 1 for B1
 abbrev pub rule_words : ℕ → List ℕ

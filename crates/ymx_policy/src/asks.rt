@@ -88,6 +88,8 @@ pub enum Named {
     Peers,
     /// `--links`
     Links,
+    /// `--status`
+    Status(SocketAddrV4),
 }
 
 /// What is told on a line of its own: where `-v` asks for it or, where it is the reason of a fault, always.

@@ -106,6 +106,10 @@ fn push_option(text: &mut Text, option: Named)
         }
         Named::Peers => text.push_str("--peers"),
         Named::Links => text.push_str("--links"),
+        Named::Status(address) => {
+            text.push_str("--status ");
+            push_address(text, address);
+        }
     }
 }
 

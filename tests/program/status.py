@@ -1,0 +1,385 @@
+"""Asks `ymx local --status` and `ymx remote --status` what they count, and `local` to take no more users, and looks whether
+what they say is so.
+
+Where Prometheus's promtool stands it reads the page too. It says which tests failed, and nothing where none did. No test
+follows one that hangs.
+
+usage: status.py YMX
+"""
+
+import re
+import shutil
+import socket
+import subprocess
+import sys
+import time
+
+import raw
+from raw import ANY, Program, accept, call, free_place, free_places, has_ended, is_cut, leave, listen, take
+
+# How many bytes of a request are read at most.
+REQUEST = 8_192
+# How many seconds one has to ask.
+PATIENCE = 2
+SAMPLE = re.compile(r'([a-z_:]+)(?:\{([a-z_]+)="([a-z_]+)"\})? ([0-9]+)')
+KINDS = {"counter", "gauge"}
+
+
+# ---- the page
+
+
+def ask(place, request):
+    """The status, the fields and the body of the answer to this request, behind which the connection ends."""
+    connection = call(place)
+    connection.sendall(request)
+    said = b""
+    while piece := connection.recv(65_536):
+        said += piece
+    connection.close()
+    head, body = said.split(b"\r\n\r\n", 1)
+    lines = head.decode().split("\r\n")
+    version, status, _ = lines[0].split(" ", 2)
+    assert version == "HTTP/1.1", said
+    fields = dict(line.split(": ", 1) for line in lines[1:])
+    assert fields["Content-Length"] == str(len(body)), said
+    assert fields["Connection"] == "close", said
+    return int(status), fields, body.decode()
+
+
+def request(method, path):
+    return f"{method} {path} HTTP/1.1\r\nHost: ymx\r\nAccept: */*\r\n\r\n".encode()
+
+
+def get(place, path):
+    return ask(place, request("GET", path))
+
+
+def parse(page):
+    """The samples of a page in Prometheus's text format, each of which stands behind the help and the type of its family."""
+    samples, helped, typed = {}, set(), {}
+    for line in page.removesuffix("\n").split("\n"):
+        if line.startswith("# HELP "):
+            helped.add(line.split(" ")[2])
+        elif line.startswith("# TYPE "):
+            _, _, family, kind = line.split(" ")
+            assert kind in KINDS and family in helped and family not in typed, line
+            assert (kind == "counter") == family.endswith("_total"), line
+            typed[family] = kind
+        else:
+            family, name, value, number = SAMPLE.fullmatch(line).groups()
+            assert family in typed, line
+            key = (family, value) if name else family
+            assert key not in samples, line
+            samples[key] = int(number)
+    return samples
+
+
+def counts(place):
+    status, fields, page = get(place, "/metrics")
+    assert (status, fields["Content-Type"]) == (200, "text/plain; version=0.0.4; charset=utf-8")
+    return parse(page)
+
+
+def await_counts(place, **wanted):
+    """Asks until these are the counts."""
+    while any(counts(place)["ymx_" + name] != count for name, count in wanted.items()):
+        time.sleep(0.01)
+
+
+class Tunnel:
+    """Both ends, each of which can be asked, and a target."""
+
+    def __init__(self, *words, remote=()):
+        self.target, address = listen()
+        self.far, self.near, bound = free_places(3)
+        self.remote = Program("remote", "--bind", bound, "--target", address, "--status", self.far, *remote)
+        wait_for(self.far)
+        wait_for(bound) if "--keep" in remote else time.sleep(0.2)
+        self.local = Program("local", "-v", "--listen", ANY, "--peer", bound, "--status", self.near, *words)
+        self.users = self.local.place()
+
+    def join(self):
+        """A user's connection, and that at the target."""
+        user = call(self.users)
+        return user, accept(self.target)
+
+    def kill(self):
+        for program in (self.local, self.remote):
+            program.process.kill()
+            program.process.communicate()
+
+
+def wait_for(place):
+    """Waits until somebody listens at this place."""
+    call_when_there(place).close()
+
+
+def pass_on(one, other, count):
+    """So many bytes from one to the other."""
+    one.sendall(bytes(count))
+    assert len(take(other, count)) == count
+
+
+def counts_what_passes():
+    """What is counted of three connections is what was sent through them, at both ends."""
+    tunnel = Tunnel()
+    assert counts(tunnel.near)["ymx_connections_begun_total"] == 0
+    kept = tunnel.join()
+    await_counts(tunnel.near, connections_open=1, peers=1)
+    await_counts(tunnel.far, connections_open=1, peers=1)
+    for up, down in ((1, 70_000), (300_000, 0)):
+        user, service = tunnel.join()
+        pass_on(user, service, up)
+        pass_on(service, user, down)
+        user.shutdown(socket.SHUT_WR)
+        leave(service)
+        assert has_ended(user)
+        user.close()
+    for place in (tunnel.near, tunnel.far):
+        await_counts(place, connections_open=1)
+        samples = counts(place)
+        assert samples["ymx_connections_begun_total"] == 3
+        assert samples["ymx_connections_ended_total", "ended"] == 2
+        ways = ("to_peer", "from_peer") if place == tunnel.near else ("from_peer", "to_peer")
+        assert [samples["ymx_bytes_total", way] for way in ways] == [300_001, 70_000]
+        assert (samples["ymx_peers_come_total"], samples["ymx_peers_gone_total"]) == (1, 0)
+    # two seconds later it is at least two seconds old
+    time.sleep(2)
+    assert 2 <= counts(tunnel.near)["ymx_connection_oldest_seconds"] <= 100
+    raw.break_off(kept[0])
+    await_counts(tunnel.near, connections_open=0)
+    samples = counts(tunnel.near)
+    assert samples["ymx_connections_ended_total", "connection_failed"] == 1
+    assert samples["ymx_connection_oldest_seconds"] == 0
+    if tool := shutil.which("promtool"):
+        page = get(tunnel.near, "/metrics")[2]
+        found = subprocess.run([tool, "check", "metrics"], input=page, text=True, capture_output=True, check=False)
+        assert (found.returncode, found.stdout + found.stderr) == (0, ""), found
+    tunnel.kill()
+
+
+def counts_links():
+    """Each link is a session, and the counts are of all links."""
+    tunnel = Tunnel("--links", "3", remote=("--keep",))
+    await_counts(tunnel.near, peers=3)
+    pairs = [tunnel.join() for _ in range(3)]
+    await_counts(tunnel.near, connections_open=3)
+    await_counts(tunnel.far, connections_open=3, peers=3)
+    for user, service in pairs:
+        user.shutdown(socket.SHUT_WR)
+        leave(service)
+        user.close()
+    await_counts(tunnel.near, connections_open=0)
+    assert counts(tunnel.near)["ymx_connections_ended_total", "ended"] == 3
+    tunnel.kill()
+
+
+def counts_the_refused():
+    """A user for whom the peer can't be reached is counted as one that got no stream."""
+    page = free_place()
+    program = Program("local", "-v", "--keep", "--listen", ANY, "--peer", free_place(), "--status", page)
+    assert is_cut(call(program.place()))
+    await_counts(page, connections_begun_total=1)
+    samples = counts(page)
+    assert samples["ymx_connections_refused_total", "lost"] == 1
+    assert (samples["ymx_connections_open"], samples["ymx_peers_come_total"]) == (0, 0)
+    program.process.kill()
+    program.process.communicate()
+
+
+# ---- requests
+
+
+def answers():
+    """Each request is answered by its method and its path."""
+    tunnel = Tunnel()
+    for place in (tunnel.near, tunnel.far):
+        assert get(place, "/")[2].startswith("# HELP ymx_bytes_total ")
+        assert get(place, "/health")[::2] == (200, "serving\n")
+        for method, path, status, allowed in (
+            ("GET", "/other", 404, None), ("POST", "/other", 404, None), ("GET", "/metrics/", 404, None),
+            ("POST", "/metrics", 405, "GET"), ("PUT", "/", 405, "GET"), ("HEAD", "/health", 405, "GET"),
+            ("GET", "/drain", 405, "POST"), ("get", "/metrics", 405, "GET"),
+        ):
+            answer = ask(place, request(method, path))
+            assert (answer[0], answer[1].get("Allow")) == (status, allowed), (method, path, answer)
+        for bad in (b"\r\n", b"GET /metrics\r\n", b"GET /metrics HTTP/2\r\n\r\n", b"\x00\xff\n", b"x" * (REQUEST + 1)):
+            assert ask(place, bad)[0] == 400, bad
+        # the line may come in parts, and with a line feed alone
+        assert ask(place, b"GET /health HTTP/1.0\n\n")[0] == 200
+    tunnel.kill()
+
+
+def parts():
+    """A line that comes byte by byte is read."""
+    tunnel = Tunnel()
+    connection = call(tunnel.near)
+    connection.setsockopt(socket.IPPROTO_TCP, socket.TCP_NODELAY, 1)
+    for byte in request("GET", "/health"):
+        connection.sendall(bytes([byte]))
+    assert take(connection, 12) == b"HTTP/1.1 200"
+    tunnel.kill()
+
+
+def is_closed(connection):
+    """Whether it ends, or is reset, and no byte comes before."""
+    try:
+        return connection.recv(1) == b""
+    except ConnectionResetError:
+        return True
+
+
+def stuck_ones():
+    """Those who ask nothing, or take no answer, hold up no other, nor the tunnel, and are closed after a while."""
+    tunnel = Tunnel()
+    user, service = tunnel.join()
+    stuck = [call(tunnel.near) for _ in range(40)]
+    for connection in stuck[::2]:
+        connection.sendall(b"GET /metrics HTTP/1.1")
+    began = time.monotonic()
+    assert get(tunnel.near, "/health")[0] == 200
+    pass_on(user, service, 1_000_000)
+    assert time.monotonic() - began < PATIENCE, "others were held up"
+    assert all(is_closed(connection) for connection in stuck)
+    tunnel.kill()
+
+
+def address_in_use():
+    """Where it can't listen at the address nothing begins, and it says why."""
+    listener, address = listen()
+    for name, words in (("local", ("--listen", ANY)), ("remote", ("--target", ANY))):
+        for verbose in ((), ("-v",)):
+            program = Program(name, *verbose, "--bind", ANY, "--status", address, *words)
+            assert program.end() == (1, f"ymx: --status {address}: address in use\nymx: cannot listen at {address}\n")
+
+
+# ---- draining
+
+
+def drain(place):
+    assert ask(place, request("POST", "/drain"))[::2] == (202, "draining\n")
+
+
+def drains(words=(), remote=(), at_once=8):
+    """Asked to, it takes no more users, finishes those that it has, and ends with 0."""
+    tunnel = Tunnel(*words, remote=remote)
+    pairs = [tunnel.join() for _ in range(at_once)]
+    await_counts(tunnel.near, connections_open=at_once)
+    for user, service in pairs:
+        pass_on(user, service, 10_000)
+    drain(tunnel.near)
+    assert get(tunnel.near, "/health")[::2] == (503, "draining\n")
+    while True:
+        try:
+            assert is_cut(call(tunnel.users))
+        except ConnectionRefusedError:
+            break
+    assert tunnel.local.process.poll() is None
+    for user, service in pairs:
+        pass_on(user, service, 300_000)
+        pass_on(service, user, 300_000)
+        user.shutdown(socket.SHUT_WR)
+        assert has_ended(service)
+        pass_on(service, user, 50_000)
+        leave(service)
+        assert has_ended(user)
+        user.close()
+    status, said = tunnel.local.end()
+    assert status == 0, (status, said)
+    assert said.count("(ended)") == 2 * at_once, said
+    tunnel.kill()
+
+
+def restarts():
+    """Of 200 transfers none is cut that has begun where a drained `local` is followed by another at the same place."""
+    target, address = listen()
+    page, second_page, bound, place = free_places(4)
+    far = Program("remote", "--keep", "--bind", bound, "--target", address)
+    wait_for(bound)
+    words = ("local", "--keep", "--listen", place, "--peer", bound, "--status")
+    first = Program(*words, page)
+    wait_for(page)
+    began = []
+    for number in range(200):
+        if number == 100:
+            drain(page)
+            second = Program(*words, second_page)
+            wait_for(second_page)
+        user = call_when_there(place)
+        user.sendall(bytes(1_000))
+        service = accept(target)
+        assert len(take(service, 1_000)) == 1_000
+        began.append((user, service))
+    for user, service in began:
+        pass_on(service, user, 50_000)
+        pass_on(user, service, 50_000)
+        user.shutdown(socket.SHUT_WR)
+        leave(service)
+        assert has_ended(user)
+        user.close()
+    assert first.end() == (0, "")
+    assert counts(second_page)["ymx_connections_begun_total"] == 100
+    for program in (far, second):
+        program.process.kill()
+        program.process.communicate()
+
+
+def call_when_there(place):
+    """A connection to this place, once somebody listens there."""
+    while True:
+        try:
+            return call(place)
+        except ConnectionRefusedError:
+            time.sleep(0.01)
+
+
+def drains_while_idle(words=(), remote=()):
+    """With no user it ends at once."""
+    tunnel = Tunnel(*words, remote=remote)
+    drain(tunnel.near)
+    status, said = tunnel.local.end()
+    assert status == 0, (status, said)
+    tunnel.kill()
+
+
+def drains_before_its_peer_comes():
+    """With --keep --bind it ends at once too where no peer has come."""
+    page = free_place()
+    program = Program("local", "-v", "--keep", "--listen", ANY, "--bind", ANY, "--status", page)
+    program.place()
+    program.place()
+    drain(page)
+    assert program.end() == (0, "")
+
+
+def is_not_drained():
+    """A `remote` is not drained."""
+    tunnel = Tunnel()
+    assert ask(tunnel.far, request("POST", "/drain"))[0] == 404
+    assert get(tunnel.far, "/health")[0] == 200
+    tunnel.kill()
+
+
+TESTS = (
+    ("counts what passes", counts_what_passes, ()),
+    ("counts links", counts_links, ()),
+    ("counts the refused", counts_the_refused, ()),
+    ("answers", answers, ()),
+    ("a line in parts", parts, ()),
+    ("stuck ones", stuck_ones, ()),
+    ("address in use", address_in_use, ()),
+    ("drains", drains, ()),
+    ("drains with --keep", drains, (("--keep",), ("--keep",))),
+    ("drains with --links", drains, (("--links", "3"), ("--keep",))),
+    ("drains with --links --keep", drains, (("--links", "3", "--keep"), ("--keep",))),
+    ("a restart", restarts, ()),
+    ("drains while idle", drains_while_idle, ()),
+    ("drains while idle with --keep", drains_while_idle, (("--keep",), ("--keep",))),
+    ("drains while idle with --links", drains_while_idle, (("--links", "3"), ("--keep",))),
+    ("drains before its peer comes", drains_before_its_peer_comes, ()),
+    ("a remote is not drained", is_not_drained, ()),
+)
+
+
+if __name__ == "__main__":
+    sys.exit(raw.main(TESTS))
