@@ -46,8 +46,8 @@ expect 1 "$(says 'rest 11')" nothing rest frames
 expect 1 "$(says 'fault B5 at 0')" nothing long frames
 expect 1 "$(says 'rest 12')" nothing long frames --limit=300000
 expect 1 "$(says 'rest 12')" nothing long frames --limit 300000
-expect 1 nothing "$(says "ymx: absent: the file can't be opened")" hello frames absent
-expect 1 nothing "$(says 'ymx: reading failed')" hello frames .
+expect 1 nothing "$(says 'ymx: absent: no such file' "ymx: absent: the file can't be opened")" hello frames absent
+expect 1 nothing "$(says 'ymx: .: is a folder' "ymx: .: the file can't be opened")" hello frames .
 
 # the tunnel: three connections through it, and addresses that are none, the first of which is told
 printf 'connection %s bytes echoed\n' '1: 0' '2: 1' '3: 300000' > echoed
@@ -174,6 +174,8 @@ holds 'a target that answers nobody' python3 -B "$here/unanswered.py" "$ymx"
 holds 'the calls of an idle tunnel' python3 -B "$here/idle.py" "$ymx"
 holds 'peers that never answer a call' python3 -B "$here/timeouts.py" "$ymx"
 holds 'what an end counts, and how it is drained' python3 -B "$here/status.py" "$ymx"
+holds 'nobody reads what it says' python3 -B "$here/unread.py" "$ymx"
+holds 'the time before each line' python3 -B "$here/times.py" "$ymx"
 holds 'a thousand users at once' python3 -B "$here/bursts.py" "$ymx" 1000
 
 expect 0 "$here/help" nothing hello --help
@@ -321,7 +323,7 @@ expect 0 "$answers" nothing "$script" script
 expect 0 "$answers" nothing "$script" script -
 expect 0 nothing nothing nothing script
 expect 1 "$(says 'error line 1')" nothing nothing script hello
-expect 1 nothing "$(says "ymx: absent: the file can't be opened")" nothing script absent
+expect 1 nothing "$(says 'ymx: absent: no such file' "ymx: absent: the file can't be opened")" nothing script absent
 expect 1 nothing "$(says 'ymx: reading failed')" nothing script .
 
 # on_full SUBCOMMAND INPUT: a full device takes nothing

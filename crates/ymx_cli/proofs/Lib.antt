@@ -1,2 +1,3 @@
 mod Planning
+mod Pushing
 mod Saying

@@ -1,3 +1,5 @@
+pub mod Log
 pub mod Messages
 pub mod Outcomes
 pub mod Plans
+pub mod Time

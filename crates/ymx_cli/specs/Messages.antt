@@ -11,6 +11,8 @@ use Rattle.ymx_frames.specs.declared.print.FramesEnd.TheVariants.{Good, Fault as
 use Rattle.ymx_script.specs.Outputs.{PrintsByEnd}
 use Rattle.ymx_script.specs.declared.lines.ScriptEnd.{ScriptEnd}
 use Rattle.ymx_script.specs.declared.lines.ScriptEnd.TheVariants as script
+use Rattle.ymx_cli.specs.declared.command.Unopened.{Unopened}
+use Rattle.ymx_cli.specs.declared.command.Unopened.TheVariants as why
 use Rattle.ymx_cli.specs.declared.outcome.Outcome.{Outcome}
 use Rattle.ymx_cli.specs.Outcomes.{status_of, has_refusal}
 
@@ -54,9 +56,12 @@ SaysText c text = TakesText c text ⊎ (IsTrue (fails c) × TakesPart c text)
 abbrev pub out_of_memory : List ℕ
 out_of_memory = codes "ymx: out of memory\n"
 
--- the file of this name can't be opened
-abbrev pub opening_failed : List ℕ → List ℕ
-opening_failed name = codes "ymx: " ++ (name ++ codes ": the file can't be opened\n")
+-- that the file of this name can't be opened, behind a line that says why, if that is known
+abbrev pub opening_failed : Unopened → List ℕ → List ℕ
+opening_failed why.Missing name = codes "ymx: " ++ (name ++ (codes ": no such file\nymx: " ++ (name ++ codes ": the file can't be opened\n")))
+opening_failed why.Denied name = codes "ymx: " ++ (name ++ (codes ": permission denied\nymx: " ++ (name ++ codes ": the file can't be opened\n")))
+opening_failed why.Folder name = codes "ymx: " ++ (name ++ (codes ": is a folder\nymx: " ++ (name ++ codes ": the file can't be opened\n")))
+opening_failed why.Other name = codes "ymx: " ++ (name ++ codes ": the file can't be opened\n")
 
 -- the writer failed
 abbrev pub writing_failed : List ℕ
@@ -130,17 +135,17 @@ PlaysScript outcome input output errors =
     × (status_of outcome ≤ 1) × ((status_of outcome ≡ 0) ↔ (end ≡ script.Good)) × SaysText errors (script_reason end)
 
 -- The file of this name, which holds these bytes, is read, and this comes of its change, or it refuses to be opened.
-abbrev pub ReadsFile : Outcome → (refuses : Type 0) → (name : List ℕ) → Option (List ℕ) → (output errors : Change) → (Change → Type 0) → Type 0
+abbrev pub ReadsFile : Outcome → (refuses : Unopened → Type 0) → (name : List ℕ) → Option (List ℕ) → (output errors : Change) → (Change → Type 0) → Type 0
 ReadsFile outcome refuses name held output errors comes =
-    (refuses × Refuses outcome output errors (opening_failed name))
+    ((why : Unopened) × refuses why × Refuses outcome output errors (opening_failed why name))
     ⊎ ((input : Change) × Keeps held input.before × (input.failures_before ≡ 0) × comes input)
 
 -- The frames of the file of this name, which holds these bytes, are printed with this limit, or it refuses to be opened.
-abbrev pub PrintsFile : (limit : ℕ) → Outcome → (refuses : Type 0) → (name : List ℕ) → Option (List ℕ) → (output errors : Change) → Type 0
+abbrev pub PrintsFile : (limit : ℕ) → Outcome → (refuses : Unopened → Type 0) → (name : List ℕ) → Option (List ℕ) → (output errors : Change) → Type 0
 PrintsFile limit outcome refuses name held output errors = ReadsFile outcome refuses name held output errors (λ input. PrintsFrames limit outcome input output errors)
 
 -- The script that the file of this name holds is played, or it refuses to be opened.
-abbrev pub PlaysFile : Outcome → (refuses : Type 0) → (name : List ℕ) → Option (List ℕ) → (output errors : Change) → Type 0
+abbrev pub PlaysFile : Outcome → (refuses : Unopened → Type 0) → (name : List ℕ) → Option (List ℕ) → (output errors : Change) → Type 0
 PlaysFile outcome refuses name held output errors = ReadsFile outcome refuses name held output errors (λ input. PlaysScript outcome input output errors)
 
 -- This happened to a text; where it is stated what a message displays as, to that text.

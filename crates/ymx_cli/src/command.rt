@@ -1,6 +1,6 @@
 //! Does what the words of a command line ask for.
 
-ghost use Rattle.std.specs.Prelude.{ℕ, List, Option, None, Some, ◌++◌, ◌≡◌, ◌≢◌, ◌≤◌, ◌↔◌, ◌⊎◌, true, false, map, IfErr, IfOk, IsTrue};
+ghost use Rattle.std.specs.Prelude.{ℕ, List, Option, None, Some, ◌++◌, ◌≡◌, ◌≢◌, ◌≤◌, ◌↔◌, ◌⊎◌, true, false, codes, map, IfErr, IfOk, IsTrue};
 ghost use Rattle.std.specs.IoError.{error_kind};
 ghost use Rattle.std.specs.declared.io.ErrorKind.TheVariants.{InvalidData};
 ghost use Rattle.std.specs.Io.KnownBytes.{Keeps};
@@ -11,6 +11,7 @@ ghost use Rattle.ymx_cli.specs.Messages.{IsUntouched, PlaysFile, PlaysScript, Pr
 ghost use Rattle.ymx_cli.specs.Outcomes.{has_refusal, is_tunnel, status_of};
 ghost use Rattle.ymx_cli.specs.Plans.{ComesByPlan};
 
+use crate::log::LogOutlet;
 use crate::outcome::{NoWords, Outcome, Refusal, text_of};
 use crate::tunnel::run_tunnel;
 use clap::Error;
@@ -25,8 +26,21 @@ use std::time::Clock;
 use ymx_arguments::{CommandFault, Task, parse};
 use ymx_devices::push_all;
 use ymx_frames::{FramesEnd, frames};
-use ymx_model::{DeviceFault, Inlet, Outlet};
+use ymx_model::{Inlet, Outlet};
 use ymx_script::{ScriptEnd, script};
+
+/// Why a file can't be opened.
+#[derive(Clone, Copy)]
+pub enum Unopened {
+    /// There is none of this name.
+    Missing,
+    /// It may not be read.
+    Denied,
+    /// It is a folder.
+    Folder,
+    /// For another reason.
+    Other,
+}
 
 /// Opens files by their names.
 pub trait FileOpener {
@@ -36,13 +50,15 @@ pub trait FileOpener {
     /// The bytes of the file of this name, if the opener can tell.
     ghost held: { Self → List ℕ → Option (List ℕ) };
 
-    /// No file of this name can be opened.
-    ghost refuses: { Self → List ℕ → Type 0 };
+    ghost use Rattle.ymx_cli.specs.declared.command.Unopened.{Unopened};
+
+    /// No file of this name can be opened, for this reason.
+    ghost refuses: { Self → List ℕ → Unopened → Type 0 };
 
     /// Opens the file of this name, to be read from its beginning.
-    fn open(&self, name: &str) -> Result<Self::File, DeviceFault>
+    fn open(&self, name: &str) -> Result<Self::File, Unopened>
         ensures opened { IfOk result (λ file. Keeps (held self.now name.now) (Self.File.remaining file) × (Self.File.failures file ≡ 0)) }
-        ensures refused { IfErr result (λ _. refuses self.now name.now) };
+        ensures refused { IfErr result (refuses self.now name.now) };
 }
 
 /// Does what the words of a command line ask for, the first of which is the program's name. Faults are said on
@@ -54,8 +70,8 @@ pub fn ymx_main<
     F: FileOpener,
     R: Inlet,
     W: Outlet + Send,
-    E: Outlet + Send,
-    L: Outlet + Send,
+    E: LogOutlet + Send,
+    L: LogOutlet + Send,
 >(
     rt: &T,
     alloc: Global,
@@ -183,7 +199,7 @@ fn print_file<F: FileOpener, W: Outlet, E: Outlet>(
 {
     match files.open(name) {
         Ok(mut file) => print(rt, alloc, &mut file, limit, writer, errors),
-        Err(_) => cannot_open(errors, name),
+        Err(why) => cannot_open(errors, name, why),
     }
 }
 
@@ -219,7 +235,7 @@ fn play_file<F: FileOpener, W: Outlet, E: Outlet>(
 {
     match files.open(name) {
         Ok(mut file) => play(rt, alloc, &mut file, writer, errors),
-        Err(_) => cannot_open(errors, name),
+        Err(why) => cannot_open(errors, name, why),
     }
 }
 
@@ -257,18 +273,40 @@ fn finish_script<E: Outlet>(end: ScriptEnd, errors: &mut E) -> Outcome
     }
 }
 
-/// Says that the file of this name can't be opened, and answers the status of a fault.
-pub(crate) fn cannot_open<E: Outlet>(errors: &mut E, name: &str) -> Outcome
+/// Says why the file of this name can't be opened, and that it can't, and answers the status of a fault.
+pub(crate) fn cannot_open<E: Outlet>(errors: &mut E, name: &str, why: Unopened) -> Outcome
     ensures status { status_of result ≡ 1 }
-    ensures said { SaysText (change_of E.contents E.failures errors.old errors.new) (opening_failed name.now) }
+    ensures said { SaysText (change_of E.contents E.failures errors.old errors.new) (opening_failed why name.now) }
 {
-    say_three(
-        errors,
-        b"ymx: ",
-        name.as_bytes(),
-        b": the file can't be opened\n",
-    );
+    let name = name.as_bytes();
+    match why {
+        Unopened::Missing => say_why(errors, name, b": no such file\nymx: "),
+        Unopened::Denied => say_why(errors, name, b": permission denied\nymx: "),
+        Unopened::Folder => say_why(errors, name, b": is a folder\nymx: "),
+        Unopened::Other => say_three(errors, b"ymx: ", name, UNOPENED),
+    }
     Outcome::Faulted
+}
+
+/// What is said behind the name of a file that can't be opened.
+const UNOPENED: &[u8] = b": the file can't be opened\n";
+
+/// Says the name of a file, why it can't be opened, and that it can't.
+fn say_why<E: Outlet>(errors: &mut E, name: &[u8], why: &[u8])
+    ensures { SaysText (change_of E.contents E.failures errors.old errors.new) (codes "ymx: " ++ (name.now ++ (why.now ++ (name.now ++ codes ": the file can't be opened\n")))) }
+{
+    if let Ok(()) = push_all(errors, b"ymx: ") {
+        say_name(errors, name, why);
+    }
+}
+
+/// Says the same behind the program's name.
+fn say_name<E: Outlet>(errors: &mut E, name: &[u8], why: &[u8])
+    ensures { SaysText (change_of E.contents E.failures errors.old errors.new) (name.now ++ (why.now ++ (name.now ++ codes ": the file can't be opened\n"))) }
+{
+    if let Ok(()) = push_all(errors, name) {
+        say_three(errors, why, name, UNOPENED);
+    }
 }
 
 /// Says a text that is given in three parts.

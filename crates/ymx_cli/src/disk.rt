@@ -2,11 +2,11 @@
 
 ghost use Rattle.std.specs.Prelude.{None, ⊤};
 
-use crate::command::FileOpener;
-use std::fs;
+use crate::command::{FileOpener, Unopened};
+use std::fs::File;
+use std::io::{self, ErrorKind};
 use std::rt::Files;
 use ymx_devices::ReaderInlet;
-use ymx_model::DeviceFault;
 
 /// The files of the system. No contract says what they hold, nor which there are.
 #[derive(Drop)]
@@ -15,20 +15,42 @@ pub struct Disk<'a, T> {
     pub rt: &'a T,
 }
 
-impl<T: Files> FileOpener for Disk<'_, T> {
-    type File = ReaderInlet<T::File>;
+impl<T: Files<File = File>> FileOpener for Disk<'_, T> {
+    type File = ReaderInlet<File>;
 
     ghost held = { λ s name. None };
 
-    ghost refuses = { λ s name. ⊤ };
+    ghost refuses = { λ s name why. ⊤ };
 
-    fn open(&self, name: &str) -> Result<ReaderInlet<T::File>, DeviceFault> {
-        match fs::open(self.rt, name) {
+    fn open(&self, name: &str) -> Result<ReaderInlet<File>, Unopened> {
+        match opened(self.rt, name) {
             Ok(reader) => Ok(ReaderInlet {
                 reader,
                 failures: 0,
             }),
-            Err(_) => Err(DeviceFault),
+            Err(why) => Err(why),
         }
+    }
+}
+
+/// The file of this name, which is no folder.
+fn opened<T: Files<File = File>>(rt: &T, name: &str) -> Result<File, Unopened> {
+    let file = match File::open(rt, name) {
+        Ok(file) => file,
+        Err(error) => return Err(reason_of(&error)),
+    };
+    match file.metadata() {
+        Ok(metadata) if metadata.is_dir() => Err(Unopened::Folder),
+        _ => Ok(file),
+    }
+}
+
+/// Why the system opens no file.
+fn reason_of(error: &io::Error) -> Unopened {
+    match error.kind() {
+        ErrorKind::NotFound => Unopened::Missing,
+        ErrorKind::PermissionDenied => Unopened::Denied,
+        ErrorKind::IsADirectory => Unopened::Folder,
+        _ => Unopened::Other,
     }
 }

@@ -5,16 +5,20 @@
 
 mod command;
 mod disk;
+mod log;
 mod outcome;
 mod standard;
+mod time;
 mod tunnel;
 
-use command::{cannot_open, no_words, ymx_main};
+use command::{Unopened, cannot_open, no_words, ymx_main};
 use disk::Disk;
-use standard::{SystemDescriptors, hold_standard};
+use log::{Log, LogWriter};
+use standard::{StandardError, SystemDescriptors, hold_standard};
 use std::alloc::Global;
 use std::process::ExitCode;
 use std::rt::Env;
+use std::sync::Mutex;
 use std::{env, io};
 use ymx_devices::{ReaderInlet, WriterOutlet};
 
@@ -27,16 +31,16 @@ fn main(rt: HostRuntime) -> ExitCode {
         writer: rt.stdout(),
         failures: 0,
     };
-    let mut errors = WriterOutlet {
-        writer: rt.stderr(),
-        failures: 0,
-    };
-    let mut lines = WriterOutlet {
-        writer: rt.stderr(),
-        failures: 0,
-    };
+    let log = Mutex::new(Log::new(StandardError {
+        outlet: WriterOutlet {
+            writer: rt.stderr(),
+            failures: 0,
+        },
+    }));
+    let mut errors = LogWriter::new(&rt, &log);
+    let mut lines = LogWriter::new(&rt, &log);
     if !hold_standard(&mut SystemDescriptors { rt: &rt }) {
-        return ExitCode::from(cannot_open(&mut errors, "/dev/null").status());
+        return ExitCode::from(cannot_open(&mut errors, "/dev/null", Unopened::Other).status());
     }
     let alloc = rt.alloc();
     let status = match words(&rt, alloc) {

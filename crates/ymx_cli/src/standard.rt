@@ -1,13 +1,21 @@
 //! Standard input, standard output and standard error are open before anything else is. Where one was closed, the first
-//! file or socket would get its number, and what is meant for standard error would go there.
+//! file or socket would get its number, and what is meant for standard error would go there. And standard error can tell
+//! whether it takes a line now.
 
 ghost use Rattle.std.specs.Prelude.{ℕ, Bool, Option, Some, ◌≡◌, true, false, IfSome};
 
-use libc::net::{POLLNVAL, poll};
+use crate::log::LineDevice;
+use libc::net::{POLLNVAL, POLLOUT, poll};
 use libc::types::pollfd;
 use std::fs::File;
+use std::io::Write;
 use std::os::fd::IntoRawFd;
 use std::rt::Files;
+use ymx_devices::WriterOutlet;
+use ymx_model::{DeviceFault, Outlet};
+
+/// The descriptor of standard error.
+const ERRORS: i32 = 2;
 
 /// The descriptors of a process, by their numbers.
 pub(crate) trait Descriptors {
@@ -84,5 +92,39 @@ impl<T: Files<File = File>> Descriptors for SystemDescriptors<'_, T> {
             Ok(file) => file.into_raw_fd() == i32::from(number),
             Err(_) => false,
         }
+    }
+}
+
+/// Standard error takes a line now. A write uses it up, so each comes behind a question.
+#[derive(Drop)]
+pub(crate) struct Ready {
+    seal: (),
+}
+
+/// Standard error as a device for lines. No contract says what it takes. A pipe that others fill too, or a terminal that
+/// takes less than a line, may still keep a write waiting.
+#[derive(Drop)]
+pub(crate) struct StandardError<W> {
+    pub(crate) outlet: WriterOutlet<W>,
+}
+
+impl<W: Write> LineDevice for StandardError<W> {
+    ghost contents = { λ s. W.contents s.outlet.writer };
+
+    fn ask(&mut self, patience: Option<u16>) -> Option<Ready> {
+        let Some(milliseconds) = patience else {
+            return Some(Ready { seal: () });
+        };
+        let mut asked = [pollfd {
+            fd: ERRORS,
+            events: POLLOUT,
+            revents: 0,
+        }];
+        poll(&mut asked, i32::from(milliseconds));
+        (asked[0].revents & POLLOUT != 0).then_some(Ready { seal: () })
+    }
+
+    fn write(&mut self, _ready: Ready, bytes: &[u8]) -> Result<usize, DeviceFault> {
+        self.outlet.push(bytes)
     }
 }

@@ -1,12 +1,13 @@
 //! The subcommands `local`, `remote` and `selftest`.
 
-ghost use Rattle.std.specs.Prelude.{◌≡◌, ◌≤◌, true};
+ghost use Rattle.std.specs.Prelude.{◌≡◌, ◌≤◌, Some, true, if◌then◌else◌};
 ghost use Rattle.ymx_arguments.specs.CommandLine.{IsEnd, IsNotVerbose};
 ghost use Rattle.ymx_cli.specs.Messages.{IsUntouched, TakesText, change_of};
 ghost use Rattle.ymx_forward.specs.Echoes.{echo_lines};
 ghost use Rattle.ymx_cli.specs.Outcomes.{is_tunnel, status_of};
 ghost use Rattle.ymx_cli.specs.Plans.{ComesByTables};
 
+use crate::log::LogOutlet;
 use crate::outcome::Outcome;
 use std::alloc::Global;
 use std::net::{Net, TcpListener, TcpStream};
@@ -17,12 +18,16 @@ use ymx_arguments::TunnelCommand;
 use ymx_forward::{run_local, run_remote, run_selftest};
 use ymx_model::Outlet;
 
-/// Does what was asked. Faults are said on `errors`, and why they came, and what `-v` asks for, on `lines`.
+/// How many milliseconds the last words of an end may wait to be said.
+const LAST_WORDS: u16 = 1_000;
+
+/// Does what was asked. Faults are said on `errors`, and why they came, and what `-v` asks for, on `lines`. No end of a
+/// tunnel waits for who reads them, but for its last words.
 pub(crate) fn run_tunnel<
     R: Net<Stream = TcpStream, Listener = TcpListener> + Threads + Clock + Wait + Sync,
     W: Outlet + Send,
-    E: Outlet + Send,
-    L: Outlet + Send,
+    E: LogOutlet + Send,
+    L: LogOutlet + Send,
 >(
     rt: &R,
     alloc: Global,
@@ -44,9 +49,15 @@ pub(crate) fn run_tunnel<
 {
     match command {
         TunnelCommand::Local(options) => {
+            let is_lasting = options.is_kept || options.links > 1;
+            limit(is_lasting, options.has_times, errors);
+            limit(is_lasting || options.is_verbose, options.has_times, lines);
             Outcome::Tunnel(run_local(rt, alloc, options, errors, lines))
         }
         TunnelCommand::Remote(options) => {
+            let is_lasting = options.is_kept || options.peers.is_some();
+            limit(is_lasting, options.has_times, errors);
+            limit(is_lasting || options.is_verbose, options.has_times, lines);
             Outcome::Tunnel(run_remote(rt, alloc, options, errors, lines))
         }
         TunnelCommand::Selftest => match run_selftest(rt, alloc, writer, errors) {
@@ -54,4 +65,14 @@ pub(crate) fn run_tunnel<
             None => Outcome::Tunnel(1),
         },
     }
+}
+
+/// From now on no line waits to be said, or, where the first is the last, it waits a little; and each begins with the time,
+/// if that is asked for.
+fn limit<L: LogOutlet>(is_lasting: bool, has_times: bool, lines: &mut L)
+    ensures limited { L.patience lines.new ≡ Some (if is_lasting then 0 else 1000) }
+    ensures timed { L.has_times lines.new ≡ has_times }
+    ensures untouched { (L.contents lines.new ≡ L.contents lines.old) × (L.failures lines.new ≡ L.failures lines.old) }
+{
+    lines.limit(if is_lasting { 0 } else { LAST_WORDS }, has_times);
 }

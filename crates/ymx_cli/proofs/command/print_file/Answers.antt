@@ -10,4 +10,4 @@ returns-in-Ok-clause-printed g c =
 pub returns-in-Err-clause-printed : goal.returns-in-Err-clause-printed
 returns-in-Err-clause-printed g c =
     let unwritten : Keeps (g.W.Outlet.contents c.args.writer.now) (g.W.Outlet.contents c.args.writer.now) = search rules in
-    inl (c.in-Err.ensures.refused, (c.cannot_open.ensures.status, unwritten, c.cannot_open.ensures.said))
+    inl (c.in-Err.why, c.in-Err.ensures.refused, (c.cannot_open.ensures.status, unwritten, c.cannot_open.ensures.said))
