@@ -324,7 +324,7 @@ expect 0 "$answers" nothing "$script" script -
 expect 0 nothing nothing nothing script
 expect 1 "$(says 'error line 1')" nothing nothing script hello
 expect 1 nothing "$(says 'ymx: absent: no such file' "ymx: absent: the file can't be opened")" nothing script absent
-expect 1 nothing "$(says 'ymx: reading failed')" nothing script .
+expect 1 nothing "$(says 'ymx: .: is a folder' "ymx: .: the file can't be opened")" nothing script .
 
 # on_full SUBCOMMAND INPUT: a full device takes nothing
 on_full() {
