@@ -1,6 +1,6 @@
 #!/bin/bash
 # link.sh TARGET OBJECT PROGRAM: links the program's object for that target, as release/prove.py has made it, with
-# release/parts.c, rings.c in it, and musl's archive: one static program that is loaded at any address, and needs nothing of the machine.
+# release/parts.c, musl.c in it, and musl's archive: one static program that is loaded at any address, and needs nothing of the machine.
 # link.sh --library TARGET OBJECT ARCHIVE: packs the library's object with the heap of release/parts.c.
 # All tools are the kit's, and nothing that is written has a time or a path in it: the same objects, and the same musl, give
 # the same bytes. Each thread has 8 MiB of stack, as with glibc; musl alone would give it 128 KiB.

@@ -30,7 +30,7 @@ struct tried rattle_alloc(size_t size, size_t align) { return tried(malloc(wante
 struct tried rattle_realloc(void *at, size_t kept, size_t size, size_t align) { return (void)kept, tried(realloc(at, wanted(size, align))); }
 void rattle_dealloc(void *at) { free(at); }
 #else
-#include "rings.c"
+#include "musl.c"
 
 #include <errno.h>
 #include <sys/epoll.h>

@@ -1,7 +1,9 @@
-/* The program's heap over musl: parts.c includes it, and the library for C has none of it. No proof covers it, so it is to be
-read. `malloc` gives all blocks but one kind. */
+/* What the program has beside musl, in parts.c, which includes this: its own blocks for the rings of streams, and a call of the
+system that musl has from 1.2.5 on. The library for C has none of it. No proof covers it, so it is to be read. */
 #include <string.h>
 #include <sys/mman.h>
+#include <sys/syscall.h>
+#include <unistd.h>
 
 /* A stream has two blocks of this size for bytes that wait, in which mostly none do. musl would note something at the start of
 each, and so touch a page. These come from the system, with nothing noted: each begins at a multiple of its size, and no other
@@ -45,3 +47,7 @@ struct tried rattle_realloc(void *at, size_t kept, size_t size, size_t align) {
     if (moved.ok) memcpy(moved.at, at, kept), rattle_dealloc(at);
     return moved;
 }
+
+/* What a file is. A system before Linux 4.11 answers that it has no such call, and the program then takes a folder for a file. */
+int kernel_statx(int folder, const char *path, int flags, unsigned mask, void *known) __asm__("statx");
+int kernel_statx(int folder, const char *path, int flags, unsigned mask, void *known) { return (int)syscall(SYS_statx, folder, path, flags, mask, known); }
