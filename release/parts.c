@@ -6,6 +6,7 @@ what the library for C calls. The program is linked with --wrap=main, as musl te
 #include <stddef.h>
 #include <stdint.h>
 #include <stdlib.h>
+#include <string.h>
 
 struct tried { bool ok; void *at; };
 
@@ -14,16 +15,8 @@ static max_align_t nothing;
 
 static struct tried tried(void *at) { return (struct tried){at != NULL, at != NULL ? at : &nothing}; }
 
-/* No bytes take as many as they are aligned to, since malloc(0) may answer NULL. No alignment is above 16. At the end of a large
-block musl notes how much of its pages was not asked for, unless that is nothing. So the program asks for all, but for the 20
-bytes that musl takes, and the last page stays untouched. */
-static size_t wanted(size_t size, size_t align) {
-#ifndef HEAP_ALONE
-    enum { LARGE = 131072, PAGE = 4096, TAKEN = 20 };
-    if (size >= LARGE && size < SIZE_MAX / 2) return (size + TAKEN + PAGE - 1) / PAGE * PAGE - TAKEN;
-#endif
-    return size != 0 ? size : align;
-}
+/* No bytes take as many as they are aligned to, since malloc(0) may answer NULL. No alignment is above 16. */
+static size_t wanted(size_t size, size_t align) { return size != 0 ? size : align; }
 
 #if defined HEAP_ALONE || defined __GLIBC__
 struct tried rattle_alloc(size_t size, size_t align) { return tried(malloc(wanted(size, align))); }
@@ -31,7 +24,9 @@ struct tried rattle_realloc(void *at, size_t kept, size_t size, size_t align) { 
 void rattle_dealloc(void *at) { free(at); }
 #else
 #include "musl.c"
+#endif
 
+#ifndef HEAP_ALONE
 #include <errno.h>
 #include <sys/epoll.h>
 #include <sys/ioctl.h>

@@ -174,7 +174,7 @@ holds 'a target that answers nobody' python3 -B "$here/unanswered.py" "$ymx"
 holds 'the calls of an idle tunnel' python3 -B "$here/idle.py" "$ymx"
 holds 'peers that never answer a call' python3 -B "$here/timeouts.py" "$ymx"
 holds 'what an end counts, and how it is drained' python3 -B "$here/status.py" "$ymx"
-holds 'nobody reads what it says' python3 -B "$here/unread.py" "$ymx"
+holds 'nobody reads what it says' python3 -B "$here/unread.py" "$outside"
 holds 'the time before each line' python3 -B "$here/times.py" "$ymx"
 holds 'a thousand users at once' python3 -B "$here/bursts.py" "$ymx" 1000
 
