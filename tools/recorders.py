@@ -52,9 +52,9 @@ KNOWN = {
         ("ymx_hub/src/hub.rt", "requires witnessed { R.WITNESSED ≡ true }"),
     ],
     "the pumps of the front door, whose seats are let go: what was kept would be lost": [
-        ("ymx_connect/src/pumping.rt", "requires { R.KEEPS ≡ false }"),
+        ("ymx_connect/src/pumping.rt", "requires off { R.KEEPS ≡ false }"),
         ("ymx_connect/src/running.rt", "requires off { R.KEEPS ≡ false }"),
-        ("ymx_connect/src/running.rt", "requires { (R.KEEPS ≡ false) × F.IsAlwaysCallable work }"),
+        ("ymx_connect/src/running.rt", "requires { (R.KEEPS ≡ false) × IsNewcomer"),
         ("ymx_connect/src/running.rt", "requires { R.KEEPS ≡ false }"),
     ],
     "what a thread has promised is proved of its body": [
