@@ -6,9 +6,11 @@ package yamux
 
 import (
 	"context"
+	"errors"
 	"io"
 	"log"
 	"net"
+	"os"
 	"runtime"
 	"strings"
 	"sync"
@@ -20,18 +22,18 @@ const lastReads = time.Second
 
 // Session is one side of a connection. All its calls may be made by many goroutines at once.
 //
-// One goroutine reads, feeds, and wakes those who wait for a stream that was touched. Who has bytes to send emits them
-// into one block and writes it, as far as the connection takes it at once; another goroutine writes the rest. Nobody
-// holds the lock while it reads from the connection or writes to it.
+// One goroutine at a time reads, feeds, and wakes those who wait for a stream that was touched: over a socket the only call
+// that waits for the peer, and otherwise a goroutine of the session. Who has bytes to send emits them into one block and
+// writes it, as far as the connection takes it at once; another goroutine writes the rest. Nobody holds the lock while it
+// reads from the connection or writes to it.
 type Session struct {
 	config     *Config
 	logger     *log.Logger
 	connection io.ReadWriteCloser
 	socket     *socket       // nil where the connection is none
-	source     *source       // for the reading goroutine alone
+	source     *source       // for who reads alone
 	done       chan struct{} // closed as the session ends
-	readerDone chan struct{} // closed as the reading goroutine ends
-	woken      int           // how many streams the last feed has touched; for the reading goroutine alone
+	readerDone chan struct{} // closed as nobody reads any more
 	pingSeats  chan struct{} // the pings that the library keeps: 16 at most
 
 	lock      sync.Mutex // guards all below, and each call of the core
@@ -63,6 +65,19 @@ type Session struct {
 	timer     *time.Timer // for what is sent soon; nil before the first time
 	isPlanned bool        // the timer will send it
 
+	isReading     bool        // somebody reads from the connection, or feeds what came
+	reader        *Stream     // whose call waits for bytes in the connection; nil where none of a stream does
+	isInterrupted bool        // that call shall look at its stream
+	isDeaf        bool        // nobody reads any more
+	isResting     bool        // the reading goroutine leaves it to calls that wait, for the time being
+	unfed         []byte      // what a call has read, and the library doesn't take before answers are out
+	waiters       int         // calls that wait for the peer, and that nothing has woken
+	woken         int         // how many streams the last feed has touched
+	isCrowded     bool        // they were several, and many bytes had come
+	standby       *time.Timer // for the reading goroutine; nil before the first time
+	isStandingBy  bool        // the timer will have it read, if nobody does
+
+	receiver   *sync.Cond // the reading goroutine has something to do
 	sender     *sync.Cond // the writing goroutine has something to do
 	emitted    *sync.Cond // bytes were emitted
 	acceptable *sync.Cond // a stream waits for AcceptStream
@@ -104,7 +119,7 @@ func newSession(config *Config, connection io.ReadWriteCloser, client bool) (*Se
 	s.source = newSource(connection, s.socket)
 	s.opening = patience{lock: &s.lock, limit: config.StreamOpenTimeout, tired: (*Stream).openTimedOut}
 	s.closing = patience{lock: &s.lock, limit: config.StreamCloseTimeout, tired: (*Stream).closeTimedOut}
-	for _, cond := range []**sync.Cond{&s.sender, &s.emitted, &s.acceptable, &s.openable, &s.written} {
+	for _, cond := range []**sync.Cond{&s.receiver, &s.sender, &s.emitted, &s.acceptable, &s.openable, &s.written} {
 		*cond = sync.NewCond(&s.lock)
 	}
 	go s.receive()
@@ -169,11 +184,13 @@ func (s *Session) end(reason error) {
 	s.giveBlock()
 	s.opening.stop()
 	s.closing.stop()
-	if s.timer != nil {
-		s.timer.Stop()
+	for _, timer := range []*time.Timer{s.timer, s.standby} {
+		if timer != nil {
+			timer.Stop()
+		}
 	}
 	close(s.done)
-	for _, cond := range []*sync.Cond{s.sender, s.emitted, s.acceptable, s.openable, s.written} {
+	for _, cond := range []*sync.Cond{s.receiver, s.sender, s.emitted, s.acceptable, s.openable, s.written} {
 		cond.Broadcast()
 	}
 	s.lock.Unlock()
@@ -203,7 +220,7 @@ func (s *Session) silence(reason error) bool {
 	}
 	s.mute = true
 	for _, stream := range s.streams {
-		stream.writable.Broadcast()
+		stream.wake()
 	}
 	s.wakeFlushing()
 	for _, cond := range []*sync.Cond{s.emitted, s.openable, s.written} {
@@ -215,40 +232,153 @@ func (s *Session) silence(reason error) bool {
 
 // ---- bytes that come
 
+// receive is the reading goroutine.
 func (s *Session) receive() {
 	defer close(s.readerDone)
-	defer s.source.release()
-	for {
-		bytes, err := s.source.read()
-		goesOn, fault := s.feed(bytes)
-		if fault != nil {
-			s.logger.Printf("[ERR] yamux: the peer broke the rules: %v", fault)
-		}
-		if !goesOn {
-			return
-		}
-		if len(bytes) >= ownSize && s.woken > 1 {
-			runtime.Gosched() // what comes next then goes straight to those who read again, in place of waiting
-		}
-		if err != nil {
-			if !s.IsClosed() && err != io.EOF && !strings.Contains(err.Error(), "closed") && !strings.Contains(err.Error(), "reset by peer") {
-				s.logger.Printf("[ERR] yamux: Failed to read: %v", err)
+	s.lock.Lock()
+	defer s.lock.Unlock()
+	for !s.over && !s.isDeaf {
+		switch {
+		case s.isReading || s.isResting:
+			s.receiver.Wait()
+		case len(s.unfed) > 0:
+			s.isReading = true
+			s.take(s.unfed, nil, true)
+		default:
+			s.readOnce(nil)
+			if s.isCrowded {
+				s.lock.Unlock()
+				runtime.Gosched() // what comes next then goes straight to those who read again, in place of waiting
+				s.lock.Lock()
 			}
-			s.end(err)
-			return
 		}
+	}
+	for s.isReading {
+		s.receiver.Wait()
+	}
+	s.source.release()
+}
+
+// readOnce reads from the connection in the calling goroutine, without the lock, and feeds what came: for a call of a stream
+// that waits for the peer, or for the reading goroutine.
+func (s *Session) readOnce(stream *Stream) {
+	s.isReading, s.reader = true, stream
+	most := blockSize
+	if stream != nil {
+		most = stream.wants()
+	}
+	s.lock.Unlock()
+	bytes, err := s.source.read(most)
+	s.lock.Lock()
+	s.reader = nil
+	if s.isInterrupted {
+		s.isInterrupted = false
+		s.socket.connection.SetReadDeadline(time.Time{})
+		if errors.Is(err, os.ErrDeadlineExceeded) {
+			err = nil
+		}
+	}
+	s.take(bytes, err, stream == nil)
+	s.isCrowded = len(bytes) >= ownSize && s.woken > 1
+}
+
+// take feeds what was read, and has somebody else read on. The reading goroutine alone waits until the library takes it.
+func (s *Session) take(bytes []byte, err error, waits bool) {
+	s.woken = 0
+	if fault := s.feed(bytes, waits); fault != nil {
+		s.isDeaf = true
+		s.lock.Unlock() // a log may write to a stream
+		s.logger.Printf("[ERR] yamux: the peer broke the rules: %v", fault)
+		s.lock.Lock()
+	}
+	if err != nil {
+		s.isDeaf = true
+		s.lock.Unlock()
+		if !s.IsClosed() && err != io.EOF && !strings.Contains(err.Error(), "closed") && !strings.Contains(err.Error(), "reset by peer") {
+			s.logger.Printf("[ERR] yamux: Failed to read: %v", err)
+		}
+		s.end(err)
+		s.lock.Lock()
+	}
+	s.isReading = false
+	s.isResting = s.waiters == 0 && len(s.pings) == 0 && len(s.unfed) == 0 && s.socket != nil
+	if s.over || s.isDeaf || !s.isResting {
+		s.receiver.Signal()
+	} else {
+		s.standBy()
 	}
 }
 
-// feed feeds all of it, and says whether the session goes on, and which rule the peer broke.
-func (s *Session) feed(bytes []byte) (goesOn bool, fault error) {
-	if len(bytes) == 0 {
-		return true, nil
+// await has the calling goroutine read from the connection, if no other call waits for the peer. Otherwise it waits until it
+// is woken. In either case the caller then looks anew.
+func (s *Session) await(stream *Stream, cond *sync.Cond) {
+	if s.socket != nil && !s.isReading && s.waiters == 0 && len(s.pings) == 0 && len(s.unfed) == 0 && !s.isDeaf && !s.over {
+		s.readOnce(stream)
+		return
 	}
+	stream.waiters++
+	s.waiters++
+	s.callReader()
+	cond.Wait()
+	if stream.waiters > 0 {
+		stream.waiters--
+		s.waiters--
+	}
+}
+
+// awaitPeer waits for the peer, with nothing to do for a stream.
+func (s *Session) awaitPeer(cond *sync.Cond) {
+	s.waiters++
+	s.callReader()
+	cond.Wait()
+	s.waiters--
+}
+
+// callReader has the reading goroutine read, if nobody does.
+func (s *Session) callReader() {
+	if s.isResting && !s.isReading {
+		s.isResting = false
+		s.receiver.Signal()
+	}
+}
+
+// rests is how long nobody reads at most, where no call waits for the peer.
+const rests = time.Millisecond
+
+// standBy has the reading goroutine read, if nobody does so before long.
+func (s *Session) standBy() {
+	if s.isStandingBy {
+		return
+	}
+	s.isStandingBy = true
+	if s.standby == nil {
+		s.standby = time.AfterFunc(rests, s.stopResting)
+	} else {
+		s.standby.Reset(rests)
+	}
+}
+
+// stopResting is the timer's call. Who reads just then calls for the next one.
+func (s *Session) stopResting() {
 	s.lock.Lock()
 	defer s.lock.Unlock()
+	s.isStandingBy = false
+	s.callReader()
+}
+
+// interrupt has the call that reads from the connection look at its stream.
+func (s *Session) interrupt() {
+	if !s.isInterrupted {
+		s.isInterrupted = true
+		s.socket.connection.SetReadDeadline(time.Unix(1, 0))
+	}
+}
+
+// feed feeds all of it, and says which rule the peer broke.
+func (s *Session) feed(bytes []byte, waits bool) (fault error) {
+	s.unfed = nil
 	passed := 0
-	for !s.over {
+	for len(bytes) > 0 && !s.over {
 		taken := s.core.feed(bytes, passed)
 		bytes = bytes[taken:]
 		if count, id := s.core.passing(); count > 0 {
@@ -260,21 +390,22 @@ func (s *Session) feed(bytes []byte) (goesOn bool, fault error) {
 		}
 		passed = 0
 		s.serve()
-		if s.core.status() >= statusBroken {
+		switch {
+		case s.core.status() >= statusBroken:
 			fault = broken(s.core.status())
 			s.breakOff(fault)
-			return false, fault
-		}
-		if len(bytes) == 0 {
-			return true, nil
-		}
-		if s.mute {
+			return fault
+		case len(bytes) == 0:
+		case s.mute:
 			s.discard() // nobody will send the answers
-			continue
+		case !waits:
+			s.unfed = bytes
+			return nil
+		default:
+			s.emitted.Wait() // as many answers are unsent as the library keeps
 		}
-		s.emitted.Wait() // as many answers are unsent as the library keeps
 	}
-	return false, nil
+	return nil
 }
 
 // discard takes what is due out of the library, for nobody.
@@ -288,7 +419,7 @@ func (s *Session) discard() {
 // serve wakes those for whom the fed bytes have changed something.
 func (s *Session) serve() {
 	ids, isAll := s.core.touched()
-	s.woken = len(ids)
+	s.woken += len(ids)
 	if isAll {
 		for _, stream := range s.streams {
 			stream.touch()
@@ -584,12 +715,12 @@ func (s *Session) OpenStream() (*Stream, error) {
 	defer s.lock.Unlock()
 	for !s.isDown() {
 		if s.unacked >= s.config.AcceptBacklog {
-			s.openable.Wait()
+			s.awaitPeer(s.openable)
 			continue
 		}
 		answer := s.core.open()
 		if answer == answerOpensPending {
-			s.openable.Wait()
+			s.awaitPeer(s.openable)
 			continue
 		}
 		if answer < 0 {
@@ -656,7 +787,7 @@ func (s *Session) AcceptStreamWithContext(waits context.Context) (*Stream, error
 			return nil, s.failure
 		}
 		if s.offered == 0 {
-			s.acceptable.Wait()
+			s.awaitPeer(s.acceptable)
 			continue
 		}
 		s.offered--
@@ -744,6 +875,7 @@ func (s *Session) beginPing(timeout <-chan time.Time) (*ping, error) {
 	}
 	ping := &ping{back: make(chan struct{})}
 	s.pings[uint32(answer)] = ping
+	s.callReader()
 	s.wakeWriter()
 	return ping, nil
 }

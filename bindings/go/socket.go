@@ -29,9 +29,10 @@ type socket struct {
 	count int
 	err   error
 
-	// What one read answers. The reading goroutine alone reads.
+	// What one read is for, and answers. One goroutine at a time reads.
 	look  func(descriptor uintptr) bool
 	block *[blockSize]byte // where the bytes lie; nil while a read waits
+	most  int              // how many it takes
 	came  int
 	fault error
 }
@@ -74,8 +75,9 @@ func (s *socket) write(bytes []byte) (int, error) {
 	return s.count, s.err
 }
 
-// read waits for bytes, which are good until the next read. No block is held while it waits.
-func (s *socket) read() ([]byte, error) {
+// read waits for so many bytes at most, which are good until the next read. No block is held while it waits.
+func (s *socket) read(most int) ([]byte, error) {
+	s.most = most
 	if err := s.raw.Read(s.look); err != nil {
 		return nil, err
 	}
@@ -95,7 +97,7 @@ func (s *socket) readAtOnce(descriptor uintptr) bool {
 		s.block = blocks.Get().(*[blockSize]byte)
 	}
 	for {
-		s.came, s.fault = syscall.Read(int(descriptor), s.block[:])
+		s.came, s.fault = syscall.Read(int(descriptor), s.block[:s.most])
 		if s.fault != syscall.EINTR {
 			break
 		}
@@ -143,10 +145,10 @@ func newSource(connection io.Reader, socket *socket) *source {
 	return &source{connection: connection, own: make([]byte, ownSize), smallReads: mostSmallReads}
 }
 
-// read waits for bytes, which are good until the next read.
-func (s *source) read() ([]byte, error) {
+// read waits for bytes, which are good until the next read. Of a socket it takes so many at most.
+func (s *source) read(most int) ([]byte, error) {
 	if s.socket != nil {
-		return s.socket.read()
+		return s.socket.read(most)
 	}
 	place := s.own
 	if s.smallReads < mostSmallReads {

@@ -19,11 +19,12 @@ type Stream struct {
 	stalled    bool // a write would wait
 	finished   bool // our end is on its way, or out
 	closed     bool
-	isUnacked  bool // the peer has not acknowledged it
-	begins     bool // its first frame is out
-	ends       bool // our end is out
-	isFlushing bool // it is in the session's list of those
-	hasTurn    bool // its Write may have the connection
+	isUnacked  bool  // the peer has not acknowledged it
+	begins     bool  // its first frame is out
+	ends       bool  // our end is out
+	isFlushing bool  // it is in the session's list of those
+	hasTurn    bool  // its Write may have the connection
+	waiters    int16 // calls that wait for the peer, and that nothing has woken
 
 	readable sync.Cond // something has come, or the end; or a credit is out
 	writable sync.Cond // credit has come, or the end; or bytes are out
@@ -134,7 +135,7 @@ func (st *Stream) read(buffer []byte, isLate bool) (int, error) {
 			if !isLate || left <= 0 {
 				return 0, ErrStreamClosed
 			}
-			time.AfterFunc(left, st.wakeReaders)
+			time.AfterFunc(left, st.wakeAll)
 		}
 		if st.reading.isPast() {
 			return 0, ErrTimeout
@@ -154,19 +155,35 @@ func (st *Stream) read(buffer []byte, isLate bool) (int, error) {
 // await waits until something has come, or what is to be looked at, and says how many bytes of the buffer are filled. Bytes come
 // straight there, as long as no other Read of the stream waits so.
 func (st *Stream) await(buffer []byte) int {
+	s := st.session
 	if st.place != nil {
-		st.readable.Wait()
+		s.await(st, &st.readable)
 		return 0
 	}
-	s := st.session
 	st.place, st.placed = buffer, 0
 	s.core.seat(st.id)
-	st.readable.Wait()
+	s.await(st, &st.readable)
 	if !s.over {
 		s.core.unseat(st.id)
 	}
 	st.place = nil
 	return st.placed
+}
+
+// leastRead is how many bytes a call of a stream reads from the connection at once, at least: most frames are no longer.
+const leastRead = 65536
+
+// wants is how many bytes a call of the stream that waits reads from the connection: what the place of a Read takes, with
+// the headers of frames of 16,384 bytes, so that what comes behind it waits in the connection and is copied once.
+func (st *Stream) wants() int {
+	switch count := len(st.place); {
+	case count == 0 || count >= leastWindow:
+		return blockSize
+	case count < leastRead:
+		return leastRead + leastRead/leastTurn*headerSize
+	default:
+		return count + (count/leastTurn+1)*headerSize
+	}
 }
 
 // deliver takes payload that has come for a Read that waits, and says how much. What more comes, waits for the next Read.
@@ -183,10 +200,19 @@ func (st *Stream) deliver(bytes []byte) int {
 	return count
 }
 
-func (st *Stream) wakeReaders() {
+func (st *Stream) wakeAll() {
 	st.session.lock.Lock()
-	st.readable.Broadcast()
+	st.wake()
 	st.session.lock.Unlock()
+}
+
+// wake has all calls of the stream that wait look anew.
+func (st *Stream) wake() {
+	st.readable.Broadcast()
+	st.writable.Broadcast()
+	if st.session.reader == st {
+		st.session.interrupt()
+	}
 }
 
 // credit sends what a read has made due, and waits until it is out.
@@ -334,7 +360,7 @@ func (st *Stream) hand(bytes []byte) error {
 		if st.writing.isPast() {
 			return ErrTimeout
 		}
-		st.writable.Wait()
+		s.await(st, &st.writable)
 	}
 	return nil
 }
@@ -497,7 +523,7 @@ func (st *Stream) Close() error {
 		return nil
 	}
 	st.closed, st.closedAt = true, time.Now()
-	st.readable.Broadcast()
+	st.wake()
 	if st.waiting > 0 && !st.finished {
 		reason := ErrStreamClosed
 		if s.core.look(st.id).hasEnded() {
@@ -526,7 +552,7 @@ func (st *Stream) finish() error {
 		return st.refused(answer)
 	}
 	st.session.due = true
-	st.writable.Broadcast()
+	st.wake()
 	return st.flush(&st.writable, func() bool { return st.ends })
 }
 
@@ -552,6 +578,9 @@ func (st *Stream) breakOff(reason error) {
 // touch is called where bytes have come for this stream.
 func (st *Stream) touch() {
 	st.nothing, st.stalled = false, false
+	s := st.session
+	s.waiters -= int(st.waiters)
+	st.waiters = 0
 	if st.isUnacked || st.closed {
 		news := st.session.core.look(st.id)
 		if news.isAcknowledged() || news.isReset() {
@@ -630,8 +659,7 @@ func (st *Stream) over(reason error) {
 	st.end = reason
 	st.session.opening.remove(&st.opening)
 	st.session.closing.remove(&st.closing)
-	st.readable.Broadcast()
-	st.writable.Broadcast()
+	st.wake()
 }
 
 // closeTimedOut is called where the peer hasn't ended a closed stream in time.
@@ -662,22 +690,20 @@ type deadline struct {
 
 func (d *deadline) isPast() bool { return !d.at.IsZero() && !time.Now().Before(d.at) }
 
-func (d *deadline) set(at time.Time, cond *sync.Cond) {
-	cond.L.Lock()
-	defer cond.L.Unlock()
+// set has the calls of the stream that wait look anew, now and once the time has come.
+func (d *deadline) set(at time.Time, stream *Stream) {
+	lock := &stream.session.lock
+	lock.Lock()
+	defer lock.Unlock()
 	if d.timer != nil {
 		d.timer.Stop()
 		d.timer = nil
 	}
 	d.at = at
 	if !at.IsZero() {
-		d.timer = time.AfterFunc(time.Until(at), func() {
-			cond.L.Lock()
-			cond.Broadcast()
-			cond.L.Unlock()
-		})
+		d.timer = time.AfterFunc(time.Until(at), stream.wakeAll)
 	}
-	cond.Broadcast()
+	stream.wake()
 }
 
 // SetDeadline sets both deadlines. The zero time is none.
@@ -688,12 +714,12 @@ func (st *Stream) SetDeadline(at time.Time) error {
 
 // SetReadDeadline sets when a Read that waits returns ErrTimeout, also one that waits already.
 func (st *Stream) SetReadDeadline(at time.Time) error {
-	st.reading.set(at, &st.readable)
+	st.reading.set(at, st)
 	return nil
 }
 
 // SetWriteDeadline sets when a Write that waits returns ErrTimeout, also one that waits already.
 func (st *Stream) SetWriteDeadline(at time.Time) error {
-	st.writing.set(at, &st.writable)
+	st.writing.set(at, st)
 	return nil
 }
