@@ -3,9 +3,12 @@
 package yamux
 
 import (
+	"context"
 	"encoding/binary"
 	"io"
 	"net"
+	"strings"
+	"sync"
 	"testing"
 	"time"
 )
@@ -16,7 +19,7 @@ func waits(t *testing.T, stream *Stream) (reads bool) {
 	await(t, "a call waits for the peer", func() bool {
 		stream.session.lock.Lock()
 		defer stream.session.lock.Unlock()
-		reads = stream.session.reader == stream
+		reads = stream.session.reader == &stream.readable || stream.session.reader == &stream.writable
 		return reads || stream.waiters > 0
 	})
 	return reads
@@ -83,6 +86,85 @@ func TestACallThatReadsTheConnectionIsEnded(t *testing.T) {
 			}
 		}
 	}
+}
+
+// So is an AcceptStream, and an OpenStream that waits for the peer's acknowledgement.
+func TestAnAcceptOrOpenThatReadsTheConnectionIsEnded(t *testing.T) {
+	waitsItself := func(session *Session, cond *sync.Cond) bool {
+		reads := false
+		await(t, "a call waits for the peer", func() bool {
+			session.lock.Lock()
+			defer session.lock.Unlock()
+			reads = session.reader == cond
+			return reads || session.waiters > 0
+		})
+		return reads
+	}
+	for name, one := range map[string]struct {
+		call func(waits context.Context, session *Session) error
+		end  func(client, server *Session, stop func(), streams []*Stream)
+		want error
+	}{
+		"an accept by its context": {accept, func(client, server *Session, stop func(), streams []*Stream) { stop() }, context.Canceled},
+		"an accept by its session": {accept, func(client, server *Session, stop func(), streams []*Stream) { client.Close() }, ErrSessionShutdown},
+		"an accept by the peer":    {accept, func(client, server *Session, stop func(), streams []*Stream) { server.Close() }, io.EOF},
+		"an accept by a stream": {accept, func(client, server *Session, stop func(), streams []*Stream) {
+			_, err := server.OpenStream()
+			good(t, err)
+		}, nil},
+		"an open by its session": {open, func(client, server *Session, stop func(), streams []*Stream) { client.Close() }, ErrSessionShutdown},
+		"an open by the peer":    {open, func(client, server *Session, stop func(), streams []*Stream) { server.Close() }, ErrSessionShutdown},
+		"an open by a reset":     {open, func(client, server *Session, stop func(), streams []*Stream) { streams[0].Reset() }, nil},
+		"an open by an accept": {open, func(client, server *Session, stop func(), streams []*Stream) {
+			_, err := server.AcceptStream()
+			good(t, err)
+		}, nil},
+	} {
+		for reads, tries := false, 0; !reads && tries < 100; tries++ { // the reading goroutine may come first
+			config := quiet()
+			config.AcceptBacklog = 2
+			client, server := overTCP(t, config)
+			near, far := pair(t, client, server)
+			word(t, near, far)
+			var streams []*Stream
+			for count := 0; count < 2; count++ {
+				stream, err := client.OpenStream()
+				good(t, err)
+				streams = append(streams, stream)
+			}
+			word(t, near, far)
+			waits, stop := context.WithCancel(context.Background())
+			answer := make(chan error)
+			go func() { answer <- one.call(waits, client) }()
+			cond := client.openable
+			if strings.HasPrefix(name, "an accept") {
+				cond = client.acceptable
+			}
+			reads = waitsItself(client, cond)
+			one.end(client, server, stop, streams)
+			select {
+			case err := <-answer:
+				if err != one.want {
+					t.Errorf("%s: %v", name, err)
+				}
+			case <-time.After(5 * time.Second):
+				t.Fatalf("it isn't ended: %s", name)
+			}
+			stop()
+			client.Close()
+			server.Close()
+		}
+	}
+}
+
+func accept(waits context.Context, session *Session) error {
+	_, err := session.AcceptStreamWithContext(waits)
+	return err
+}
+
+func open(_ context.Context, session *Session) error {
+	_, err := session.OpenStream()
+	return err
 }
 
 // Behind a deadline that ended such a call the next one reads on, and nothing is lost.

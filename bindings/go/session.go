@@ -66,8 +66,8 @@ type Session struct {
 	isPlanned bool        // the timer will send it
 
 	isReading     bool        // somebody reads from the connection, or feeds what came
-	reader        *Stream     // whose call waits for bytes in the connection; nil where none of a stream does
-	isInterrupted bool        // that call shall look at its stream
+	reader        *sync.Cond  // what the call that reads from the connection would wait for otherwise; nil where none reads
+	isInterrupted bool        // that call shall look anew
 	isDeaf        bool        // nobody reads any more
 	isResting     bool        // the reading goroutine leaves it to calls that wait, for the time being
 	unfed         []byte      // what a call has read, and the library doesn't take before answers are out
@@ -224,7 +224,7 @@ func (s *Session) silence(reason error) bool {
 	}
 	s.wakeFlushing()
 	for _, cond := range []*sync.Cond{s.emitted, s.openable, s.written} {
-		cond.Broadcast()
+		s.wake(cond)
 	}
 	time.AfterFunc(lastReads, func() { s.end(reason) })
 	return true
@@ -245,7 +245,7 @@ func (s *Session) receive() {
 			s.isReading = true
 			s.take(s.unfed, nil, true)
 		default:
-			s.readOnce(nil)
+			s.readOnce(nil, blockSize)
 			if s.isCrowded {
 				s.lock.Unlock()
 				runtime.Gosched() // what comes next then goes straight to those who read again, in place of waiting
@@ -259,14 +259,10 @@ func (s *Session) receive() {
 	s.source.release()
 }
 
-// readOnce reads from the connection in the calling goroutine, without the lock, and feeds what came: for a call of a stream
-// that waits for the peer, or for the reading goroutine.
-func (s *Session) readOnce(stream *Stream) {
-	s.isReading, s.reader = true, stream
-	most := blockSize
-	if stream != nil {
-		most = stream.wants()
-	}
+// readOnce reads from the connection in the calling goroutine, without the lock, and feeds what came: so many bytes at
+// most, for a call that would wait for this otherwise, or for the reading goroutine.
+func (s *Session) readOnce(reader *sync.Cond, most int) {
+	s.isReading, s.reader = true, reader
 	s.lock.Unlock()
 	bytes, err := s.source.read(most)
 	s.lock.Lock()
@@ -278,7 +274,7 @@ func (s *Session) readOnce(stream *Stream) {
 			err = nil
 		}
 	}
-	s.take(bytes, err, stream == nil)
+	s.take(bytes, err, reader == nil)
 	s.isCrowded = len(bytes) >= ownSize && s.woken > 1
 }
 
@@ -309,25 +305,18 @@ func (s *Session) take(bytes []byte, err error, waits bool) {
 	}
 }
 
-// await has the calling goroutine read from the connection, if no other call waits for the peer. Otherwise it waits until it
-// is woken. In either case the caller then looks anew.
-func (s *Session) await(stream *Stream, cond *sync.Cond) {
-	if s.socket != nil && !s.isReading && s.waiters == 0 && len(s.pings) == 0 && len(s.unfed) == 0 && !s.isDeaf && !s.over {
-		s.readOnce(stream)
-		return
-	}
-	stream.waiters++
-	s.waiters++
-	s.callReader()
-	cond.Wait()
-	if stream.waiters > 0 {
-		stream.waiters--
-		s.waiters--
-	}
+// mayRead says whether a call that would wait reads from the connection itself: no other waits for the peer.
+func (s *Session) mayRead() bool {
+	return s.socket != nil && !s.isReading && s.waiters == 0 && len(s.pings) == 0 && len(s.unfed) == 0 && !s.isDeaf && !s.over
 }
 
-// awaitPeer waits for the peer, with nothing to do for a stream.
-func (s *Session) awaitPeer(cond *sync.Cond) {
+// await waits for the peer, and the caller then looks anew: if no other call waits, it reads from the connection in the
+// calling goroutine. Otherwise it waits until it is woken.
+func (s *Session) await(cond *sync.Cond) {
+	if s.mayRead() {
+		s.readOnce(cond, blockSize)
+		return
+	}
 	s.waiters++
 	s.callReader()
 	cond.Wait()
@@ -366,9 +355,10 @@ func (s *Session) stopResting() {
 	s.callReader()
 }
 
-// interrupt has the call that reads from the connection look at its stream.
-func (s *Session) interrupt() {
-	if !s.isInterrupted {
+// wake has the calls that wait for this look anew, also one that reads from the connection.
+func (s *Session) wake(cond *sync.Cond) {
+	cond.Broadcast()
+	if s.reader == cond && !s.isInterrupted {
 		s.isInterrupted = true
 		s.socket.connection.SetReadDeadline(time.Unix(1, 0))
 	}
@@ -715,12 +705,12 @@ func (s *Session) OpenStream() (*Stream, error) {
 	defer s.lock.Unlock()
 	for !s.isDown() {
 		if s.unacked >= s.config.AcceptBacklog {
-			s.awaitPeer(s.openable)
+			s.await(s.openable)
 			continue
 		}
 		answer := s.core.open()
 		if answer == answerOpensPending {
-			s.awaitPeer(s.openable)
+			s.await(s.openable)
 			continue
 		}
 		if answer < 0 {
@@ -766,7 +756,7 @@ func (s *Session) AcceptStreamWithContext(waits context.Context) (*Stream, error
 			select {
 			case <-waits.Done():
 				s.lock.Lock()
-				s.acceptable.Broadcast()
+				s.wake(s.acceptable)
 				s.lock.Unlock()
 			case <-stop:
 			}
@@ -787,7 +777,7 @@ func (s *Session) AcceptStreamWithContext(waits context.Context) (*Stream, error
 			return nil, s.failure
 		}
 		if s.offered == 0 {
-			s.awaitPeer(s.acceptable)
+			s.await(s.acceptable)
 			continue
 		}
 		s.offered--

@@ -157,12 +157,12 @@ func (st *Stream) read(buffer []byte, isLate bool) (int, error) {
 func (st *Stream) await(buffer []byte) int {
 	s := st.session
 	if st.place != nil {
-		s.await(st, &st.readable)
+		st.awaitPeer(&st.readable, blockSize)
 		return 0
 	}
 	st.place, st.placed = buffer, 0
 	s.core.seat(st.id)
-	s.await(st, &st.readable)
+	st.awaitPeer(&st.readable, wanted(len(buffer)))
 	if !s.over {
 		s.core.unseat(st.id)
 	}
@@ -173,16 +173,32 @@ func (st *Stream) await(buffer []byte) int {
 // leastRead is how many bytes a call of a stream reads from the connection at once, at least: most frames are no longer.
 const leastRead = 65536
 
-// wants is how many bytes a call of the stream that waits reads from the connection: what the place of a Read takes, with
-// the headers of frames of 16,384 bytes, so that what comes behind it waits in the connection and is copied once.
-func (st *Stream) wants() int {
-	switch count := len(st.place); {
-	case count == 0 || count >= leastWindow:
+// wanted is how many bytes a Read that waits reads from the connection: what its buffer takes, with the headers of frames of
+// 16,384 bytes, so that what comes behind it waits in the connection and is copied once.
+func wanted(count int) int {
+	switch {
+	case count >= leastWindow:
 		return blockSize
 	case count < leastRead:
-		return leastRead + leastRead/leastTurn*headerSize
-	default:
-		return count + (count/leastTurn+1)*headerSize
+		count = leastRead
+	}
+	return count + (count/leastTurn+1)*headerSize
+}
+
+// awaitPeer waits for bytes that touch the stream, as a session awaits the peer, and reads so many from the connection at most.
+func (st *Stream) awaitPeer(cond *sync.Cond, most int) {
+	s := st.session
+	if s.mayRead() {
+		s.readOnce(cond, most)
+		return
+	}
+	st.waiters++
+	s.waiters++
+	s.callReader()
+	cond.Wait()
+	if st.waiters > 0 { // nothing has touched the stream
+		st.waiters--
+		s.waiters--
 	}
 }
 
@@ -208,11 +224,8 @@ func (st *Stream) wakeAll() {
 
 // wake has all calls of the stream that wait look anew.
 func (st *Stream) wake() {
-	st.readable.Broadcast()
-	st.writable.Broadcast()
-	if st.session.reader == st {
-		st.session.interrupt()
-	}
+	st.session.wake(&st.readable)
+	st.session.wake(&st.writable)
 }
 
 // credit sends what a read has made due, and waits until it is out.
@@ -360,7 +373,7 @@ func (st *Stream) hand(bytes []byte) error {
 		if st.writing.isPast() {
 			return ErrTimeout
 		}
-		s.await(st, &st.writable)
+		st.awaitPeer(&st.writable, blockSize)
 	}
 	return nil
 }
@@ -601,7 +614,7 @@ func (st *Stream) acknowledged() {
 	}
 	st.isUnacked = false
 	st.session.unacked--
-	st.session.openable.Broadcast()
+	st.session.wake(st.session.openable)
 	st.session.opening.remove(&st.opening)
 }
 
