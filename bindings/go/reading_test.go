@@ -291,3 +291,58 @@ func TestAFloodOfPingsHoldsUpNoRead(t *testing.T) {
 		t.Fatalf("%d pings of %d are answered", next, count)
 	}
 }
+
+// A side that closes its session while something of the peer's is unread, as nobody waited for it, tells the peer of an end.
+func TestClosingWithUnreadBytesIsAnEnd(t *testing.T) {
+	for round := 0; round < 100; round++ {
+		client, server := overTCP(t, quiet())
+		near, far := pair(t, client, server)
+		word(t, near, far)
+		for count := 0; count < 5; count++ {
+			_, err := far.Write(make([]byte, 1000))
+			good(t, err)
+		}
+		good(t, client.Close())
+		if _, err := server.AcceptStream(); err != io.EOF {
+			t.Fatalf("round %d: %v", round, err)
+		}
+		good(t, server.Close())
+	}
+}
+
+// A session whose peer has gone while bytes were on their way doesn't wait for them.
+func TestCloseBehindAResetIsQuick(t *testing.T) {
+	for round := 0; round < 5; round++ {
+		listener, err := net.Listen("tcp", "127.0.0.1:0")
+		good(t, err)
+		peer, err := net.Dial("tcp", listener.Addr().String())
+		good(t, err)
+		accepted, err := listener.Accept()
+		good(t, err)
+		listener.Close()
+		good(t, peer.(*net.TCPConn).SetReadBuffer(4096))
+		session, err := Client(accepted, quiet())
+		good(t, err)
+		var streams []*Stream
+		for count := 0; count < 40; count++ { // 10 MiB, more than the system takes
+			stream, err := session.OpenStream()
+			good(t, err)
+			streams = append(streams, stream)
+			go stream.Write(make([]byte, leastWindow))
+		}
+		await(t, "the connection is full", func() bool {
+			session.lock.Lock()
+			defer session.lock.Unlock()
+			return session.isOccupied() && len(session.turns) > 0
+		})
+		time.AfterFunc(20*time.Millisecond, func() {
+			peer.(*net.TCPConn).SetLinger(0)
+			peer.Close()
+		})
+		began := time.Now()
+		good(t, session.Close())
+		if took := time.Since(began); took > lastReads/2 {
+			t.Fatalf("round %d: it takes %v", round, took)
+		}
+	}
+}

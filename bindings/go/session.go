@@ -194,8 +194,12 @@ func (s *Session) end(reason error) {
 		cond.Broadcast()
 	}
 	s.lock.Unlock()
-	if reason == ErrSessionShutdown && s.socket != nil {
-		s.socket.settle(lastReads)
+	if s.socket != nil {
+		most := time.Duration(0)
+		if reason == ErrSessionShutdown {
+			most = lastReads
+		}
+		s.socket.settle(most)
 	}
 	s.connection.Close()
 }

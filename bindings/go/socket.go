@@ -110,15 +110,31 @@ func (s *socket) readAtOnce(descriptor uintptr) bool {
 	return s.fault != syscall.EAGAIN
 }
 
-// settle waits until the system has sent all that was written, for so long at most. It drops what it has still to send
-// where a connection is closed while something unread is there.
+// settle waits until the system has sent all that was written, for so long at most, and drops what has come: where a
+// connection is closed while something unread is there, the system resets it, and drops what it has still to send.
 func (s *socket) settle(most time.Duration) {
-	for since, wait := time.Now(), time.Millisecond; time.Since(since) < most; wait *= 2 {
+	for since, wait := time.Now(), time.Millisecond; ; wait *= 2 {
 		left := 0
-		if err := s.raw.Control(func(descriptor uintptr) { left = unsent(descriptor) }); err != nil || left == 0 {
+		err := s.raw.Control(func(descriptor uintptr) {
+			drop(int(descriptor))
+			left = unsent(descriptor)
+		})
+		if err != nil || left == 0 || time.Since(since) >= most {
 			return
 		}
 		time.Sleep(wait)
+	}
+}
+
+// drop reads what a socket has, and forgets it: so many blocks at most, as a peer may go on sending.
+func drop(descriptor int) {
+	const most = 64
+	block := blocks.Get().(*[blockSize]byte)
+	defer blocks.Put(block)
+	for count := 0; count < most; count++ {
+		if came, err := syscall.Read(descriptor, block[:]); came <= 0 && err != syscall.EINTR {
+			return
+		}
 	}
 }
 
