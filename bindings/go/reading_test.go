@@ -323,11 +323,9 @@ func TestCloseBehindAResetIsQuick(t *testing.T) {
 		good(t, peer.(*net.TCPConn).SetReadBuffer(4096))
 		session, err := Client(accepted, quiet())
 		good(t, err)
-		var streams []*Stream
 		for count := 0; count < 40; count++ { // 10 MiB, more than the system takes
 			stream, err := session.OpenStream()
 			good(t, err)
-			streams = append(streams, stream)
 			go stream.Write(make([]byte, leastWindow))
 		}
 		await(t, "the connection is full", func() bool {
