@@ -7,6 +7,7 @@ import warnings
 import ymx
 
 warnings.simplefilter("ignore", ResourceWarning)  # streams that a test leaves open
+gc.freeze()  # a collection then looks at what the tests make, and not at all that the modules have made
 
 
 class BothSides(unittest.IsolatedAsyncioTestCase):
