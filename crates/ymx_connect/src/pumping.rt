@@ -13,7 +13,7 @@ use std::thread::Promise;
 use ymx_hub::{Hub, Recorder, Seat};
 use ymx_memory::RefusedAllocation;
 use ymx_model::{Inlet, Outlet};
-use ymx_pumps::{Gate, PumpEnd, PumpWhy, read_and_settle, write_pump};
+use ymx_pumps::{Gate, PumpEnd, PumpWhy, SettlerEnd, read_pump, write_pump};
 use ymx_seats::Sight;
 
 /// Bytes that the read pump reads at once.
@@ -139,7 +139,7 @@ impl Buffer {
     }
 }
 
-/// Runs the read pump at the first seat, until it ends. Behind each read it looks at the streams that were released, at the
+/// Runs the read pump at the first seat, until it ends. Behind each feed it looks at the streams that were released, at the
 /// second.
 pub(crate) fn pump_from_wire<R: Recorder, W: Wait, I: Inlet + Drop>(
     rt: &W,
@@ -154,7 +154,7 @@ pub(crate) fn pump_from_wire<R: Recorder, W: Wait, I: Inlet + Drop>(
 {
     let Buffer { mut bytes } = buffer;
     let mut reader = reader;
-    let (end, settler) = read_and_settle(
+    let (end, settler_end) = read_pump(
         rt,
         hub,
         seats,
@@ -167,6 +167,10 @@ pub(crate) fn pump_from_wire<R: Recorder, W: Wait, I: Inlet + Drop>(
         moved: fed,
         why,
     } = end;
+    let SettlerEnd {
+        seat: settler,
+        settled: _,
+    } = settler_end;
     discard(settler);
     PumpedIn {
         reader,

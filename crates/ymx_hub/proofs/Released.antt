@@ -1,5 +1,11 @@
 -- What is booked of streams that were released.
-use Rattle.std.proofs.Common.{◌≡◌, ℕ, List, [], ◌∷◌, ◌++◌, Bool, true, false, Result, Ok, Err, refl, sym, ap, ◌∙◌, inl, inr, append_assoc, append-nil}
+use Rattle.std.proofs.Common.{◌≡◌, ◌⊎◌, ◌<◌, ◌≤◌, ◌+◌, length, arith, Some, ℕ, List, [], ◌∷◌, ◌++◌, ◌==◌, ◌-◌, if◌then◌else◌, nat_eq, Bool, true, false, Result, Ok, Err, refl, sym, ap, subst, ◌∙◌, inl, inr, append_assoc, append-nil}
+use Rattle.std.specs.Prelude.{slice_get, IfOk}
+use Rattle.std.specs.List.{list_any}
+use Rattle.std.proofs.lemmas.Bool.Decides.{nat_tests}
+use Rattle.std.proofs.lemmas.Option.{slice_get_within}
+use Rattle.indexmap.specs.IndexMap.{swap_remove_by}
+use Rattle.ymx_model.specs.session.Sessions.{Session}
 use Rattle.ymx_memory.specs.declared.refused.RefusedAllocation.{RefusedAllocation}
 use Rattle.ymx_machine.specs.shared.Evidence.{evidence}
 use Rattle.ymx_machine.specs.shared.Events.{Reply}
@@ -11,9 +17,13 @@ use Rattle.ymx_session.specs.Replies.{read_or, done_or}
 use Rattle.ymx_seats.specs.Views.{SeatView}
 use Rattle.ymx_booked.specs.declared.faults.HubFault.{HubFault}
 use Rattle.ymx_booked.specs.declared.faults.HubFault.TheVariants.{Memory}
-use Rattle.ymx_booked.specs.Books.{Books, One, Asks, Closes, Forgets, to_read}
+use Rattle.ymx_model.specs.session.Events.{Event}
+use Rattle.ymx_machine.specs.declared.types.CallFault.{CallFault}
+use Rattle.ymx_booked.specs.Booked.{BookedView, without, is_half_spent, spent}
+use Rattle.ymx_booked.specs.Books.{Books, One, Asks, Closes, Forgets, to_read, to_forget}
+use Rattle.ymx_booked.specs.Steps.{Steps, StepsAsked, StepsClosed}
 use Rattle.ymx_hub.specs.Turns.{EndsIn}
-use Rattle.ymx_hub.specs.Releasing.{AreReads, FindsEnd, ReadsUp, Tends, joined, AllTend, Settles}
+use Rattle.ymx_hub.specs.Releasing.{AreReads, FindsEnd, ReadsUp, Tends, joined, AllTend, Settles, Waits, AllWait, SpentAlike, all_without, all_spent, Leaves, LeavesOne, LeavesSome}
 use Rattle.ymx_hub.proofs.Booked.{books_same, books_at, books_weaker}
 
 reads_append : (id seat : ℕ) (es ds : List Entry) → AreReads id seat es → AreReads id seat ds → AreReads id seat (es ++ ds)
@@ -134,3 +144,122 @@ settles_more keeps old mid new g h =
       ap (λ xs. xs ++ ds) s.1 ∙ ap (λ ys. joined s.0 ++ ys) t.1 ∙ sym (joined_append s.0 t.0),
       all_append old.number s.0 t.0 s.2 t.2,
     )) g h
+
+-- ---- which halves are spent
+
+step_alike : (keeps : Bool) (seat : ℕ) (event : Event) (told : Reply) (old new : BookedView) → Steps keeps seat event told old new → SpentAlike old new
+step_alike keeps seat event told old new s = (ap (λ (v : BookedView). v.unspent) s.rest, ap (λ (v : BookedView). v.half_spent) s.rest)
+
+same_alike : (old new : BookedView) → new ≡ old → SpentAlike old new
+same_alike old new e = (ap (λ (v : BookedView). v.unspent) e, ap (λ (v : BookedView). v.half_spent) e)
+
+alike_twice : (old mid new : BookedView) → SpentAlike old mid → SpentAlike mid new → SpentAlike old new
+alike_twice old mid new a b = (b.0 ∙ a.0, b.1 ∙ a.1)
+
+-- a call spends none
+asked_alike : {A : Type 0} (keeps : Bool) (event : Event) (told : Result A CallFault → Reply) (seat : ℕ) (result : Result A HubFault) (old new : BookedView) → StepsAsked keeps event told seat result old new → SpentAlike old new
+asked_alike keeps event told seat (Ok x) old new s = step_alike keeps seat event (told (Ok x)) old new s
+asked_alike keeps event told seat (Err fault) old new (inl none) = same_alike old new none.1.1
+asked_alike keeps event told seat (Err fault) old new (inr some) = step_alike keeps seat event (told (Err some.0)) old new some.2
+
+pub alike_on : (keeps : Bool) (seat id size : ℕ) (buffer : List ℕ) (given : Result Got HubFault) (old mid new : BookedView) → SpentAlike old mid → StepsAsked keeps (to_read id size) (λ given. read_or given buffer) seat given mid new → SpentAlike old new
+alike_on keeps seat id size buffer given old mid new a s = alike_twice old mid new a (asked_alike keeps (to_read id size) (λ given. read_or given buffer) seat given mid new s)
+
+-- a half that is spent, and perhaps the stream given up
+closed_alike : (second keeps : Bool) (seat id : ℕ) (result : Result (Unit {0}) HubFault) (old new : BookedView) → StepsClosed second keeps seat id result old new → SpentAlike (spent id old) new
+closed_alike true keeps seat id result old new s = asked_alike keeps (to_forget id) (done_or {A = Unit {0}}) seat result (spent id old) new s
+closed_alike false keeps seat id result old new s = same_alike (spent id old) new s.1
+
+-- spent alike, and one half more of both
+spent_alike : (id : ℕ) (h k : BookedView) → SpentAlike h k → SpentAlike (spent id h) (spent id k)
+spent_alike id h k a =
+    let m : BookedView = record k { unspent = h.unspent; half_spent = h.half_spent } in
+    let moved : SpentAlike (spent id m) (spent id k) = subst (λ (n : ℕ). SpentAlike (spent id m) (spent id (record k { unspent = n }))) (sym a.0) (subst (λ (xs : List ℕ). SpentAlike (spent id m) (spent id (record k { unspent = h.unspent; half_spent = xs }))) (sym a.1) (refl, refl)) in
+    alike_twice (spent id h) (spent id m) (spent id k) (of (list_any (nat_eq id) h.half_spent) (h.unspent == 0)) moved
+  where
+    of : (second none : Bool) → SpentAlike
+        (if second then record h { half_spent = without id h.half_spent } else if none then h else record h { unspent = h.unspent - 1; half_spent = h.half_spent ++ id ∷ [] })
+        (if second then record k { unspent = h.unspent; half_spent = without id h.half_spent } else if none then record k { unspent = h.unspent; half_spent = h.half_spent } else record k { unspent = h.unspent - 1; half_spent = h.half_spent ++ id ∷ [] })
+    of true none = (refl, refl)
+    of false true = (refl, refl)
+    of false false = (refl, refl)
+
+all_alike : (ids : List ℕ) (h k : BookedView) → SpentAlike h k → SpentAlike (all_spent ids h) (all_spent ids k)
+all_alike [] h k a = a
+all_alike (x ∷ xs) h k a = all_alike xs (spent x h) (spent x k) (spent_alike x h k a)
+
+without_append : (xs ys ids : List ℕ) → all_without (xs ++ ys) ids ≡ all_without ys (all_without xs ids)
+without_append [] ys ids = refl
+without_append (x ∷ xs) ys ids = without_append xs ys (without x ids)
+
+spent_append : (xs ys : List ℕ) (h : BookedView) → all_spent (xs ++ ys) h ≡ all_spent ys (all_spent xs h)
+spent_append [] ys h = refl
+spent_append (x ∷ xs) ys h = spent_append xs ys (spent x h)
+
+pub alike_none : (h : BookedView) → SpentAlike h h
+alike_none h = (refl, refl)
+
+-- none leaves
+pub leaves_none : (before after : List ℕ) (old new : BookedView) → after ≡ before → SpentAlike old new → Leaves [] before after old new
+leaves_none before after old new e a = record { released = e; halves = a }
+
+-- a stream leaves, and its half is spent
+pub leaves_one : (keeps : Bool) (seat id : ℕ) (result : Result (Unit {0}) HubFault) (before between after : List ℕ) (old mid new : BookedView) → between ≡ before → after ≡ without id between → SpentAlike old mid → StepsClosed (is_half_spent id mid) keeps seat id result mid new → Leaves (id ∷ []) before after old new
+leaves_one keeps seat id result before between after old mid new e w a s = record {
+  released = w ∙ ap (without id) e;
+  halves = alike_twice (spent id old) (spent id mid) new (spent_alike id old mid a) (closed_alike (is_half_spent id mid) keeps seat id result mid new s);
+}
+
+-- some, and then others
+pub leaves_on : (xs ys before between after : List ℕ) (old mid new : BookedView) → Leaves xs before between old mid → Leaves ys between after mid new → Leaves (xs ++ ys) before after old new
+leaves_on xs ys before between after old mid new a b = record {
+  released = b.released ∙ ap (all_without ys) a.released ∙ sym (without_append xs ys before);
+  halves = rw (spent_append xs ys old) (alike_twice (all_spent ys (all_spent xs old)) (all_spent ys mid) new (all_alike ys (all_spent xs old) mid a.halves) b.halves);
+}
+
+without_same : (id : ℕ) (ids : List ℕ) → swap_remove_by (nat_eq id) ids ≡ without id ids
+without_same id [] = refl
+without_same id (x ∷ xs) = refl
+
+-- the stream stays
+pub stay_one : (id : ℕ) (before after : List ℕ) (old new : BookedView) → after ≡ before → SpentAlike old new → LeavesOne id before after old new
+stay_one id before after old new e a = inl (leaves_none before after old new e a)
+
+-- it leaves, whatever the call answers that spends its half
+pub end_one : (keeps : Bool) (seat id : ℕ) (result : Result (Unit {0}) HubFault) (before between after : List ℕ) (old mid new : BookedView) → between ≡ before → after ≡ swap_remove_by (nat_eq id) between → SpentAlike old mid → StepsClosed (is_half_spent id mid) keeps seat id result mid new → LeavesOne id before after old new
+end_one keeps seat id result before between after old mid new e w a s = inr (leaves_one keeps seat id result before between after old mid new e (w ∙ without_same id between) a s)
+
+pub end_waits : (keeps : Bool) (seat id : ℕ) (result : Result (Unit {0}) HubFault) (before between after : List ℕ) (old mid new : BookedView) → between ≡ before → after ≡ swap_remove_by (nat_eq id) between → SpentAlike old mid → StepsClosed (is_half_spent id mid) keeps seat id result mid new → IfOk result (λ (u : Unit {0}). Waits new.session id ⊎ Leaves (id ∷ []) before after old new)
+end_waits keeps seat id (Ok u) before between after old mid new e w a s = inr (leaves_one keeps seat id (Ok u) before between after old mid new e (w ∙ without_same id between) a s)
+end_waits keeps seat id (Err fault) before between after old mid new e w a s = tt
+
+pub some_none : (ids : List ℕ) (old : BookedView) → LeavesSome ids ids old old
+some_none ids old = ([], leaves_none ids ids old old refl (refl, refl))
+
+pub some_one : (id : ℕ) (before between after : List ℕ) (old mid new : BookedView) → LeavesSome before between old mid → LeavesOne id between after mid new → LeavesSome before after old new
+some_one id before between after old mid new s (inl none) = (s.0 ++ [], leaves_on s.0 [] before between after old mid new s.1 none)
+some_one id before between after old mid new s (inr one) = (s.0 ++ id ∷ [], leaves_on s.0 (id ∷ []) before between after old mid new s.1 one)
+
+pub some_more : (before between after : List ℕ) (old mid new : BookedView) → LeavesSome before between old mid → LeavesSome between after mid new → LeavesSome before after old new
+some_more before between after old mid new s t = (s.0 ++ t.0, leaves_on s.0 t.0 before between after old mid new s.1 t.1)
+
+-- ---- who waits
+
+-- those at the first n places wait
+abbrev pub WaitTo : Session → List ℕ → ℕ → Type 0
+WaitTo s ids n = (at id : ℕ) → at < n → slice_get ids at ≡ Some id → Waits s id
+
+pub wait_next : (s : Session) (ids : List ℕ) (n id : ℕ) → WaitTo s ids n → slice_get ids n ≡ Some id → Waits s id → WaitTo s ids (n + 1)
+wait_next s ids n id w g h at other l k = of (at == n) refl
+  where
+    of : (b : Bool) → (at == n) ≡ b → Waits s other
+    of true e =
+        let here : at ≡ n = grind (arith, nat_tests) in
+        let both : Some id ≡ Some other = sym g ∙ ap (slice_get ids) (sym here) ∙ k in
+        let same : id ≡ other = cc in
+        subst (Waits s) same h
+    of false e = let before : at < n = grind (arith, nat_tests) in w at other before k
+
+-- those at all places wait
+pub wait_all : (s : Session) (ids : List ℕ) (n : ℕ) → length ids ≤ n → WaitTo s ids n → AllWait s ids
+wait_all s ids n l w at id k = let within : at < length ids = slice_get_within ids at id k in w at id (omega (arith, within, l)) k

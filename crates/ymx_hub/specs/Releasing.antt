@@ -1,10 +1,13 @@
 -- What a hub does with a stream whose reader is done with it (this project's own).
-use Rattle.std.specs.Prelude.{◌≡◌, ℕ, ◌⊎◌, List, [], ◌∷◌, ◌++◌, Bool, true, false, Result, Ok, Err}
+use Rattle.std.specs.Prelude.{◌≡◌, ℕ, ◌⊎◌, List, [], ◌∷◌, ◌++◌, slice_get, Bool, true, false, Some, Result, Ok, Err}
 use Rattle.ymx_memory.specs.declared.refused.RefusedAllocation.{RefusedAllocation}
 use Rattle.ymx_machine.specs.declared.types.CallFault.{CallFault}
 use Rattle.ymx_machine.specs.shared.Events.{Reply}
 use Rattle.ymx_machine.specs.declared.types.Reply.TheVariants as reply
 use Rattle.ymx_model.specs.declared.types.Entry.{Entry}
+use Rattle.ymx_model.specs.session.Sessions.{Session}
+use Rattle.ymx_model.specs.session.Calls.{read_from}
+use Rattle.ymx_booked.specs.Booked.{BookedView, without, spent}
 use Rattle.ymx_booked.specs.Books.{Forgets, to_read}
 use Rattle.ymx_hub.specs.Turns.{EndsIn}
 
@@ -41,3 +44,40 @@ AllTend seat (p ∷ ps) = Tends p.0 seat p.1 × AllTend seat ps
 -- that of some streams
 abbrev pub Settles : (seat : ℕ) → List Entry → Type 0
 Settles seat added = (parts : List (ℕ × List Entry)) × (added ≡ joined parts) × AllTend seat parts
+
+-- ---- what becomes of them under the lock
+
+-- a read of this stream finds nothing, and more may come
+abbrev pub Waits : Session → ℕ → Type 0
+Waits s id = (read_from id 1 s).reply ≡ reply.ReadWait
+
+-- so it is at each of these
+abbrev pub AllWait : Session → List ℕ → Type 0
+AllWait s ids = (at id : ℕ) → slice_get ids at ≡ Some id → Waits s id
+
+-- the ids but these
+abbrev pub all_without : List ℕ → List ℕ → List ℕ
+all_without [] ids = ids
+all_without (x ∷ xs) ids = all_without xs (without x ids)
+
+-- one more half of each of these streams is spent
+abbrev pub all_spent : List ℕ → BookedView → BookedView
+all_spent [] h = h
+all_spent (x ∷ xs) h = all_spent xs (spent x h)
+
+-- the same halves are spent in both
+abbrev pub SpentAlike : BookedView → BookedView → Type 0
+SpentAlike h k = (k.unspent ≡ h.unspent) × (k.half_spent ≡ h.half_spent)
+
+-- These streams are released no more, and a half of each is spent. No other leaves, and no other half is spent.
+pub record Leaves (gone before after : List ℕ) (old new : BookedView) : Type 0 where
+  pub released : after ≡ all_without gone before
+  pub halves : SpentAlike (all_spent gone old) new
+
+-- this stream leaves, or none does
+abbrev pub LeavesOne : (id : ℕ) (before after : List ℕ) (old new : BookedView) → Type 0
+LeavesOne id before after old new = Leaves [] before after old new ⊎ Leaves (id ∷ []) before after old new
+
+-- some leave
+abbrev pub LeavesSome : (before after : List ℕ) (old new : BookedView) → Type 0
+LeavesSome before after old new = (gone : List ℕ) × Leaves gone before after old new

@@ -17,7 +17,6 @@ use crate::shared::Shared;
 use crate::wakeups::Wakeups;
 use indexmap::IndexSet;
 use std::alloc::Global;
-use std::sync::atomic::AtomicU64;
 use std::sync::{Arc, Mutex, MutexGuard, Wait};
 use ymx_booked::{Booked, EndFault, HubFault};
 use ymx_memory::RefusedAllocation;
@@ -29,8 +28,6 @@ use ymx_session::{Session, Touched};
 pub struct Hub<R: Recorder> {
     pub(crate) shared: Mutex<Shared<R>>,
     pub(crate) wakeups: Wakeups,
-    /// Not 0 where a released stream may have changed.
-    pub(crate) unsettled: AtomicU64,
 }
 
 /// The seats of those who run a session by one call, none of which is taken yet.
@@ -114,7 +111,6 @@ impl<R: Recorder> Hub<R> {
         let hub = Hub {
             shared: Mutex::new(Shared::new(booked, touched, released)),
             wakeups: Wakeups::new(),
-            unsettled: AtomicU64::new(0),
         };
         ymx_memory::shared(alloc, hub)
     }
@@ -249,7 +245,6 @@ impl<R: Recorder> Hub<R> {
         let mut shared = take_lock(rt, &self.shared);
         let was_due = shared.booked.due();
         let was_reset = shared.booked.reset(seat, id);
-        self.note_reset(&*shared, id);
         self.unlock(shared, was_due);
         self.wakeups.reader(id).notify_all();
         self.wakeups.writer(id).notify_all();

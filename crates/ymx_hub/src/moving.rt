@@ -6,9 +6,11 @@ ghost use Rattle.ymx_machine.specs.declared.types.Reply.TheVariants as reply;
 ghost use Rattle.ymx_booked.specs.Books.{Books, Does};
 ghost use Rattle.ymx_hub.specs.Pumped.{EmitsOnce, SeesTurn, IsAwake, emitted_count};
 ghost use Rattle.ymx_hub.specs.Shown.{IsShown};
+ghost use Rattle.ymx_hub.specs.Releasing.{Settles};
 
 use crate::awaiting::{await_wakeup, take_lock, take_lock_at_once};
 use crate::hub::Hub;
+use crate::settled::Settled;
 use crate::shared::Shared;
 use std::sync::{MutexGuard, Wait};
 use ymx_memory::RefusedAllocation;
@@ -26,9 +28,18 @@ pub enum Turn {
     Over,
 }
 
+/// What a feed took, and how it left the streams that were released.
+#[derive(Drop)]
+pub struct FedAndSettled {
+    /// What the feed took.
+    pub fed: Fed,
+    /// The evidence that each stream that is released waited behind the feed; or there was no memory for an entry.
+    pub settled: Result<Settled, RefusedAllocation>,
+}
+
 impl<R: Recorder> Hub<R> {
     /// Feeds bytes that came from the peer, and wakes whom they concern. `RefusedAllocation`, and nothing is
-    /// done, where there is no memory for the entry.
+    /// done, where there is no memory for the entry. Streams that were released are left to `settle`.
     pub fn feed<W: Wait>(
         &self,
         rt: &W,
@@ -54,6 +65,40 @@ impl<R: Recorder> Hub<R> {
         }
     }
 
+    /// Feeds as `feed` does, at the first seat, and in the same hold of the lock looks at the streams that were released, as
+    /// `settle` does, at the second. `RefusedAllocation`, and nothing is done, where there is no memory for the entry of the
+    /// feed.
+    #[tactic(auto, using(crate::proofs::Released::settles_none))]
+    pub fn feed_and_settle<W: Wait>(
+        &self,
+        rt: &W,
+        seat: &mut Seat<R>,
+        settler: &mut Seat<R>,
+        bytes: &[u8],
+    ) -> Result<FedAndSettled, RefusedAllocation>
+        // The one entry of the feed stands in the list of its seat, with these bytes and the answer.
+        ensures booked { Books R.KEEPS seat.old seat.new (Does (event.Feed bytes.now) (λ done. reply.Fed done.fed) seat.old.number result) }
+        // What it did of released streams stands in the list of the second seat: a stream is given up only where nothing more could come.
+        ensures tended { Books R.KEEPS settler.old settler.new (Settles settler.old.number) }
+        // It takes a beginning of the bytes.
+        ensures within { IfOk result (λ done. done.fed.taken ≤ length bytes.now) }
+        // Where no entries are kept, neither is refused for want of memory.
+        ensures off { R.KEEPS ≡ false → IsOk result }
+        ensures off_settled { IfOk result (λ done. R.KEEPS ≡ false → IsOk done.settled) }
+    {
+        let mut shared = take_lock_at_once(rt, &self.shared);
+        let was_due = shared.booked.due();
+        let offered = shared.booked.offered_count();
+        match shared.feed(seat, bytes) {
+            Ok(fed) => {
+                let settled = shared.settle(rt, settler);
+                self.wake_concerned(shared, fed.why, was_due, offered);
+                Ok(FedAndSettled { fed, settled })
+            }
+            Err(refused) => Err(refused),
+        }
+    }
+
     /// Gives up the lock, and wakes whom the last feed concerns, before which so many streams were offered: all, once
     /// the session no longer runs.
     fn wake_concerned(
@@ -64,7 +109,6 @@ impl<R: Recorder> Hub<R> {
         offered_before: usize,
     ) {
         let mut shared = shared;
-        self.note_released(&*shared);
         if shared.booked.status() != Status::Running {
             self.wake_all(shared);
             return;
@@ -85,7 +129,6 @@ impl<R: Recorder> Hub<R> {
     {
         let mut shared = take_lock_at_once(rt, &self.shared);
         let ended = shared.booked.feed_end(seat);
-        self.note_released(&*shared);
         self.wake_all(shared);
         ended
     }

@@ -1,19 +1,19 @@
 //! Streams whose readers are done with them. What comes of such a stream is read and dropped, so that the peer gets its
 //! credit back, and its reading half is spent once nothing more can come.
 
-ghost use Rattle.std.specs.Prelude.{◌≡◌, false, IsOk};
+ghost use Rattle.std.specs.Prelude.{◌≡◌, ◌⊎◌, [], ◌∷◌, false, IfOk, IsOk};
 ghost use Rattle.ymx_booked.specs.Answers.{IsNotMemory};
 ghost use Rattle.ymx_booked.specs.Books.{Books};
-ghost use Rattle.ymx_hub.specs.Releasing.{ReadsUp, Tends, Settles};
+ghost use Rattle.ymx_hub.specs.Releasing.{ReadsUp, Tends, Settles, Waits, AllWait, SpentAlike, Leaves, LeavesOne, LeavesSome};
 
 use crate::awaiting::take_lock;
 use crate::hub::Hub;
+use crate::settled::Settled;
 use crate::shared::Shared;
 use std::sync::Wait;
-use std::sync::atomic::Ordering;
 use ymx_booked::HubFault;
 use ymx_memory::RefusedAllocation;
-use ymx_model::{CallFault, Got, Status};
+use ymx_model::{CallFault, Got};
 use ymx_seats::{Recorder, Seat};
 
 /// How many streams a session has at most, so that no more are released.
@@ -23,36 +23,46 @@ pub(crate) const MOST_RELEASED: usize = 1_024;
 const CHUNK: usize = 4_096;
 
 impl<R: Recorder> Shared<R> {
-    /// Reads what has come of a stream, and drops it. Whether nothing more can come.
-    fn read_up(&mut self, seat: &mut Seat<R>, id: u32) -> Result<bool, RefusedAllocation>
+    /// Reads what has come of a stream, and drops it. Whether nothing more can come; else the stream waits.
+    #[tactic(auto, using(crate::proofs::Released::alike_none, crate::proofs::Released::alike_on))]
+    fn read_up<W: Wait>(
+        &mut self,
+        rt: &W,
+        seat: &mut Seat<R>,
+        id: u32,
+    ) -> Result<bool, RefusedAllocation>
         ensures booked { Books R.KEEPS seat.old seat.new (ReadsUp id seat.old.number result) }
+        ensures waits { IfOk result (λ over. over ≡ false → Waits self.new.booked.session id) }
+        ensures released { self.new.released.keys ≡ self.old.released.keys }
+        ensures halves { SpentAlike self.old.booked self.new.booked }
         ensures off { R.KEEPS ≡ false → IsOk result }
     {
         let mut buffer = [0; CHUNK];
-        for _ in 0..u64::MAX {
+        for _ in rt.forever() {
             if self.booked.read_waits(id) {
                 return Ok(false);
             }
             match self.booked.read(seat, id, &mut buffer) {
-                Ok(Got::Bytes(_)) => {}
-                Ok(Got::Wait) => return Ok(false),
+                Ok(Got::Bytes(_) | Got::Wait) => {}
                 Ok(Got::End) => return Ok(true),
                 Err(HubFault::Memory(refused)) => return Err(refused),
                 Err(HubFault::Call(_)) => return Ok(true),
                 Err(HubFault::Seats(_)) => return Ok(true),
             }
         }
-        Ok(false)
+        unreachable!()
     }
 
     /// Reads what has come of a released stream. Where nothing more can come its half is spent, and it is released no
-    /// more.
-    #[tactic(auto, using(crate::proofs::Released::lack_tends, crate::proofs::Released::stop_tends, crate::proofs::Released::tends_end))]
-    fn tend(&mut self, seat: &mut Seat<R>, id: u32) -> Result<(), HubFault>
+    /// more; else it waits.
+    #[tactic(auto, using(crate::proofs::Released::lack_tends, crate::proofs::Released::stop_tends, crate::proofs::Released::tends_end, crate::proofs::Released::stay_one, crate::proofs::Released::end_one, crate::proofs::Released::end_waits))]
+    fn tend<W: Wait>(&mut self, rt: &W, seat: &mut Seat<R>, id: u32) -> Result<(), HubFault>
         ensures booked { Books R.KEEPS seat.old seat.new (Tends id seat.old.number) }
+        ensures waits { IfOk result (λ _. Waits self.new.booked.session id ⊎ Leaves (id ∷ []) self.old.released.keys self.new.released.keys self.old.booked self.new.booked) }
+        ensures left { LeavesOne id self.old.released.keys self.new.released.keys self.old.booked self.new.booked }
         ensures off { R.KEEPS ≡ false → IsNotMemory result }
     {
-        let is_over = match self.read_up(seat, id) {
+        let is_over = match self.read_up(rt, seat, id) {
             Ok(is_over) => is_over,
             Err(refused) => return Err(HubFault::Memory(refused)),
         };
@@ -64,10 +74,11 @@ impl<R: Recorder> Shared<R> {
     }
 
     /// Looks at all released streams, one after another.
-    #[tactic(auto, using(crate::proofs::Released::settles_none, crate::proofs::Released::settles_on))]
-    fn settle(&mut self, seat: &mut Seat<R>) -> Result<(), HubFault>
+    #[tactic(auto, using(crate::proofs::Released::settles_none, crate::proofs::Released::settles_on, crate::proofs::Released::some_none, crate::proofs::Released::some_one))]
+    fn tend_all<W: Wait>(&mut self, rt: &W, seat: &mut Seat<R>) -> Result<(), RefusedAllocation>
         ensures booked { Books R.KEEPS seat.old seat.new (Settles seat.old.number) }
-        ensures off { R.KEEPS ≡ false → IsNotMemory result }
+        ensures left { LeavesSome self.old.released.keys self.new.released.keys self.old.booked self.new.booked }
+        ensures off { R.KEEPS ≡ false → IsOk result }
     {
         let mut at = 0;
         for _ in 0..MOST_RELEASED {
@@ -75,7 +86,9 @@ impl<R: Recorder> Shared<R> {
                 return Ok(());
             };
             let id = *id;
-            self.tend(seat, id)?;
+            if let Err(HubFault::Memory(refused)) = self.tend(rt, seat, id) {
+                return Err(refused);
+            }
             if self.released.contains(&id) {
                 at = at.saturating_add(1);
             }
@@ -83,18 +96,25 @@ impl<R: Recorder> Shared<R> {
         Ok(())
     }
 
-    /// Whether the last feed touched a released stream, or the session runs no more.
-    pub(crate) fn is_unsettled(&self) -> bool {
-        if self.released.is_empty() {
-            return false;
+    /// Looks at the released streams until each of them waits.
+    #[tactic(auto, using(crate::proofs::Released::settles_none, crate::proofs::Released::settles_more, crate::proofs::Released::some_none, crate::proofs::Released::some_more))]
+    pub(crate) fn settle<W: Wait>(
+        &mut self,
+        rt: &W,
+        seat: &mut Seat<R>,
+    ) -> Result<Settled, RefusedAllocation>
+        ensures booked { Books R.KEEPS seat.old seat.new (Settles seat.old.number) }
+        ensures wait { IfOk result (λ _. AllWait self.new.booked.session self.new.released.keys) }
+        ensures left { LeavesSome self.old.released.keys self.new.released.keys self.old.booked self.new.booked }
+        ensures off { R.KEEPS ≡ false → IsOk result }
+    {
+        for _ in rt.forever() {
+            if let Some(settled) = Settled::of(self) {
+                return Ok(settled);
+            }
+            self.tend_all(rt, seat)?;
         }
-        self.booked.status() != Status::Running
-            || self.touched.is_all()
-            || self
-                .touched
-                .ids()
-                .iter()
-                .any(|id| self.released.contains(id))
+        unreachable!()
     }
 }
 
@@ -116,47 +136,27 @@ impl<R: Recorder> Hub<R> {
             return Err(HubFault::Call(CallFault::TooMany));
         }
         let _has_room = shared.released.insert(id);
-        let tended = shared.tend(seat, id);
+        let tended = shared.tend(rt, seat, id);
         self.unlock(shared, was_due);
         tended
     }
 
-    /// Looks at the streams that were released, if one of them may have changed since the last look: reads what came of
-    /// it and drops it, and gives it up once nothing more can come. To be called behind each feed, by a caller with a
-    /// seat of its own. It waits for nothing but the lock.
+    /// Looks at the streams that were released: reads what came of each and drops it, and gives it up once nothing more can
+    /// come. It waits for nothing but the lock. Whoever calls `feed` calls it behind each of them, with a seat of its own;
+    /// a read pump calls `feed_and_settle`.
     ///
-    /// `Memory` where there is none for an entry: the streams that are left are looked at by the next call.
-    #[tactic(auto, using(crate::proofs::Released::settles_none))]
-    pub fn settle<W: Wait>(&self, rt: &W, seat: &mut Seat<R>) -> Result<(), HubFault>
+    /// The evidence says that each stream that is still released waited then. Without memory for an entry it answers
+    /// `RefusedAllocation`: the streams that are left are looked at by the next call.
+    pub fn settle<W: Wait>(&self, rt: &W, seat: &mut Seat<R>) -> Result<Settled, RefusedAllocation>
         // Its entries stand in the list of its seat: a stream is given up only where nothing more could come.
         ensures booked { Books R.KEEPS seat.old seat.new (Settles seat.old.number) }
         // Where no entries are kept, it is not refused for want of memory.
-        ensures off { R.KEEPS ≡ false → IsNotMemory result }
+        ensures off { R.KEEPS ≡ false → IsOk result }
     {
-        if self.unsettled.swap(0, Ordering::SeqCst) == 0 {
-            return Ok(());
-        }
         let mut shared = take_lock(rt, &self.shared);
         let was_due = shared.booked.due();
-        let settled = shared.settle(seat);
+        let settled = shared.settle(rt, seat);
         self.unlock(shared, was_due);
-        if settled.is_err() {
-            self.unsettled.store(1, Ordering::SeqCst);
-        }
         settled
-    }
-
-    /// Notes that a stream was reset here, whose reader may be released.
-    pub(crate) fn note_reset(&self, shared: &Shared<R>, id: u32) {
-        if shared.released.contains(&id) {
-            self.unsettled.store(1, Ordering::SeqCst);
-        }
-    }
-
-    /// Notes that a released stream may have changed by what the peer sent.
-    pub(crate) fn note_released(&self, shared: &Shared<R>) {
-        if shared.is_unsettled() {
-            self.unsettled.store(1, Ordering::SeqCst);
-        }
     }
 }

@@ -1,5 +1,5 @@
 -- What a read pump reads and feeds.
-use Rattle.std.proofs.Common.{◌≡◌, ℕ, ◌+◌, ◌-◌, ◌^◌, ◌≤◌, List, [], ◌∷◌, ◌++◌, length, take, drop, min, Bool, Option, None, Ok, Err, inl, inr, arith, refl, sym, ap, ◌∙◌, subst, append_assoc, append-nil, ◌⊎◌}
+use Rattle.std.proofs.Common.{◌≡◌, ℕ, ◌+◌, ◌-◌, ◌^◌, ◌≤◌, List, [], ◌∷◌, ◌++◌, length, take, drop, min, Bool, Option, None, Some, Ok, Err, inl, inr, arith, refl, sym, ap, ◌∙◌, subst, append_assoc, append-nil, ◌⊎◌}
 use Rattle.std.proofs.lemmas.Grind.{common_steps}
 use Rattle.std.proofs.lemmas.List.{take_all, take-append-drop}
 use Rattle.std.proofs.Math.Seq.{take-add}
@@ -14,6 +14,11 @@ use Rattle.ymx_seats.specs.Views.{SeatView}
 use Rattle.ymx_memory.specs.declared.refused.RefusedAllocation.{RefusedAllocation}
 use Rattle.ymx_booked.specs.Books.{Books, One, Does}
 use Rattle.ymx_hub.proofs.Booked.{books_same, books_at, books_weaker}
+use Rattle.ymx_machine.specs.declared.types.Why.TheVariants as feed
+use Rattle.ymx_hub.specs.declared.settled.Settled.{Settled}
+use Rattle.ymx_hub.specs.Releasing.{Settles}
+use Rattle.ymx_hub.proofs.Released.{settles_none}
+use Rattle.ymx_hub.specs.declared.moving.FedAndSettled.{FedAndSettled}
 use Rattle.ymx_pumps.specs.declared.pump_end.PumpWhy.{PumpWhy}
 use Rattle.ymx_pumps.specs.declared.pump_end.PumpWhy.TheVariants.{End, Device, Broken, Memory, Gate, NoThread}
 use Rattle.ymx_pumps.specs.declared.pump_end.Stop.{Stop}
@@ -123,11 +128,21 @@ pub fed_once : (keeps : Bool) (old new : SeatView) (bytes : List ℕ) (fed : Fed
 fed_once keeps old new bytes fed fault t l g =
     (l, books_weaker keeps old new _ (FeedsTo old.number bytes (take fed.taken bytes) (drop fed.taken bytes) fault) (λ es o. (one_feed old.number bytes fed es l o, one_tells old.number bytes fed fault es t o)) g)
 
+-- the same, by why it stopped
+pub fed_whole : (keeps : Bool) (old new : SeatView) (bytes : List ℕ) (done : FedAndSettled) → done.fed.why ≡ feed.All → done.fed.taken ≤ length bytes → Books keeps old new (Does (event.Feed bytes) (λ (d : FedAndSettled). reply.Fed d.fed) old.number (Ok done)) → FeedsFirst keeps old new bytes done.fed.taken None
+fed_whole keeps old new bytes done e l g = fed_once keeps old new bytes done.fed None (ap fault_of_feed e) l g
+
+pub fed_held : (keeps : Bool) (old new : SeatView) (bytes : List ℕ) (done : FedAndSettled) → done.fed.why ≡ feed.Held → done.fed.taken ≤ length bytes → Books keeps old new (Does (event.Feed bytes) (λ (d : FedAndSettled). reply.Fed d.fed) old.number (Ok done)) → FeedsFirst keeps old new bytes done.fed.taken None
+fed_held keeps old new bytes done e l g = fed_once keeps old new bytes done.fed None (ap fault_of_feed e) l g
+
+pub fed_broken : (keeps : Bool) (old new : SeatView) (bytes : List ℕ) (done : FedAndSettled) (fault : Fault) → done.fed.why ≡ feed.Broken fault → done.fed.taken ≤ length bytes → Books keeps old new (Does (event.Feed bytes) (λ (d : FedAndSettled). reply.Fed d.fed) old.number (Ok done)) → FeedsFirst keeps old new bytes done.fed.taken (Some fault)
+fed_broken keeps old new bytes done fault e l g = fed_once keeps old new bytes done.fed (Some fault) (ap fault_of_feed e) l g
+
 none_fed : (seat : ℕ) (bytes : List ℕ) → FeedsTo seat bytes (take 0 bytes) (drop 0 bytes) None []
 none_fed seat bytes = ((grind (arith, common_steps), grind (arith, common_steps)), refl)
 
 -- there was no memory for it
-pub fed_none : (keeps : Bool) (old new : SeatView) (bytes : List ℕ) (refused : RefusedAllocation) → Books keeps old new (Does {A = Fed} (event.Feed bytes) reply.Fed old.number (Err refused)) → FeedsFirst keeps old new bytes 0 None
+pub fed_none : (keeps : Bool) (old new : SeatView) (bytes : List ℕ) (refused : RefusedAllocation) → Books keeps old new (Does {A = FedAndSettled} (event.Feed bytes) (λ (d : FedAndSettled). reply.Fed d.fed) old.number (Err refused)) → FeedsFirst keeps old new bytes 0 None
 fed_none keeps old new bytes refused g =
     (omega arith, books_weaker keeps old new _ (FeedsTo old.number bytes (take 0 bytes) (drop 0 bytes) None) (λ es o. subst (λ (v : List Entry). FeedsTo old.number bytes (take 0 bytes) (drop 0 bytes) None v) (sym o) (none_fed old.number bytes)) g)
 
@@ -166,6 +181,14 @@ first_all keeps old new bytes at f e =
     let none : drop at bytes ≡ [] = grind (arith, common_steps) in
     subst (λ (v : List ℕ). Books keeps old new (FeedsTo old.number bytes bytes v None)) none (subst (λ (v : List ℕ). Books keeps old new (FeedsTo old.number bytes v (drop at bytes) None)) all f.1)
 
+-- the last feed took what was left
+pub all_on : (keeps : Bool) (old mid new : SeatView) (bytes rest : List ℕ) (at n : ℕ) → FeedsFirst keeps old mid bytes at None → rest ≡ drop at bytes → FeedsFirst keeps mid new rest n None → at + n ≡ length bytes → Books keeps old new (FeedsTo old.number bytes bytes [] None)
+all_on keeps old mid new bytes rest at n f r g e = first_all keeps old new bytes (at + n) (first_on keeps old mid new bytes rest at n None f r g) e
+
+-- no stream was looked at
+pub none_tended : (keeps : Bool) (seat : SeatView) → Books keeps seat seat (Settles seat.number)
+none_tended keeps seat = settles_none keeps seat
+
 -- ---- a turn
 
 -- a pump that ends before anything was read
@@ -193,8 +216,8 @@ turn_ends keeps fails failed why result before after old new w k g = (
 )
 
 -- all that was read was fed
-pub turn_read : (keeps : Bool) (n fails failed : ℕ) (u : Unit {0}) (buffer : List ℕ) (before after : Option (List ℕ)) (old new : SeatView) → n ≤ length buffer → failed ≡ fails → Consumes before after (take n buffer) →
-    FedAll keeps old new (take n buffer) (Ok u) → TurnRead keeps fails failed before after old new (Ok n)
+pub turn_read : (keeps : Bool) (n fails failed : ℕ) (u : Settled) (buffer : List ℕ) (before after : Option (List ℕ)) (old new : SeatView) → n ≤ length buffer → failed ≡ fails → Consumes before after (take n buffer) →
+    FedAll keeps old new (take n buffer) (Ok u) → TurnRead keeps fails failed before after old new (Ok (n, u))
 turn_read keeps n fails failed u buffer before after old new l f k g = (f, take n buffer, grind (arith, common_steps), k, g)
 
 inside_adds : (seat : ℕ) (given taken last : List ℕ) (why : PumpWhy) (es : List Entry) → IsInside why → FeedsTo seat given taken last (fault_of_end why) es → ReadAdds seat given taken last why es
@@ -243,10 +266,10 @@ all_behind : (seat : ℕ) (xs ys : List ℕ) (es ds : List Entry) → FeedsTo se
 all_behind seat xs ys es ds a b = (feeds_behind seat xs ys ys [] es ds a.0 b.0, tells_on None es ds a.1 b.1)
 
 -- one turn more
-pub fed_more : (keeps : Bool) (fails failed failing : ℕ) (before mid after : Option (List ℕ)) (old between new : SeatView) (moved n now : ℕ) →
-    AllFed keeps fails failed before mid old between moved → TurnRead keeps failed failing mid after between new (Ok n) →
+pub fed_more : (keeps : Bool) (fails failed failing : ℕ) (before mid after : Option (List ℕ)) (old between new : SeatView) (moved n now : ℕ) (s : Settled) →
+    AllFed keeps fails failed before mid old between moved → TurnRead keeps failed failing mid after between new (Ok (n, s)) →
     now ≡ min (moved + n) (2 ^ 64 - 1) → AllFed keeps fails failing before after old new now
-fed_more keeps fails failed failing before mid after old between new moved n now w u k = record {
+fed_more keeps fails failed failing before mid after old between new moved n now s w u k = record {
   given = w.given ++ u.1;
   failures = u.0 ∙ w.failures;
   gave = Consumes-trans before mid after w.given u.1 w.gave u.3;

@@ -1,19 +1,22 @@
 //! Both pumps at once.
 
-ghost use Rattle.std.specs.Prelude.{◌≡◌, ◌<◌, length};
+ghost use Rattle.std.specs.Prelude.{◌≡◌, ◌<◌, length, false, IsOk};
+ghost use Rattle.ymx_booked.specs.Books.{Books};
+ghost use Rattle.ymx_hub.specs.Releasing.{Settles};
 ghost use Rattle.ymx_model.specs.devices.Devices.{has_failed};
 ghost use Rattle.ymx_hub.specs.Pumped.{EmitsNoMore};
 ghost use Rattle.ymx_pumps.specs.Ends.{ReadEnd, WriteEndOrNone};
 ghost use Rattle.ymx_pumps.specs.Pumps.{PumpRead, PumpWrote};
 
 use crate::gate::Gate;
-use crate::pump_end::{PumpEnd, PumpWhy, Stop};
+use crate::pump_end::{PumpEnd, PumpWhy, SettlerEnd, Stop};
 use crate::reading::read_on;
 use crate::start::{Start, await_begin, begin};
 use crate::writing::write_on;
 use std::sync::{Mutex, Wait};
 use std::thread::{Threads, join_mut};
-use ymx_hub::Hub;
+use ymx_hub::{Hub, Settled};
+use ymx_memory::RefusedAllocation;
 use ymx_model::{Inlet, Outlet};
 use ymx_seats::{Recorder, Seat};
 
@@ -56,6 +59,7 @@ fn run_lent<
     start: &'x Mutex<Start>,
     hub: &'x Hub<R>,
     read_seat: &'x mut Seat<R>,
+    settler: &'x mut Seat<R>,
     write_seat: &'x mut Seat<R>,
     reader: &'x mut I,
     writer: &'x mut O,
@@ -63,32 +67,35 @@ fn run_lent<
     write_gate: &'x mut H,
     read_buffer: &'x mut [u8],
     write_buffer: &'x mut [u8],
-) -> (Stop, Stop)
+) -> (Stop, (Stop, Result<Settled, RefusedAllocation>))
     requires { 0 < length read_buffer.old }
     ensures wrote { PumpWrote R.KEEPS (length write_buffer.old) (has_failed (O.failures writer.old) (O.failures writer.new)) (O.contents writer.old) (O.contents writer.new) write_seat.old write_seat.new result.0.moved result.0.why }
-    ensures gave { PumpRead R.KEEPS (I.remaining reader.old) (I.remaining reader.new) read_seat.old read_seat.new result.1.moved result.1.why }
+    ensures gave { PumpRead R.KEEPS (I.remaining reader.old) (I.remaining reader.new) read_seat.old read_seat.new result.1.0.moved result.1.0.why }
+    ensures tended { Books R.KEEPS settler.old settler.new (Settles settler.old.number) }
+    ensures off { R.KEEPS ≡ false → IsOk result.1.1 }
     ensures written { WriteEndOrNone R.KEEPS (O.failures writer.old) (O.failures writer.new) (O.is_ended writer.new) (H.has_refused write_gate.new) result.0.why }
     ensures out { result.0.why ≡ PumpWhy.End → EmitsNoMore R.WITNESSED R.role R.config write_seat.new.seen }
     ensures unmoved { result.0.why ≡ PumpWhy.NoThread → result.0.moved ≡ 0 }
     ensures unbooked { result.0.why ≡ PumpWhy.NoThread → write_seat.new ≡ write_seat.old }
     ensures unwritten { result.0.why ≡ PumpWhy.NoThread → writer.new ≡ writer.old }
-    ensures read { ReadEnd R.KEEPS (I.failures reader.old) (I.failures reader.new) (I.remaining reader.new) (G.has_refused read_gate.new) result.1.why }
+    ensures read { ReadEnd R.KEEPS (I.failures reader.old) (I.failures reader.new) (I.remaining reader.new) (G.has_refused read_gate.new) result.1.0.why }
 {
     join_mut(
         rt,
         &mut || write_if_begun(rt, start, hub, write_seat, writer, write_gate, write_buffer),
-        &mut || -> Stop
+        &mut || -> (Stop, Result<Settled, RefusedAllocation>)
             requires { 0 < length read_buffer.now }
         {
             // The write pump has begun then, or was given up.
             await_begin(rt, start);
-            read_on(rt, hub, read_seat, reader, read_gate, read_buffer)
+            read_on(rt, hub, read_seat, settler, reader, read_gate, read_buffer)
         },
     )
 }
 
 /// Runs a read pump and a write pump at once, each in a thread, until both have ended. Gives the read pump's end,
-/// and then the write pump's.
+/// how it left the streams that were released, and then the write pump's end. The seats are of the read pump, of the same
+/// for those streams, and of the write pump.
 ///
 /// The write pump ends with `NoThread`, and has done no event and written no byte, where no thread can be made for it.
 pub fn run_pumps<
@@ -101,34 +108,39 @@ pub fn run_pumps<
 >(
     rt: &W,
     hub: &Hub<R>,
-    seats: (Seat<R>, Seat<R>),
+    seats: (Seat<R>, Seat<R>, Seat<R>),
     reader: &mut I,
     writer: &mut O,
     read_gate: &mut G,
     write_gate: &mut H,
     read_buffer: &mut [u8],
     write_buffer: &mut [u8],
-) -> (PumpEnd<R>, PumpEnd<R>)
+) -> (PumpEnd<R>, SettlerEnd<R>, PumpEnd<R>)
     requires read_buffer { 0 < length read_buffer.old }
     requires write_buffer { 0 < length write_buffer.old }
     ensures gave { PumpRead R.KEEPS (I.remaining reader.old) (I.remaining reader.new) seats.0 result.0.seat result.0.moved result.0.why }
-    ensures wrote { PumpWrote R.KEEPS (length write_buffer.old) (has_failed (O.failures writer.old) (O.failures writer.new)) (O.contents writer.old) (O.contents writer.new) seats.1 result.1.seat result.1.moved result.1.why }
+    // What the read pump did of released streams stands in the list of the second seat: a stream is given up only where nothing more could come.
+    ensures tended { Books R.KEEPS seats.1 result.1.seat (Settles seats.1.number) }
+    // Where no entries are kept, all released streams are looked at in the end.
+    ensures off { R.KEEPS ≡ false → IsOk result.1.settled }
+    ensures wrote { PumpWrote R.KEEPS (length write_buffer.old) (has_failed (O.failures writer.old) (O.failures writer.new)) (O.contents writer.old) (O.contents writer.new) seats.2 result.2.seat result.2.moved result.2.why }
     ensures read { ReadEnd R.KEEPS (I.failures reader.old) (I.failures reader.new) (I.remaining reader.new) (G.has_refused read_gate.new) result.0.why }
-    ensures written { WriteEndOrNone R.KEEPS (O.failures writer.old) (O.failures writer.new) (O.is_ended writer.new) (H.has_refused write_gate.new) result.1.why }
+    ensures written { WriteEndOrNone R.KEEPS (O.failures writer.old) (O.failures writer.new) (O.is_ended writer.new) (H.has_refused write_gate.new) result.2.why }
     // The write pump says End only where nothing is due and nothing will be, of the session that the history in the sight of its seat leads to.
-    ensures out { result.1.why ≡ PumpWhy.End → EmitsNoMore R.WITNESSED R.role R.config result.1.seat.seen }
+    ensures out { result.2.why ≡ PumpWhy.End → EmitsNoMore R.WITNESSED R.role R.config result.2.seat.seen }
     // The write pump for which no thread could be made has done no event and written no byte: its seat and its writer are as they were.
-    ensures unmoved { result.1.why ≡ PumpWhy.NoThread → result.1.moved ≡ 0 }
-    ensures unbooked { result.1.why ≡ PumpWhy.NoThread → result.1.seat ≡ seats.1 }
-    ensures unwritten { result.1.why ≡ PumpWhy.NoThread → writer.new ≡ writer.old }
+    ensures unmoved { result.2.why ≡ PumpWhy.NoThread → result.2.moved ≡ 0 }
+    ensures unbooked { result.2.why ≡ PumpWhy.NoThread → result.2.seat ≡ seats.2 }
+    ensures unwritten { result.2.why ≡ PumpWhy.NoThread → writer.new ≡ writer.old }
 {
-    let (mut read_seat, mut write_seat) = seats;
+    let (mut read_seat, mut settler, mut write_seat) = seats;
     let start = Mutex::new(Start::new());
-    let (wrote, fed) = run_lent(
+    let (wrote, (fed, settled)) = run_lent(
         rt,
         &start,
         hub,
         &mut read_seat,
+        &mut settler,
         &mut write_seat,
         reader,
         writer,
@@ -142,6 +154,10 @@ pub fn run_pumps<
             seat: read_seat,
             moved: fed.moved,
             why: fed.why,
+        },
+        SettlerEnd {
+            seat: settler,
+            settled,
         },
         PumpEnd {
             seat: write_seat,

@@ -3,8 +3,9 @@
 //! Of devices that tell their bytes: what was written is what the emissions gave, and what was fed is a beginning of what
 //! was read.
 //!
-//! `write_pump` takes what the hub emits to a writer, `read_pump` what a reader gives to the hub, `read_and_settle` also
-//! looks at the streams that were released, and `run_pumps` runs one pump of each kind at once. A `Gate` may end a pump from outside, and `PumpEnd` says how one ended.
+//! `write_pump` takes what the hub emits to a writer, `read_pump` what a reader gives to the hub, and looks at the streams
+//! that were released behind each feed; `run_pumps` runs one pump of each kind at once. A `Gate` may end a pump from
+//! outside, and `PumpEnd` says how one ended.
 #![tactic(auto)]
 
 mod both;
@@ -16,6 +17,6 @@ mod writing;
 
 pub use both::run_pumps;
 pub use gate::Gate;
-pub use pump_end::{PumpEnd, PumpWhy};
-pub use reading::{read_and_settle, read_pump};
+pub use pump_end::{PumpEnd, PumpWhy, SettlerEnd};
+pub use reading::read_pump;
 pub use writing::write_pump;

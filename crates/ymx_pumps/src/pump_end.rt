@@ -3,6 +3,7 @@
 ghost use Rattle.std.specs.Prelude.{◌≡◌, ◌+◌, ◌-◌, ◌^◌, min};
 
 use ymx_header::Fault;
+use ymx_hub::Settled;
 use ymx_memory::RefusedAllocation;
 use ymx_seats::{Recorder, Seat};
 
@@ -34,6 +35,14 @@ pub struct PumpEnd<R: Recorder> {
     pub why: PumpWhy,
 }
 
+/// The end of a read pump's look at the streams that were released.
+pub struct SettlerEnd<R: Recorder> {
+    /// The seat at which it looked.
+    pub seat: Seat<R>,
+    /// The evidence that each stream that was still released waited in the end; or there was no memory for an entry.
+    pub settled: Result<Settled, RefusedAllocation>,
+}
+
 /// Why a pump stops while its seat is lent.
 #[derive(Drop)]
 pub(crate) struct Stop {
@@ -49,6 +58,16 @@ impl Stop {
         ensures { result ≡ record { moved = 0; why = why } }
     {
         Stop { moved: 0, why }
+    }
+
+    /// Behind so many bytes, which were moved.
+    pub(crate) fn behind_bytes(moved: usize, why: PumpWhy) -> Stop
+        ensures { result ≡ record { moved = moved; why = why } }
+    {
+        Stop {
+            moved: moved as u64,
+            why,
+        }
     }
 
     /// The same, behind so many bytes that were moved before.

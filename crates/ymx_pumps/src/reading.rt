@@ -1,6 +1,6 @@
 //! The read pump.
 
-ghost use Rattle.std.specs.Prelude.{◌≡◌, ◌<◌, ◌⊎◌, length, true, IfErr};
+ghost use Rattle.std.specs.Prelude.{◌≡◌, ◌<◌, ◌⊎◌, length, true, false, IfErr, IsOk};
 ghost use Rattle.ymx_booked.specs.Books.{Books};
 ghost use Rattle.ymx_hub.specs.Releasing.{Settles};
 ghost use Rattle.ymx_machine.specs.shared.Evidence.{evidence};
@@ -9,65 +9,74 @@ ghost use Rattle.ymx_pumps.specs.Pumps.{PumpRead};
 ghost use Rattle.ymx_pumps.specs.Turns.{SaysEnd, TurnFed, FedAll, TurnRead};
 
 use crate::gate::Gate;
-use crate::pump_end::{PumpEnd, PumpWhy, Stop};
+use crate::pump_end::{PumpEnd, PumpWhy, SettlerEnd, Stop};
 use std::sync::Wait;
-use ymx_hub::Hub;
+use ymx_hub::{FedAndSettled, Hub, Settled};
+use ymx_memory::RefusedAllocation;
 use ymx_model::{Inlet, Why};
 use ymx_seats::{Recorder, Seat};
 
-/// Feeds once. Where 1,024 answers are unsent it waits once behind it.
+/// Feeds once, and looks at the streams that were released. Where 1,024 answers are unsent it waits once behind it.
+#[tactic(auto, using(crate::proofs::Feeds::fed_whole, crate::proofs::Feeds::fed_held, crate::proofs::Feeds::fed_broken))]
 fn feed_turn<R: Recorder, W: Wait, G: Gate>(
     rt: &W,
     hub: &Hub<R>,
     seat: &mut Seat<R>,
+    settler: &mut Seat<R>,
     gate: &mut G,
     bytes: &[u8],
-) -> Result<usize, Stop>
+) -> Result<(usize, Settled), Stop>
     ensures fed { TurnFed R.KEEPS seat.old seat.new bytes.now result }
+    ensures tended { Books R.KEEPS settler.old settler.new (Settles settler.old.number) }
     ensures ended { IfErr result (λ stop. FeedEnd R.KEEPS (G.has_refused gate.new) stop.why) }
 {
-    let fed = match hub.feed(rt, seat, bytes) {
-        Ok(fed) => fed,
+    let FedAndSettled { fed, settled } = match hub.feed_and_settle(rt, seat, settler, bytes) {
+        Ok(done) => done,
         Err(refused) => return Err(Stop::at_once(PumpWhy::Memory(refused))),
     };
     let moved = fed.taken;
     match fed.why {
-        Why::All => Ok(moved),
-        Why::Broken(fault) => Err(Stop {
-            moved: moved as u64,
-            why: PumpWhy::Broken(fault),
-        }),
-        Why::Held => {
-            if !gate.before_wait() {
-                return Err(Stop {
-                    moved: moved as u64,
-                    why: PumpWhy::Gate,
-                });
+        Why::All => match settled {
+            Ok(settled) => Ok((moved, settled)),
+            Err(refused) => Err(Stop::behind_bytes(moved, PumpWhy::Memory(refused))),
+        },
+        Why::Broken(fault) => Err(Stop::behind_bytes(moved, PumpWhy::Broken(fault))),
+        Why::Held => match settled {
+            Ok(settled) => {
+                if !gate.before_wait() {
+                    return Err(Stop::behind_bytes(moved, PumpWhy::Gate));
+                }
+                hub.wait_for_room(rt);
+                Ok((moved, settled))
             }
-            hub.wait_for_room(rt);
-            Ok(moved)
-        }
+            Err(refused) => Err(Stop::behind_bytes(moved, PumpWhy::Memory(refused))),
+        },
     }
 }
 
-/// Feeds until all is taken. At the pump's end it says how many bytes were.
+/// Feeds until all is taken, and answers the evidence that the streams which were released were looked at behind it. At
+/// the pump's end it says how many bytes were taken.
 fn feed_all<R: Recorder, W: Wait, G: Gate>(
     rt: &W,
     hub: &Hub<R>,
     seat: &mut Seat<R>,
+    settler: &mut Seat<R>,
     gate: &mut G,
     bytes: &[u8],
-) -> Result<(), Stop>
+) -> Result<Settled, Stop>
     ensures fed { FedAll R.KEEPS seat.old seat.new bytes.now result }
+    ensures tended { Books R.KEEPS settler.old settler.new (Settles settler.old.number) }
     ensures ended { IfErr result (λ stop. FeedEnd R.KEEPS (G.has_refused gate.new) stop.why) }
 {
     let mut at = 0;
     for _ in rt.forever() {
-        if at == bytes.len() {
-            return Ok(());
-        }
-        match feed_turn(rt, hub, seat, gate, &bytes[at..]) {
-            Ok(taken) => at += taken,
+        match feed_turn(rt, hub, seat, settler, gate, &bytes[at..]) {
+            Ok((taken, settled)) => {
+                at += taken;
+                if at == bytes.len() {
+                    return Ok(settled);
+                }
+            }
             Err(stop) => {
                 return Err(Stop {
                     moved: at as u64 + stop.moved,
@@ -95,18 +104,22 @@ pub(crate) fn end_input<R: Recorder, W: Wait>(
     }
 }
 
-/// One turn: reads, and feeds all of it. At the pump's end it says how many bytes were taken.
+/// One turn: reads, and feeds all of it, with the evidence that the streams which were released were looked at behind it.
+/// At the pump's end it says how many bytes were taken.
+#[tactic(auto, using(crate::proofs::Feeds::none_tended))]
 fn read_turn<R: Recorder, W: Wait, I: Inlet, G: Gate>(
     rt: &W,
     hub: &Hub<R>,
     seat: &mut Seat<R>,
+    settler: &mut Seat<R>,
     reader: &mut I,
     gate: &mut G,
     buffer: &mut [u8],
-) -> Result<usize, Stop>
+) -> Result<(usize, Settled), Stop>
     requires { 0 < length buffer.old }
     ensures length { length buffer.new ≡ length buffer.old }
     ensures turned { TurnRead R.KEEPS (I.failures reader.old) (I.failures reader.new) (I.remaining reader.old) (I.remaining reader.new) seat.old seat.new result }
+    ensures tended { Books R.KEEPS settler.old settler.new (Settles settler.old.number) }
     ensures ended { IfErr result (λ stop. ReadEnd R.KEEPS (I.failures reader.old) (I.failures reader.new) (I.remaining reader.new) (G.has_refused gate.new) stop.why) }
 {
     if !gate.before_read() {
@@ -117,39 +130,43 @@ fn read_turn<R: Recorder, W: Wait, I: Inlet, G: Gate>(
         Ok(0) => Err(Stop::at_once(end_input(rt, hub, seat, PumpWhy::End))),
         Ok(count) => {
             gate.after_read(count);
-            if let Err(stop) = feed_all(rt, hub, seat, gate, &buffer[..count]) {
-                return Err(stop);
+            match feed_all(rt, hub, seat, settler, gate, &buffer[..count]) {
+                Ok(settled) => Ok((count, settled)),
+                Err(stop) => Err(stop),
             }
-            Ok(count)
         }
     }
 }
 
-/// The read pump, while its seat is lent.
+/// The read pump, while its seats are lent. It also answers how it left the streams that were released.
 pub(crate) fn read_on<R: Recorder, W: Wait, I: Inlet, G: Gate>(
     rt: &W,
     hub: &Hub<R>,
     seat: &mut Seat<R>,
+    settler: &mut Seat<R>,
     reader: &mut I,
     gate: &mut G,
     buffer: &mut [u8],
-) -> Stop
+) -> (Stop, Result<Settled, RefusedAllocation>)
     requires { 0 < length buffer.old }
-    ensures gave { PumpRead R.KEEPS (I.remaining reader.old) (I.remaining reader.new) seat.old seat.new result.moved result.why }
-    ensures ended { ReadEnd R.KEEPS (I.failures reader.old) (I.failures reader.new) (I.remaining reader.new) (G.has_refused gate.new) result.why }
+    ensures gave { PumpRead R.KEEPS (I.remaining reader.old) (I.remaining reader.new) seat.old seat.new result.0.moved result.0.why }
+    ensures tended { Books R.KEEPS settler.old settler.new (Settles settler.old.number) }
+    ensures off { R.KEEPS ≡ false → IsOk result.1 }
+    ensures ended { ReadEnd R.KEEPS (I.failures reader.old) (I.failures reader.new) (I.remaining reader.new) (G.has_refused gate.new) result.0.why }
 {
     let mut count = 0u64;
     for _ in rt.forever() {
-        match read_turn(rt, hub, seat, reader, gate, buffer) {
-            Ok(taken) => count = count.saturating_add(taken as u64),
-            Err(stop) => return stop.behind(count),
+        match read_turn(rt, hub, seat, settler, reader, gate, buffer) {
+            Ok((taken, _)) => count = count.saturating_add(taken as u64),
+            Err(stop) => return (stop.behind(count), hub.settle(rt, settler)),
         }
     }
     unreachable!()
 }
 
 /// Reads and feeds until the input has ended, with no lock held while it reads. Where 1,024 answers are unsent it
-/// waits until some went out, and then feeds the rest.
+/// waits until some went out, and then feeds the rest. In the hold of the lock of each feed, and at its end, it looks at the
+/// streams that were released, at the second seat.
 ///
 /// It ends with `End` at the end of the input, when the reader has nothing left, and with `Device` where the reader
 /// failed in this call, and then has ended the session's input; with `Broken` where the session broke; with `Gate`
@@ -158,64 +175,27 @@ pub(crate) fn read_on<R: Recorder, W: Wait, I: Inlet, G: Gate>(
 pub fn read_pump<R: Recorder, W: Wait, I: Inlet, G: Gate>(
     rt: &W,
     hub: &Hub<R>,
-    seat: Seat<R>,
-    reader: &mut I,
-    gate: &mut G,
-    buffer: &mut [u8],
-) -> PumpEnd<R>
-    requires { 0 < length buffer.old }
-    ensures gave { PumpRead R.KEEPS (I.remaining reader.old) (I.remaining reader.new) seat result.seat result.moved result.why }
-    ensures ended { ReadEnd R.KEEPS (I.failures reader.old) (I.failures reader.new) (I.remaining reader.new) (G.has_refused gate.new) result.why }
-{
-    let mut seat = seat;
-    let Stop { moved, why } = read_on(rt, hub, &mut seat, reader, gate, buffer);
-    PumpEnd { seat, moved, why }
-}
-
-/// The read pump that settles, while its seats are lent.
-fn read_settling<R: Recorder, W: Wait, I: Inlet, G: Gate>(
-    rt: &W,
-    hub: &Hub<R>,
-    seat: &mut Seat<R>,
-    settler: &mut Seat<R>,
-    reader: &mut I,
-    gate: &mut G,
-    buffer: &mut [u8],
-) -> Stop
-    requires { 0 < length buffer.old }
-    ensures gave { PumpRead R.KEEPS (I.remaining reader.old) (I.remaining reader.new) seat.old seat.new result.moved result.why }
-    ensures ended { ReadEnd R.KEEPS (I.failures reader.old) (I.failures reader.new) (I.remaining reader.new) (G.has_refused gate.new) result.why }
-    ensures settled { Books R.KEEPS settler.old settler.new (Settles settler.old.number) }
-{
-    let mut count = 0u64;
-    for _ in rt.forever() {
-        let turn = read_turn(rt, hub, seat, reader, gate, buffer);
-        let _ = hub.settle(rt, settler);
-        match turn {
-            Ok(fed) => count = count.saturating_add(fed as u64),
-            Err(stop) => return stop.behind(count),
-        }
-    }
-    unreachable!()
-}
-
-/// Reads and feeds as `read_pump` does, at the first seat, and behind each read looks at the streams that were released,
-/// at the second. It ends as `read_pump` does, and gives both seats back.
-pub fn read_and_settle<R: Recorder, W: Wait, I: Inlet, G: Gate>(
-    rt: &W,
-    hub: &Hub<R>,
     seats: (Seat<R>, Seat<R>),
     reader: &mut I,
     gate: &mut G,
     buffer: &mut [u8],
-) -> (PumpEnd<R>, Seat<R>)
+) -> (PumpEnd<R>, SettlerEnd<R>)
     requires { 0 < length buffer.old }
     ensures gave { PumpRead R.KEEPS (I.remaining reader.old) (I.remaining reader.new) seats.0 result.0.seat result.0.moved result.0.why }
-    ensures ended { ReadEnd R.KEEPS (I.failures reader.old) (I.failures reader.new) (I.remaining reader.new) (G.has_refused gate.new) result.0.why }
     // What it did of released streams stands in the list of the second seat: a stream is given up only where nothing more could come.
-    ensures settled { Books R.KEEPS seats.1 result.1 (Settles seats.1.number) }
+    ensures tended { Books R.KEEPS seats.1 result.1.seat (Settles seats.1.number) }
+    // Where no entries are kept, all released streams are looked at in the end.
+    ensures off { R.KEEPS ≡ false → IsOk result.1.settled }
+    ensures ended { ReadEnd R.KEEPS (I.failures reader.old) (I.failures reader.new) (I.remaining reader.new) (G.has_refused gate.new) result.0.why }
 {
     let (mut seat, mut settler) = seats;
-    let Stop { moved, why } = read_settling(rt, hub, &mut seat, &mut settler, reader, gate, buffer);
-    (PumpEnd { seat, moved, why }, settler)
+    let (stop, settled) = read_on(rt, hub, &mut seat, &mut settler, reader, gate, buffer);
+    let Stop { moved, why } = stop;
+    (
+        PumpEnd { seat, moved, why },
+        SettlerEnd {
+            seat: settler,
+            settled,
+        },
+    )
 }

@@ -1,4 +1,6 @@
 use Rattle.std.proofs.Common.{None}
+use Rattle.ymx_booked.specs.Books.{Books}
+use Rattle.ymx_hub.specs.Releasing.{Settles}
 use Rattle.ymx_pumps.specs.Turns.{FeedsFirst}
 use Rattle.ymx_pumps.proofs.reading.feed_all.Given as goal
 
@@ -6,4 +8,5 @@ abbrev pub invariant-loop : goal.invariant-loop
 invariant-loop g l = record {
   next : (goal.iterator-loop g).can_next l.iterator' × (goal.iterator-loop g).is_finite l.iterator';
   fed : FeedsFirst g.R.Recorder.KEEPS l.initial.seat l.seat l.bytes l.at None;
+  tended : Books g.R.Recorder.KEEPS l.initial.settler l.settler (Settles l.initial.settler.number);
 }

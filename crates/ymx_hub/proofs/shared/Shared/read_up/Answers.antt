@@ -5,12 +5,15 @@ use Rattle.ymx_model.specs.declared.types.Got.{Got}
 use Rattle.ymx_session.specs.Replies.{read_or}
 use Rattle.ymx_booked.specs.declared.faults.HubFault.TheVariants.{Memory}
 use Rattle.ymx_booked.specs.Books.{Books, Asks, to_read}
-use Rattle.ymx_hub.proofs.Released.{reads_on, reads_end, reads_refused, reads_lack}
+use Rattle.ymx_hub.proofs.Released.{reads_on, reads_end, reads_refused, reads_lack, alike_on}
 use Rattle.ymx_hub.proofs.shared.Shared.read_up.Goals as goal
 
 pub loop-preserved : goal.loop-preserved
 loop-preserved g c = record {
-  reads = reads_on g.R.Recorder.KEEPS c.args.seat.now c.loop.seat c.read.new.seat c.args.id (length c.loop.buffer) c.read.new.buffer c.loop.invariant.reads (Ok c.in-Ok-Bytes.field-0) c.in-Ok-Bytes.ensures.booked;
+  next = (tt, tt);
+  reads = reads_on g.R.Recorder.KEEPS c.args.seat.now c.loop.seat c.read.new.seat c.args.id (length c.loop.buffer) c.read.new.buffer c.loop.invariant.reads c.read.result c.read.ensures.booked;
+  released = c.loop.invariant.released;
+  halves = alike_on g.R.Recorder.KEEPS c.loop.seat.number c.args.id (length c.loop.buffer) c.read.new.buffer c.read.result c.args.self.now.booked c.loop.self.booked c.read.new.self c.loop.invariant.halves c.read.ensures.steps;
 }
 
 pub returns-in-Ok-End-clause-booked : goal.returns-in-Ok-End-clause-booked
