@@ -1,5 +1,5 @@
 -- How the pumps behind the front door have ended: their gates let them run, and their recorder keeps nothing.
-use Rattle.std.proofs.Common.{◌≡◌, ℕ, List, [], Bool, true, false, Option, Result, refl, sym, ap, ◌∙◌, subst}
+use Rattle.std.proofs.Common.{◌≡◌, ℕ, List, [], Bool, true, false, Option, None, Result, refl, sym, ap, ◌∙◌, subst}
 use Rattle.ymx_model.specs.declared.types.Role.{Role}
 use Rattle.ymx_model.specs.declared.types.Config.{Config}
 use Rattle.ymx_model.specs.devices.Devices.{has_failed}
@@ -17,7 +17,7 @@ use Rattle.ymx_pumps.specs.Ends.{ReadEnd, WriteEnd}
 use Rattle.ymx_pumps.specs.Pumps.{PumpRead, PumpWrote, ReadAdds, WriteAdds}
 use Rattle.ymx_connect.specs.declared.ended.Ended.{Ended}
 use Rattle.ymx_connect.specs.Connecting.{may_end, may_end_writing, IsSpared}
-use Rattle.ymx_connect.specs.Pumping.{HasRead, HasWritten, HasClosed, HasWorked, HasBeenClosed, HaveMet, InOneHistory}
+use Rattle.ymx_connect.specs.Pumping.{HasRead, HasWritten, HasClosed, HasWorked, HasBeenClosed, HaveMet, InOneHistory, InOneHistoryOverTcp}
 
 may_read : (keeps : Bool) (fails failed : ℕ) (remaining : Option (List ℕ)) (why : PumpWhy) → keeps ≡ false →
     ReadEnd keeps fails failed remaining false why → may_end why ≡ true
@@ -132,6 +132,13 @@ in_one_history role config Kept drained fails failed flaws flawed before after h
   wrote = written_on true role config flaws flawed had has is_ended out written writer m.last o m.shown.2;
 }
 
-pub worked_within : (role : Role) (config : Config) (Kept : Option (List Entry) → Type 0) (drained : Result (Unit {0}) Undrained) (Read Wrote : SeatView → Type 0) →
-    InOneHistory role config (HasWorked role config Kept drained) Read Wrote → (now : SeatView) × HasWorked role config Kept drained now
-worked_within role config Kept drained Read Wrote h = (h.caller, h.worked)
+pub over_tcp : (role : Role) (config : Config) (Worked : SeatView → Type 0) (ended : Ended) (reads read_failed writes write_failed : ℕ) (was_shut : Bool) → reads ≡ 0 → writes ≡ 0 →
+    InOneHistory role config Worked (HasRead reads read_failed None None ended.read_bytes ended.read) (HasWritten true role config writes write_failed None None was_shut ended.written_bytes ended.written) →
+    InOneHistoryOverTcp role config Worked ended
+over_tcp role config Worked ended reads read_failed writes write_failed was_shut r w h = (
+  read_failed,
+  write_failed,
+  was_shut,
+  subst (λ (n : ℕ). InOneHistory role config Worked (HasRead n read_failed None None ended.read_bytes ended.read) (HasWritten true role config 0 write_failed None None was_shut ended.written_bytes ended.written)) r
+      (subst (λ (n : ℕ). InOneHistory role config Worked (HasRead reads read_failed None None ended.read_bytes ended.read) (HasWritten true role config n write_failed None None was_shut ended.written_bytes ended.written)) w h),
+)

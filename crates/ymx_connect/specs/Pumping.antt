@@ -1,5 +1,5 @@
 -- What the pumps behind the front door did with their devices (this project's own).
-use Rattle.std.specs.Prelude.{◌≡◌, ℕ, List, Bool, true, false, Option, Result, MatchResult}
+use Rattle.std.specs.Prelude.{◌≡◌, ℕ, List, Bool, true, false, Option, None, Result, MatchResult}
 use Rattle.ymx_model.specs.declared.types.Role.{Role}
 use Rattle.ymx_model.specs.declared.types.Role.TheVariants.{Client}
 use Rattle.ymx_model.specs.declared.types.Config.{Config}
@@ -21,6 +21,7 @@ use Rattle.ymx_pumps.specs.declared.pump_end.PumpWhy.{PumpWhy}
 use Rattle.ymx_pumps.specs.declared.pump_end.PumpWhy.TheVariants.{End}
 use Rattle.ymx_pumps.specs.Ends.{ReadEnd, WriteEnd}
 use Rattle.ymx_pumps.specs.Pumps.{PumpRead, PumpWrote}
+use Rattle.ymx_connect.specs.declared.ended.Ended.{Ended}
 use Rattle.ymx_connect.specs.Connecting.{may_end, may_end_writing}
 
 -- The read pump ran at the seat of a caller that had made no call, until it ended by itself: the reader gave bytes, of which the
@@ -94,6 +95,13 @@ pub record InOneHistory (role : Role) (config : Config) (Worked Read Wrote : Sea
   pub worked : Worked caller
   pub read : Read reader
   pub wrote : Wrote writer
+
+-- That of a session over a TCP connection, whose bytes no contract sees: of its two ways, how often calls of them have failed, and
+-- whether its writing side was shut. Before, no call of them had failed.
+abbrev pub InOneHistoryOverTcp : Role → Config → (Worked : SeatView → Type 0) → Ended → Type 0
+InOneHistoryOverTcp role config Worked ended =
+    (read_failed write_failed : ℕ) × (was_shut : Bool)
+    × InOneHistory role config Worked (HasRead 0 read_failed None None ended.read_bytes ended.read) (HasWritten true role config 0 write_failed None None was_shut ended.written_bytes ended.written)
 
 -- how the write pump ended of a session with the recorder Off, whose history nobody sees
 abbrev pub HasWrittenUnseen : (fails failed : ℕ) (before after : Option (List ℕ)) (is_ended : Bool) (moved : ℕ) (why : PumpWhy) (now : SeatView) → Type 0

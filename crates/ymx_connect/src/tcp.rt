@@ -1,7 +1,7 @@
 //! A TCP connection as an inlet and as an outlet, which different threads may use at once. No contract says what bytes
 //! a connection gives or takes.
 
-ghost use Rattle.std.specs.Prelude.{None};
+ghost use Rattle.std.specs.Prelude.{◌≡◌, None};
 
 use std::net::{Shutdown, TcpStream};
 use ymx_devices::{ReaderInlet, WriterOutlet};
@@ -22,7 +22,9 @@ pub struct ConnectionWriter<'a> {
 
 impl<'a> ConnectionReader<'a> {
     /// What comes from this connection.
-    pub fn new(socket: &'a TcpStream) -> ConnectionReader<'a> {
+    pub fn new(socket: &'a TcpStream) -> ConnectionReader<'a>
+        ensures { result.inlet.failures ≡ 0 }
+    {
         ConnectionReader {
             inlet: ReaderInlet {
                 reader: socket,
@@ -34,7 +36,9 @@ impl<'a> ConnectionReader<'a> {
 
 impl<'a> ConnectionWriter<'a> {
     /// What goes to this connection.
-    pub fn new(socket: &'a TcpStream) -> ConnectionWriter<'a> {
+    pub fn new(socket: &'a TcpStream) -> ConnectionWriter<'a>
+        ensures { result.outlet.failures ≡ 0 }
+    {
         ConnectionWriter {
             outlet: WriterOutlet {
                 writer: socket,

@@ -3,9 +3,9 @@
 ghost use Rattle.std.specs.Prelude.{◌≡◌, true, None, IfSome, IfOk, IfErr};
 ghost use Rattle.std.specs.Fn.{FnOnceReturns};
 ghost use Rattle.ymx_session.specs.NewSessions.{new_fault};
-ghost use Rattle.ymx_seats.specs.Views.{SeatView, IsNewcomer};
+ghost use Rattle.ymx_seats.specs.Views.{IsNewcomer};
 ghost use Rattle.ymx_connect.specs.Connecting.{IsConnectFault, IsSpared};
-ghost use Rattle.ymx_connect.specs.Pumping.{HasRead, HasWritten, HasWorked, HasBeenClosed, InOneHistory};
+ghost use Rattle.ymx_connect.specs.Pumping.{HasRead, HasWritten, HasWorked, HasBeenClosed, InOneHistory, InOneHistoryOverTcp};
 ghost use Rattle.ymx_connect.specs.Settings.{IsLack, IsPumpFault, with_first};
 
 use crate::caller::Caller;
@@ -27,7 +27,7 @@ use ymx_seats::{Naming, Recorder, Seat, Sight, Witnessed};
 
 /// Runs a session over a TCP connection. It is `connect` with this connection as reader and writer, and what is
 /// written goes out at once.
-#[tactic(auto, using(crate::proofs::PumpEnds::worked_within))]
+#[tactic(auto, using(crate::proofs::PumpEnds::over_tcp))]
 pub fn connect_tcp<W: Threads + Wait + Sync, T: Drop, K: Work<W, T> + Drop>(
     rt: &W,
     alloc: Global,
@@ -37,8 +37,9 @@ pub fn connect_tcp<W: Threads + Wait + Sync, T: Drop, K: Work<W, T> + Drop>(
     work: K,
 ) -> Result<Connected<T>, ConnectFault>
     ensures may { IfOk result (λ connected. new_fault role config ≡ None) }
-    // What the work keeps is of a history behind which the session was closed: nothing was due then, or something was in vain.
-    ensures worked { IfOk result (λ connected. (now : SeatView) × HasWorked role (with_first role config) (λ seen. K.Keeps work role (with_first role config) seen connected.answer) connected.ended.drained now) }
+    // The work, both pumps and the close of the session, before which nothing was due or something was in vain, stand in one history.
+    // The pumps moved as many bytes as is said: what stands in the history was read from the connection and written to it.
+    ensures told { IfOk result (λ connected. InOneHistoryOverTcp role (with_first role config) (HasWorked role (with_first role config) (λ seen. K.Keeps work role (with_first role config) seen connected.answer) connected.ended.drained) connected.ended) }
     ensures spared { IfOk result (λ connected. IsSpared connected.ended) }
     ensures refused { IfErr result (λ fault. IsConnectFault role config fault) }
 {
