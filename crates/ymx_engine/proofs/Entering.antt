@@ -47,7 +47,7 @@ use Rattle.ymx_engine.proofs.Listing.{LeavesWire}
 use Rattle.ymx_engine.proofs.Quiet.{IsQuiet}
 use Rattle.ymx_engine.proofs.Queueing.{extends_same, extends_then, extends_added, keeps_same, puts_behind_same}
 use Rattle.ymx_engine.proofs.Running.{SameSeen, puts_look, moves_idle, moves_called, moves_opened, moves_accepted, moves_not_opened, moves_not_accepted, moves_forgot, moves_noted, moves_wire_noted, moves_ended, moves_shut, moves_pinged}
-use Rattle.ymx_engine.proofs.Tending.{Calms, CalmsBut, calms_same, serving_kept, serving_session, serving_lines, serving_all, served_none, serving_but, but_of, serving_joined, serving_dropped, serving_gone, serving_noted, opened_calm, opened_fresh, accepted_calm, accepted_fresh, forgotten_calm, IsMute, pinged_calm, ponged_calm, ends_within}
+use Rattle.ymx_engine.proofs.Tending.{Calms, CalmsBut, calms_same, serving_kept, serving_session, serving_lines, serving_all, served_none, serving_but, but_of, serving_joined, serving_dropped, serving_gone, serving_noted, opened_calm, opened_fresh, accepted_calm, accepted_fresh, forgotten_calm, IsMute, pinged_calm, ponged_calm, away_calm, ends_within}
 use Rattle.ymx_engine.proofs.Trading.{life_quiet}
 
 -- ---- where the connections stay
@@ -84,6 +84,11 @@ runs_pinged a b told g keeps wire same =
 pub runs_ponged : (a b : Tunnel) (n : ℕ) (told : Reply) → Gives in_turn a.engine.session (event.Call (call.Ponged n)) told b.engine.session → KeepsWire a.engine b.engine → b.wire ≡ a.wire → b.lines ≡ a.lines → Runs a b
 runs_ponged a b n told g keeps wire same =
     runs_beside a b (moves_pinged a b (call.Ponged n) told (λ id. (refl, refl, refl, refl, refl, refl)) refl g keeps wire (seen_alike a b same)) (ponged_calm n told a.engine.session b.engine.session g) same
+
+-- a go away was said
+pub runs_went_away : (a b : Tunnel) (told : Reply) → Gives in_turn a.engine.session (event.Call call.GoAway) told b.engine.session → KeepsWire a.engine b.engine → b.wire ≡ a.wire → b.lines ≡ a.lines → Runs a b
+runs_went_away a b told g keeps wire same =
+    runs_beside a b (moves_pinged a b call.GoAway told (λ id. (refl, refl, refl, refl, refl, refl)) refl g keeps wire (seen_alike a b same)) (away_calm told a.engine.session b.engine.session g) same
 
 -- ---- the wire's end
 

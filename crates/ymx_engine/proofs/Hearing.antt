@@ -14,7 +14,7 @@ use Rattle.ymx_engine.specs.Served.{GainsNone}
 use Rattle.ymx_engine.specs.Serves.{HearsEnd, PutsDue, Sends, Part, tells_end, is_silent, is_stopped}
 use Rattle.ymx_engine.specs.Ways.{is_open, may_push}
 use Rattle.ymx_engine.proofs.Asking.{wait_goes}
-use Rattle.ymx_engine.proofs.Ending.{NoneEnd, end_then, emissions_end_none, turn_still, finish_gives, read_goes, waiting_goes}
+use Rattle.ymx_engine.proofs.Ending.{NoneEnd, emissions_end_none, turn_still, read_goes, waiting_goes}
 use Rattle.ymx_engine.proofs.Exchanging.{not_true}
 use Rattle.ymx_engine.proofs.Quiet.{both}
 use Rattle.ymx_engine.proofs.Steady.{steady_status}
@@ -59,15 +59,6 @@ due_ends s t out new x = emissions_end_none x.events s t x.happen x.own
 
 pub sends_end : (id : ℕ) (bytes : List ℕ) (s t : Session) (out new : List ℕ) → Sends id bytes s t out new → NoneEnd s t
 sends_end id bytes s t out new x = turn_still id x.events s t x.happen x.own x.gives x.resets
-
-pub due_sends : (id : ℕ) (bytes : List ℕ) (s t u : Session) (out mid new : List ℕ) → PutsDue s t out mid → Sends id bytes t u mid new → NoneEnd s u
-due_sends id bytes s t u out mid new x y = end_then s t u (due_ends s t out mid x) (sends_end id bytes t u mid new y)
-
-pub due_finish : (id : ℕ) (told : Reply) (s t u : Session) (out new : List ℕ) → PutsDue s t out new → Gives in_turn t (event.Call (call.Finish id)) told u → NoneEnd s u
-due_finish id told s t u out new x g = end_then s t u (due_ends s t out new x) (finish_gives id told t u g)
-
-pub due_same : (s t u : Session) (out new : List ℕ) → PutsDue s t out new → u ≡ t → NoneEnd s u
-due_same s t u out new x e = subst (NoneEnd s) (sym e) (due_ends s t out new x)
 
 -- a way that is open was
 pub was_open_from : {id : ℕ} {s t : Session} {out new : List ℕ} {a b : Seen} {w x : Ways} {m g : ℕ} → Part id s t out new a b w x m g → is_open x.from_peer ≡ true → is_open w.from_peer ≡ true

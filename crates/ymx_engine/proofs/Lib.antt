@@ -24,6 +24,7 @@ pub mod Following
 pub mod Forgetting
 pub mod Beside
 pub mod Feeding
+pub mod Filling
 pub mod Rows
 pub mod Running
 pub mod Attending

@@ -482,7 +482,7 @@ moves_shut a b x w same = record {
   lines = still_lines a b x.events same (λ id. quiet is_of_read (λ c. refl) id x.events x.own);
 }
 
--- a ping was asked, or its answer collected
+-- a ping was asked, its answer collected, or a go away said
 pub moves_pinged : (a b : Tunnel) (c : Call) (told : Reply) → ((id : ℕ) → IsQuiet id ((event.Call c, told) ∷ [])) → opens_with (event.Call c) ≡ false → Gives in_turn a.engine.session (event.Call c) told b.engine.session → KeepsWire a.engine b.engine → b.wire ≡ a.wire → SameSeen a b → Moves a b
 moves_pinged a b c told quiet plain g keeps wire same =
     moves_alone a b (event.Call c, told) quiet ((refl, λ w. (tt, tt)), refl, refl, ap (λ (v : Bool). v || false) plain) g keeps wire same

@@ -13,7 +13,8 @@ use Rattle.ymx_machine.proofs.Tests.{split}
 use Rattle.ymx_model.specs.declared.types.Event.TheVariants as event
 use Rattle.ymx_model.specs.declared.types.Status.{Status}
 use Rattle.ymx_model.specs.declared.types.Status.TheVariants.{Running, Lost, Broken, Closed}
-use Rattle.ymx_model.specs.session.Calls.{Outcome, outcome, answers, refused, session_opened, open_stream, accept, accept_of, ping, ponged, is_unacknowledged, status_input_ends}
+use Rattle.ymx_model.specs.session.Calls.{Outcome, outcome, answers, refused, session_opened, open_stream, accept, accept_of, ping, ponged, go_away, is_unacknowledged, status_input_ends}
+use Rattle.ymx_model.specs.session.GoAway.{say_away}
 use Rattle.ymx_model.specs.session.Pings.{next_number, ask, has_back, collect}
 use Rattle.ymx_model.specs.session.Emissions.{in_turn}
 use Rattle.ymx_model.specs.session.Feeds.{Takes, byte_comes, byte_in}
@@ -486,3 +487,16 @@ pub ponged_calm : (n : ℕ) (told : Reply) (s t : Session) → Gives in_turn s (
 ponged_calm n told s t g w =
     let k = ponged_same n s in
     record { within = gives-keep in_turn s t (event.Call (call.Ponged n)) told g w; came = kept_calls (call.Ponged n) s t told k.0 k.1 g; runs = same_runs s t (called_status (call.Ponged n) s t told k.1 g) }
+
+-- ---- go away
+
+go_away_same : (s : Session) → ((go_away s).next.table ≡ s.table) × ((go_away s).next.status ≡ s.status)
+go_away_same s =
+    let P : Outcome → Type 0 = λ o. (o.next.table ≡ s.table) × (o.next.status ≡ s.status) in
+    split P (is_closed s.status) (refused fault.Closed s) _ (λ e. (refl, refl)) (λ e.
+    split P (is_lost s.status) (refused fault.Lost s) (answers reply.Done (record s { away = say_away s.away })) (λ e. (refl, refl)) (λ e. (refl, refl)))
+
+pub away_calm : (told : Reply) (s t : Session) → Gives in_turn s (event.Call call.GoAway) told t → IsWithin s → Calms s t
+away_calm told s t g w =
+    let k = go_away_same s in
+    record { within = gives-keep in_turn s t (event.Call call.GoAway) told g w; came = kept_calls call.GoAway s t told k.0 k.1 g; runs = same_runs s t (called_status call.GoAway s t told k.1 g) }

@@ -11,7 +11,7 @@ ghost use Rattle.ymx_session.specs.Passing.{passing, FeedsSome};
 ghost use Rattle.ymx_session.specs.Streams.{room_of};
 ghost use Rattle.ymx_session.specs.Through.{WritesThrough};
 ghost use Rattle.ymx_session.specs.Touched.{NotesChanges};
-ghost use Rattle.ymx_engine.specs.Devices.{IsPulled, pulled_count};
+ghost use Rattle.ymx_engine.specs.Devices.{IsPulled, one_read, pulled_count};
 
 use crate::device::{Device, Pulled};
 use std::alloc::Global;
@@ -29,19 +29,20 @@ pub(crate) struct Block {
 }
 
 impl Model for Block {
-    ghost use Rattle.std.specs.Prelude.{List, ℕ, ◌≡◌, ◌<◌, ◌≤◌, take, drop, vec_len};
+    ghost use Rattle.std.specs.Prelude.{List, ℕ, ◌≡◌, ◌≤◌, take, drop, vec_len};
+    ghost use Rattle.ymx_engine.specs.Devices.{one_read};
 
     ghost Value = { List ℕ };
 
     ghost view = { λ b. drop b.at (take b.end b.memory.items) };
 
-    ghost invariant = { λ b. (b.at ≤ b.end) × (b.end ≤ vec_len b.memory) × (0 < vec_len b.memory) × (b.at ≡ b.end → b.end ≡ 0) };
+    ghost invariant = { λ b. (b.at ≤ b.end) × (b.end ≤ vec_len b.memory) × (one_read ≤ vec_len b.memory) × (b.at ≡ b.end → b.end ≡ 0) };
 }
 
 impl Block {
-    /// So much memory, in bytes, of which none waits: at most 1,000,000.
+    /// So much memory, in bytes, of which none waits: from 131,072 to 1,000,000.
     pub(crate) fn new(alloc: Global, size: usize) -> Result<Block, RefusedAllocation>
-        requires some { 0 < size }
+        requires some { one_read ≤ size }
         requires at_most { size ≤ most_zeros }
         ensures { IfOk result (λ block. block ≡ []) }
     {
@@ -102,10 +103,10 @@ impl Block {
         }
     }
 
-    /// What a device gives waits.
+    /// What a device gives waits. It is given room for 131,072 bytes at least.
     pub(crate) fn pull_from<D: Device>(&mut self, device: &mut D) -> Pulled
         requires { self.old ≡ [] }
-        ensures { (buffer : List ℕ) × (0 < length buffer) × IsPulled result buffer (D.seen device.old) (D.seen device.new) × (self.new ≡ take (pulled_count result) buffer) }
+        ensures { (buffer : List ℕ) × (one_read ≤ length buffer) × IsPulled result buffer (D.seen device.old) (D.seen device.new) × (self.new ≡ take (pulled_count result) buffer) }
     {
         let pulled = device.pull(self.memory.as_mut_slice());
         self.at = 0;

@@ -1,6 +1,7 @@
 //! The memory for bytes that a tunnel has under way.
 
-ghost use Rattle.std.specs.Prelude.{◌≡◌, ◌<◌, [], length, IfOk};
+ghost use Rattle.std.specs.Prelude.{◌≡◌, ◌≤◌, [], length, IfOk};
+ghost use Rattle.ymx_engine.specs.Devices.{one_read};
 
 use crate::block::Block;
 use std::alloc::Global;
@@ -32,7 +33,7 @@ impl Buffers {
     /// Takes the memory, in which no bytes wait.
     pub(crate) fn new(alloc: Global) -> Result<Buffers, RefusedAllocation>
         ensures empty { IfOk result (λ memory. (memory.outgoing ≡ []) × (memory.incoming ≡ [])) }
-        ensures space { IfOk result (λ memory. 0 < length memory.buffer.items) }
+        ensures space { IfOk result (λ memory. one_read ≤ length memory.buffer.items) }
     {
         Ok(Buffers {
             outgoing: Block::new(alloc, OUTGOING)?,

@@ -2,7 +2,7 @@
 
 ghost use Rattle.std.specs.Prelude.{◌≡◌, IfSome};
 ghost use Rattle.std.specs.Io.Slices.{io_slices_bytes};
-ghost use Rattle.ymx_engine.specs.Devices.{Seen, IsPulled, IsPushed, IsEnded, IsShut, IsNoted, pulled_count, pushed_count};
+ghost use Rattle.ymx_engine.specs.Devices.{Seen, IsPulled, IsPushed, IsEnded, IsShut, IsNoted, pushed_count};
 
 use std::io::IoSlice;
 
@@ -17,18 +17,6 @@ pub enum Pulled {
     Ended,
     /// The device failed.
     Failed,
-}
-
-impl Pulled {
-    /// How many bytes came.
-    pub fn count(self) -> usize
-        ensures { result ≡ pulled_count self }
-    {
-        match self {
-            Pulled::Gave(count) => count,
-            Pulled::NotNow | Pulled::Ended | Pulled::Failed => 0,
-        }
-    }
 }
 
 /// What a call with bytes answered.

@@ -1,6 +1,6 @@
 //! What moves between a stream and its device in one turn.
 
-ghost use Rattle.std.specs.Prelude.{◌≡◌, ◌⊎◌, ◌<◌, ◌≤◌, ◌&&◌, not, [], length, true, false};
+ghost use Rattle.std.specs.Prelude.{◌≡◌, ◌⊎◌, ◌<◌, ◌≤◌, ◌&&◌, not, [], length, min, true, false};
 ghost use Rattle.ymx_model.specs.declared.types.Event.TheVariants as event;
 ghost use Rattle.ymx_model.specs.session.Sessions.{is_running};
 ghost use Rattle.ymx_machine.specs.declared.types.Call.TheVariants as call;
@@ -8,7 +8,7 @@ ghost use Rattle.ymx_machine.specs.shared.Events.{Reply};
 ghost use Rattle.ymx_model.specs.session.Emissions.{in_turn};
 ghost use Rattle.ymx_model.specs.session.Histories.{Gives};
 ghost use Rattle.ymx_session.specs.Streams.{waiting, room_of};
-ghost use Rattle.ymx_engine.specs.Devices.{IsShut};
+ghost use Rattle.ymx_engine.specs.Devices.{IsShut, one_read};
 ghost use Rattle.ymx_engine.specs.Served.{GainsNone};
 ghost use Rattle.ymx_engine.specs.Serves.{Turn, Part, Delivers, HearsEnd, HearsStop, is_silent, is_stopped};
 ghost use Rattle.ymx_engine.specs.Ways.{is_open, may_push, may_pull, broken_off};
@@ -50,7 +50,7 @@ pub(crate) fn serve<D: Device>(
     outgoing: &mut Block,
     reads: bool,
 ) -> TurnEnd
-    requires room { 0 < length buffer.old }
+    requires room { one_read ≤ length buffer.old }
     ensures turn { Turn id reads session.old session.new outgoing.old outgoing.new (D.seen device.old) (D.seen device.new) ways.old ways.new result.more result.gave }
     // A device that may take bytes, of which none wait, hears where the stream has ended, or is no more.
     ensures hears_end { may_push ways.old (D.seen device.old).marks ≡ true → waiting id session.old ≡ [] → HearsEnd id session.old ways.new }
@@ -199,7 +199,7 @@ fn collect<D: Device>(
     outgoing: &mut Block,
     reads: bool,
 ) -> TurnEnd
-    requires room { 0 < length buffer.old }
+    requires room { one_read ≤ length buffer.old }
     ensures part { Part id session.old session.new outgoing.old outgoing.new (D.seen device.old) (D.seen device.new) ways.old ways.new 4 result.gave }
     ensures collects { reads ≡ true → may_pull ways.old (D.seen device.old).marks ≡ true → (0 < result.gave) ⊎ ((may_pull ways.new (D.seen device.new).marks ≡ false) ⊎ (room_of id session.new ≡ 0)) }
     ensures goes_on { result.more ≡ true → may_pull ways.new (D.seen device.new).marks ≡ true }
@@ -224,8 +224,8 @@ fn collect<D: Device>(
     }
 }
 
-/// Reads from the device once, as many bytes as the stream takes. What is due goes first, so that these bytes may go
-/// straight behind it. More may be read at once as long as none are lost.
+/// Reads from the device once. What is due goes first, so that these bytes may go straight behind it. More may be read at once
+/// as long as none are lost.
 fn pull_once<D: Device>(
     session: &mut Session,
     id: u32,
@@ -234,10 +234,10 @@ fn pull_once<D: Device>(
     buffer: &mut [u8],
     outgoing: &mut Block,
 ) -> TurnEnd
-    requires room { 0 < length buffer.old }
+    requires room { one_read ≤ length buffer.old }
     requires open { is_open ways.old.to_peer ≡ true }
     ensures part { Part id session.old session.new outgoing.old outgoing.new (D.seen device.old) (D.seen device.new) ways.old ways.new 2 result.gave }
-    ensures bounded { result.gave ≤ BLOCK }
+    ensures bounded { result.gave ≤ one_read }
     ensures collects { (0 < result.gave) ⊎ ((may_pull ways.new (D.seen device.new).marks ≡ false) ⊎ (room_of id session.new ≡ 0)) }
     ensures goes_on { result.more ≡ true → 0 < result.gave }
     ensures on { result.more ≡ true → may_pull ways.new (D.seen device.new).marks ≡ true }
@@ -246,6 +246,31 @@ fn pull_once<D: Device>(
     ensures stops { is_open ways.new.to_peer ≡ true → is_stopped id session.new ≡ true → is_stopped id session.old ≡ true }
 {
     put_due(session, outgoing);
+    fill(session, id, ways, device, buffer, outgoing)
+}
+
+/// Reads from the device once, as many bytes as the stream takes, and at most 131,072.
+fn fill<D: Device>(
+    session: &mut Session,
+    id: u32,
+    ways: &mut Ways,
+    device: &mut D,
+    buffer: &mut [u8],
+    outgoing: &mut Block,
+) -> TurnEnd
+    requires room { one_read ≤ length buffer.old }
+    requires open { is_open ways.old.to_peer ≡ true }
+    ensures part { Part id session.old session.new outgoing.old outgoing.new (D.seen device.old) (D.seen device.new) ways.old ways.new 2 result.gave }
+    // It is given room for so many, and gives them all, unless it may have none now, or its end is near.
+    ensures fills { may_pull ways.new (D.seen device.new).marks ≡ true → (D.seen device.old).marks.is_closing ≡ false → min (room_of id session.old) one_read ≤ result.gave }
+    ensures bounded { result.gave ≤ one_read }
+    ensures collects { (0 < result.gave) ⊎ ((may_pull ways.new (D.seen device.new).marks ≡ false) ⊎ (room_of id session.new ≡ 0)) }
+    ensures goes_on { result.more ≡ true → 0 < result.gave }
+    ensures on { result.more ≡ true → may_pull ways.new (D.seen device.new).marks ≡ true }
+    ensures asks_on { may_pull ways.new (D.seen device.new).marks ≡ true → 0 < room_of id session.new → result.more ≡ true }
+    ensures ends { is_open ways.new.from_peer ≡ true → is_silent id session.new ≡ true → is_silent id session.old ≡ true }
+    ensures stops { is_open ways.new.to_peer ≡ true → is_stopped id session.new ≡ true → is_stopped id session.old ≡ true }
+{
     let room = session.room(id).min(buffer.len()).min(BLOCK);
     if room == 0 {
         shut_if_stopped(session, id, ways, device);

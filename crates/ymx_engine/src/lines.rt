@@ -106,24 +106,8 @@ impl<D: Device + Drop> Lines<D> {
         self.by_id.len()
     }
 
-    /// Whether there is none.
-    pub(crate) fn is_empty(&self) -> bool
-        ensures { result ≡ (length self.now.by_id == 0) }
-    {
-        self.len() == 0
-    }
-
-    /// The stream of some connection. `None` where there is none.
-    pub(crate) fn first(&self) -> Option<u32>
-        ensures value { result ≡ slice_get (keys_of self.now.by_id) 0 }
-        ensures some { IfSome result (λ id. IsSome (line_of id self.now)) }
-        ensures none { IfNone result (self.now.by_id ≡ []) }
-    {
-        self.id_at(0)
-    }
-
     /// The stream of the connection at this place.
-    fn id_at(&self, place: usize) -> Option<u32>
+    pub(crate) fn id_at(&self, place: usize) -> Option<u32>
         ensures { result ≡ slice_get (keys_of self.now.by_id) place }
     {
         match self.by_id.get_index(place) {

@@ -59,17 +59,7 @@ impl<D: Device + Drop, W: Device + Drop> Tunnel<D, W> {
         if self.incoming.waiting().is_empty() {
             self.wire.may_pull() && !self.is_wire_over
         } else {
-            self.outgoing.waiting().is_empty() && self.is_running()
-        }
-    }
-
-    /// Whether the session runs.
-    fn is_running(&self) -> bool
-        ensures { result ≡ is_running self.now.engine.session.status }
-    {
-        match self.session.status() {
-            Status::Running => true,
-            _ => false,
+            self.outgoing.waiting().is_empty() && matches!(self.session.status(), Status::Running)
         }
     }
 
@@ -113,7 +103,7 @@ impl<D: Device + Drop, W: Device + Drop> Tunnel<D, W> {
     pub fn first(&self) -> Option<u32>
         ensures { result ≡ slice_get (keys_of self.now.lines.by_id) 0 }
     {
-        self.lines.first()
+        self.lines.id_at(0)
     }
 
     /// How many connections there are.

@@ -1,8 +1,9 @@
 //! What the connection of a stream does in its turn, and with payload that is passed on.
 
-ghost use Rattle.std.specs.Prelude.{ℕ, ◌≡◌, ◌<◌, ◌&&◌, not, length, nat_eq, false, None, Some, IfSome, IfNone};
+ghost use Rattle.std.specs.Prelude.{ℕ, ◌≡◌, ◌<◌, ◌≤◌, ◌&&◌, not, length, nat_eq, false, None, Some, IfSome, IfNone};
 ghost use Rattle.std.specs.Option.{option_map_or};
 ghost use Rattle.ymx_model.specs.session.Feeds.{is_stuck};
+ghost use Rattle.ymx_engine.specs.Devices.{one_read};
 ghost use Rattle.ymx_engine.specs.Passes.{IsRow};
 ghost use Rattle.ymx_engine.specs.Served.{GainsNone};
 ghost use Rattle.ymx_engine.specs.Serves.{Turn};
@@ -50,7 +51,7 @@ impl<D: Device + Drop> Lines<D> {
         outgoing: &mut Block,
         reads: bool,
     ) -> usize
-        requires { 0 < length buffer.old }
+        requires { one_read ≤ length buffer.old }
         ensures served { (was : LineValue) → line_of id self.old ≡ Some was → TakesPart id reads was session.old session.new outgoing.old outgoing.new self.old self.new result }
         ensures none { line_of id self.old ≡ None → (self.new ≡ self.old) × (session.new ≡ session.old) × (outgoing.new ≡ outgoing.old) × (result ≡ 0) }
     {
@@ -72,7 +73,7 @@ impl<D: Device + Drop> Lines<D> {
         outgoing: &mut Block,
         reads: bool,
     ) -> Option<Part>
-        requires { 0 < length buffer.old }
+        requires { one_read ≤ length buffer.old }
         ensures some { IfSome result (λ part. (was : LineValue) × (line_of id self.old ≡ Some was) × (now : LineValue) × Puts id (Some now) self.old self.new × Turn id reads session.old session.new outgoing.old outgoing.new was.seen now.seen was.ways now.ways part.more part.gave × (part.may_give ≡ may_pull now.ways now.seen.marks)) }
         ensures none { IfNone result (line_of id self.old ≡ None) }
         ensures same { IfNone result (self.new ≡ self.old) }

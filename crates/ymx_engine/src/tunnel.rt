@@ -8,7 +8,7 @@ ghost use Rattle.ymx_model.specs.session.Emissions.{in_turn};
 ghost use Rattle.ymx_model.specs.session.Histories.{Gives};
 ghost use Rattle.ymx_model.specs.session.Sessions.{is_running};
 ghost use Rattle.ymx_law_session.specs.Limits.{IsWithin};
-ghost use Rattle.ymx_session.specs.Replies.{pinged_or, ponged_or};
+ghost use Rattle.ymx_session.specs.Replies.{done_or, pinged_or, ponged_or};
 ghost use Rattle.ymx_engine.specs.Devices.{IsNoted, IsEnded, IsShut};
 ghost use Rattle.ymx_engine.specs.Engines.{KeepsWire};
 ghost use Rattle.ymx_engine.specs.Runs.{Runs, Stays, Rests};
@@ -62,13 +62,14 @@ pub struct Tunnel<D: Device + Drop, W: Device + Drop> {
 
 impl<D: Device + Drop, W: Device + Drop> Model for Tunnel<D, W> {
     ghost use Rattle.ymx_engine.specs.Tunnels.{Tunnel as TunnelValue};
-    ghost use Rattle.std.specs.Prelude.{◌<◌, length};
+    ghost use Rattle.std.specs.Prelude.{◌≤◌, length};
+    ghost use Rattle.ymx_engine.specs.Devices.{one_read};
 
     ghost Value = { TunnelValue };
 
     ghost view = { λ t. record { engine = record { session = t.session; outgoing = t.outgoing; incoming = t.incoming }; wire = W.seen t.wire; is_wire_over = t.is_wire_over; lines = t.lines; has_lacked_memory = t.has_lacked_memory } };
 
-    ghost invariant = { λ t. 0 < length t.buffer.items };
+    ghost invariant = { λ t. one_read ≤ length t.buffer.items };
 }
 
 impl<D: Device + Drop, W: Device + Drop> Tunnel<D, W> {
@@ -174,7 +175,7 @@ impl<D: Device + Drop, W: Device + Drop> Tunnel<D, W> {
         self.is_wire_over || waiting == 0 || (self.wire.may_push() && waiting < FRAMES)
     }
 
-    // ---- signs of life, and the wire's end
+    // ---- signs of life, go away, and the wire's end
 
     /// Asks the peer for a sign of life, and returns the ping's number (ping). The refusals are those of `Session::ping`,
     /// and change nothing.
@@ -198,6 +199,19 @@ impl<D: Device + Drop, W: Device + Drop> Tunnel<D, W> {
         ensures rest { self.new ≡ record self.old { engine = record self.old.engine { session = self.new.engine.session } } }
     {
         self.session.ponged(number)
+    }
+
+    /// Takes no more streams of the peer's, and tells it so: a Go Away is due, and streams that it opens from now on are rejected
+    /// (go away). Those that are there go on, those among them that wait to be accepted too. A second call changes nothing. The
+    /// refusals are those of `Session::go_away`, and change nothing.
+    pub fn go_away(&mut self) -> Result<(), CallFault>
+        ensures runs { Runs self.old self.new }
+        ensures stays { Stays self.old self.new }
+        ensures rests { Rests self.old self.new }
+        ensures event { Gives in_turn self.old.engine.session (event.Call call.GoAway) (done_or result) self.new.engine.session }
+        ensures rest { self.new ≡ record self.old { engine = record self.old.engine { session = self.new.engine.session } } }
+    {
+        self.session.go_away()
     }
 
     /// The peer counts as gone: the wire is shut both ways, and the session hears of its end.

@@ -1,64 +1,12 @@
-use Rattle.std.proofs.Common.{arith}
-use Rattle.std.proofs.lemmas.Grind.{common_steps}
-use Rattle.ymx_engine.proofs.Parts.{part_within, part_beside, due_then, pulled_none, pull_failed, finished, gave_sent, gave_lost, broken_from, broken_to}
-use Rattle.ymx_engine.proofs.Hearing.{never, due_ends, due_sends, due_finish, due_same}
+use Rattle.ymx_engine.proofs.Parts.{due_then}
+use Rattle.ymx_engine.proofs.Hearing.{due_ends}
 use Rattle.ymx_engine.proofs.exchange.pull_once.Goals as goal
 
-pub returns-then-room-eq0-clause-part : goal.returns-then-room-eq0-clause-part
-returns-then-room-eq0-clause-part g c = due_then c.put_due.ensures.put (part_beside _ (part_within (omega arith) c.shut_if_stopped.ensures.part))
+pub returns-clause-part : goal.returns-clause-part
+returns-clause-part g c = due_then c.put_due.ensures.put c.fill.ensures.part
 
-pub returns-then-send-clause-part : goal.returns-then-send-clause-part
-returns-then-send-clause-part g c = due_then c.put_due.ensures.put (gave_sent _ c.in-Gave.ensures (grind (arith, common_steps)) (c.send.ensures.took c.if-send.true))
+pub returns-clause-ends : goal.returns-clause-ends
+returns-clause-ends g c = λ open_ h. (due_ends _ _ _ _ c.put_due.ensures.put c.args.id).silence (c.fill.ensures.ends open_ h)
 
-pub returns-in-Gave-clause-part : goal.returns-in-Gave-clause-part
-returns-in-Gave-clause-part g c =
-    let h = c.send.ensures.refused c.if-send.false in
-    let k = c.reset_and_shut.ensures.reset in
-    due_then c.put_due.ensures.put (gave_lost _ h.0 h.2 k.0 c.in-Gave.ensures (grind (arith, common_steps)) h.3 h.4 h.5 h.6 h.7 k.1 c.reset_and_shut.ensures.shut c.reset_and_shut.ensures.broken)
-
-pub returns-in-NotNow-clause-part : goal.returns-in-NotNow-clause-part
-returns-in-NotNow-clause-part g c = due_then c.put_due.ensures.put (part_beside _ (pulled_none c.in-NotNow.ensures))
-
-pub returns-in-Ended-clause-part : goal.returns-in-Ended-clause-part
-returns-in-Ended-clause-part g c = let h = c.finish.ensures in due_then c.put_due.ensures.put (part_beside _ (finished h.0 c.in-Ended.ensures h.1 c.requires.open))
-
-pub returns-in-Failed-clause-part : goal.returns-in-Failed-clause-part
-returns-in-Failed-clause-part g c =
-    let h = c.reset_and_shut-in-Failed.ensures.reset in
-    due_then c.put_due.ensures.put (part_beside _ (pull_failed h.0 c.in-Failed.ensures h.1 c.reset_and_shut-in-Failed.ensures.shut c.reset_and_shut-in-Failed.ensures.broken))
-
-pub returns-then-room-eq0-clause-ends : goal.returns-then-room-eq0-clause-ends
-returns-then-room-eq0-clause-ends g c = λ open_. (due_same _ _ _ _ _ c.put_due.ensures.put c.shut_if_stopped.ensures.same c.args.id).silence
-
-pub returns-then-room-eq0-clause-stops : goal.returns-then-room-eq0-clause-stops
-returns-then-room-eq0-clause-stops g c = λ open_. (due_same _ _ _ _ _ c.put_due.ensures.put c.shut_if_stopped.ensures.same c.args.id).stop
-
-pub returns-then-send-clause-ends : goal.returns-then-send-clause-ends
-returns-then-send-clause-ends g c = λ open_. (due_sends c.args.id _ _ _ _ _ _ _ c.put_due.ensures.put (c.send.ensures.took c.if-send.true) c.args.id).silence
-
-pub returns-then-send-clause-stops : goal.returns-then-send-clause-stops
-returns-then-send-clause-stops g c = λ open_. (due_sends c.args.id _ _ _ _ _ _ _ c.put_due.ensures.put (c.send.ensures.took c.if-send.true) c.args.id).stop
-
-pub returns-in-NotNow-clause-ends : goal.returns-in-NotNow-clause-ends
-returns-in-NotNow-clause-ends g c = λ open_. (due_ends _ _ _ _ c.put_due.ensures.put c.args.id).silence
-
-pub returns-in-NotNow-clause-stops : goal.returns-in-NotNow-clause-stops
-returns-in-NotNow-clause-stops g c = λ open_. (due_ends _ _ _ _ c.put_due.ensures.put c.args.id).stop
-
-pub returns-in-Ended-clause-ends : goal.returns-in-Ended-clause-ends
-returns-in-Ended-clause-ends g c = let h = c.finish.ensures in λ open_. (due_finish c.args.id h.0 _ _ _ _ _ c.put_due.ensures.put h.1 c.args.id).silence
-
-pub returns-in-Ended-clause-stops : goal.returns-in-Ended-clause-stops
-returns-in-Ended-clause-stops g c = let h = c.finish.ensures in λ open_. (due_finish c.args.id h.0 _ _ _ _ _ c.put_due.ensures.put h.1 c.args.id).stop
-
-pub returns-in-Gave-clause-ends : goal.returns-in-Gave-clause-ends
-returns-in-Gave-clause-ends g c = λ open_. absurd (never _ open_ (broken_from _ _ c.reset_and_shut.ensures.broken))
-
-pub returns-in-Gave-clause-stops : goal.returns-in-Gave-clause-stops
-returns-in-Gave-clause-stops g c = λ open_. absurd (never _ open_ (broken_to _ _ c.reset_and_shut.ensures.broken))
-
-pub returns-in-Failed-clause-ends : goal.returns-in-Failed-clause-ends
-returns-in-Failed-clause-ends g c = λ open_. absurd (never _ open_ (broken_from _ _ c.reset_and_shut-in-Failed.ensures.broken))
-
-pub returns-in-Failed-clause-stops : goal.returns-in-Failed-clause-stops
-returns-in-Failed-clause-stops g c = λ open_. absurd (never _ open_ (broken_to _ _ c.reset_and_shut-in-Failed.ensures.broken))
+pub returns-clause-stops : goal.returns-clause-stops
+returns-clause-stops g c = λ open_ h. (due_ends _ _ _ _ c.put_due.ensures.put c.args.id).stop (c.fill.ensures.stops open_ h)
