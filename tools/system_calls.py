@@ -1,7 +1,7 @@
 #!/usr/bin/env python3
 """system_calls.py: whether one short file makes all calls of the program's tunnel that reach the system's sockets.
 
-No contract says what such a call does, so `crates/ymx_forward/src/system.rt` is to be read, and it has at most 425 lines.
+No contract says what such a call does, so `crates/ymx_forward/src/system.rt` is to be read, and it has at most 450 lines.
 Sockets that never wait are private there. Those that wait are the standard library's, and other files may name their
 types, as bounds do. They make no call of them, and import nothing else of `std::net` or `std::io`, so that reads and
 writes of such a socket aren't in scope. And they name neither `mio` nor `libc`.
@@ -15,7 +15,7 @@ from pathlib import Path
 
 SOURCES = Path(__file__).resolve().parent.parent / "crates" / "ymx_forward" / "src"
 READ = "system.rt"
-MOST = 425
+MOST = 450
 # what others may import of `std::net` and of `std::io`
 MAY = {
     "net": {"Net", "Ipv4Addr", "SocketAddr", "SocketAddrV4", "TcpListener", "TcpStream"},
@@ -51,7 +51,8 @@ def main():
     for path in sorted(SOURCES.glob("**/*.rt")):
         if path.name == READ:
             continue
-        code = re.sub("//.*", "", path.read_text(encoding="utf-8"))
+        # what clauses import calls nothing
+        code = re.sub("(?m)//.*|^ *ghost use .*", "", path.read_text(encoding="utf-8"))
         for place in sorted(places(code, path.name == LENT)):
             calls += 1
             number = code.count("\n", 0, place) + 1

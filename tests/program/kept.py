@@ -203,8 +203,8 @@ def remote_without_thread(number, *words):
 
 @preloads
 def no_thread_for_a_peer():
-    """With `--keep` it is closed, which is told and is no fault, and the next one is served."""
-    program, place = remote_without_thread(1, "--keep")
+    """With `--keep` it is closed, which is told and is no fault, and the next one is served. The first thread starts others."""
+    program, place = remote_without_thread(2, "--keep")
     assert has_ended(call(place))
     peer = call(place)
     assert is_served(peer)
@@ -217,7 +217,7 @@ def no_thread_for_a_peer():
 @preloads
 def no_thread_beside_a_peer():
     """So it is without `--keep`: the first peer and the third are served, and it ends well."""
-    program, place = remote_without_thread(2, "--peers", "2")
+    program, place = remote_without_thread(3, "--peers", "2")
     peers = [call(place)]
     assert is_served(peers[0])
     assert has_ended(call(place))
@@ -232,7 +232,7 @@ def no_thread_beside_a_peer():
 
 @preloads
 def no_thread_at_all():
-    """Without `--keep` it ends where it could serve nobody."""
+    """Without `--keep` it ends where no thread starts others, so that it could serve nobody."""
     program, place = remote_without_thread(1, "--peers", "2")
     assert has_ended(call(place))
     assert program.end() == (1, f"{NO_THREAD}ymx: cannot listen at {place}\n")
@@ -291,10 +291,10 @@ def a_peer_that_breaks_the_rules():
     assert take(peer, 12) == frame(PING, ACK, 0, 7)
 
 
-def rests(program):
-    """One thread of it is left: that of its peer has ended, so that the next one takes the same memory."""
+def rests(program, own=1):
+    """So many threads of its own are left: that of its peer has ended, so that the next one takes the same memory."""
     late = time.monotonic() + ENDING
-    while raw.COUNTS and len(os.listdir(f"/proc/{program.process.pid}/task")) > 1:
+    while raw.COUNTS and len(os.listdir(f"/proc/{program.process.pid}/task")) > own:
         assert time.monotonic() < late, "threads are left"
         time.sleep(0.001)
 
@@ -321,7 +321,7 @@ def many_peers():
         leave(peer.connection)
         how = "1 bytes to the peer (ended), 1 bytes from the peer (ended)"
         says(program, COME, connection(number, how), GONE)
-        rests(program)
+        rests(program, 2)  # the first, and the one that starts others
         if number == SETTLED:
             before = used(program)
     files, memory = used(program)

@@ -285,8 +285,8 @@ def many_through(*words):
         leave(user)
     for program in near, far:
         threading.Thread(target=program.process.stderr.read, daemon=True).start()
-    # The thread that says faults, and one for each link, beside the first.
-    assert is_threads(near, LINKS + 2) and is_threads(far, LINKS + 1)
+    # A thread that starts the others, and one for each link or peer, beside the first.
+    assert is_threads(near, LINKS + 2) and is_threads(far, LINKS + 2)
     used = files(near), files(far)
     for start in range(0, CONNECTIONS, AT_ONCE):
         users = [threading.Thread(target=ask, args=(place, seed, bad)) for seed in range(start, start + AT_ONCE)]
@@ -298,15 +298,15 @@ def many_through(*words):
     # The first users' descriptors may still have been open when they were counted.
     while files(near) > used[0] or files(far) > used[1]:
         time.sleep(0.01)
-    assert is_threads(near, LINKS + 2) and is_threads(far, LINKS + 1)
+    assert is_threads(near, LINKS + 2) and is_threads(far, LINKS + 2)
 
 
 def bad_words():
     """A number out of its range, or links to a peer that is awaited."""
     for words, said in (
-        (("--links", "0", "--peer", ANY), "error: invalid value '0' for '--links': a number is decimal digits alone, from 1 to 64"),
-        (("--links", "65", "--peer", ANY), "error: invalid value '65' for '--links': a number is decimal digits alone, from 1 to 64"),
-        (("--links", "+2", "--peer", ANY), "error: invalid value '+2' for '--links': a number is decimal digits alone, from 1 to 64"),
+        (("--links", "0", "--peer", ANY), "error: invalid value '0' for '--links <N>': a number is decimal digits alone, from 1 to 64"),
+        (("--links", "65", "--peer", ANY), "error: invalid value '65' for '--links <N>': a number is decimal digits alone, from 1 to 64"),
+        (("--links", "+2", "--peer", ANY), "error: invalid value '+2' for '--links <N>': a number is decimal digits alone, from 1 to 64"),
         (("--links", "2", "--bind", ANY), "error: the argument '--links <N>' cannot be used with '--bind <ADDRESS>'"),
     ):
         status, text = Program("local", "--listen", ANY, *words).end()

@@ -1,13 +1,14 @@
 pub mod Counts
 pub mod Doors
 pub mod Echoes
+pub mod Ended
 pub mod Looks
+pub mod Events
 pub mod Loops
-pub mod Requests
+pub mod Offers
 pub mod Served
 pub mod Sessions
 pub mod Sides
 pub mod Signs
 pub mod Sockets
-pub mod Status
 pub mod Users

@@ -1,21 +1,25 @@
 -- Which loop runs the session that was asked for (this project's own).
-use Rattle.std.specs.Prelude.{◌≡◌, ◌*◌, ℕ, max, Bool, true, false, if◌then◌else◌, Option, Some, None, nat_lt, option_map}
+use Rattle.std.specs.Prelude.{◌≡◌, ◌*◌, ℕ, max, Bool, true, false, if◌then◌else◌, Option, Some, None, IfSome, is_some, nat_lt, option_map}
 use Rattle.std.specs.Duration.{as_nanos}
 use Rattle.std.specs.declared.net.socket_addr.SocketAddr.{SocketAddr}
 use Rattle.std.specs.declared.net.socket_addr.SocketAddr.TheVariants.{V4}
 use Rattle.ymx_policy.specs.declared.asks.Session.{Session}
 use Rattle.ymx_policy.specs.declared.asks.Side.{Side as AskedSide}
 use Rattle.ymx_policy.specs.declared.asks.Side.TheVariants as asked
-use Rattle.ymx_session.specs.NewSessions.{first_id}
+use Rattle.ymx_session.specs.NewSessions.{IsNewFault, first_id}
 use Rattle.ymx_header.specs.Faults.{fault_number}
+use Rattle.ymx_model.specs.declared.types.Role.{Role}
 use Rattle.ymx_model.specs.declared.types.Status.{Status}
 use Rattle.ymx_model.specs.declared.types.Status.TheVariants.{Broken}
-use Rattle.ymx_model.specs.session.Sessions.{new_session}
+use Rattle.ymx_model.specs.session.GoAway.{was_said}
+use Rattle.ymx_model.specs.session.Sessions.{Session as SessionValue, new_session}
 use Rattle.ymx_engine.specs.Tunnels.{Tunnel}
 use Rattle.ymx_forward.specs.declared.tunnel_end.Side.{Side}
 use Rattle.ymx_forward.specs.declared.tunnel_end.Side.TheVariants as side
 use Rattle.ymx_forward.specs.declared.tunnel_end.Limits.{Limits}
 use Rattle.ymx_forward.specs.declared.tunnel_end.TunnelEnd.{TunnelEnd}
+use Rattle.ymx_forward.specs.declared.tunnel.Unserved.{Unserved}
+use Rattle.ymx_forward.specs.declared.tunnel.Unserved.TheVariants.{Unmade}
 use Rattle.ymx_forward.specs.Sides.{role_at}
 use Rattle.ymx_forward.specs.Users.{is_failed}
 
@@ -68,6 +72,19 @@ pub record Serves (asked : Session) (end : TunnelEnd) : Type 0 where
 abbrev pub rule_of : Status → Option ℕ
 rule_of (Broken fault) = Some (fault_number fault)
 rule_of other = None
+
+-- the peer was told that no more of its streams are taken, or is to be
+abbrev pub is_said : SessionValue → Bool
+is_said s = was_said s.away.here
+
+-- a session of the client's side has no end where users come to none
+abbrev pub HasNoEnd : Option TunnelEnd → AskedSide → Type 0
+HasNoEnd end side = (asked_to_go side ≡ None) × IfSome end (λ e. is_some (goes_to e.side) ≡ true)
+
+-- Such a session has no end of its own for this reason: one that could not be made is none that can be, or there was no memory for it.
+abbrev pub IsUnserved : Session → Unserved → Type 0
+IsUnserved asked (Unmade fault) = (role : Role) × IsNewFault role (record { window = asked.window; first = 0 }) fault
+IsUnserved asked other = Unit {0}
 
 -- This tunnel, at this end, was begun for such a session: its own is a new one of this side and of the window that was asked for.
 pub record IsBegunFor (asked : Session) (end : TunnelEnd) (tunnel : Tunnel) : Type 0 where

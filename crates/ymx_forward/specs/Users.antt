@@ -68,10 +68,14 @@ awaits_sign heard t = not heard && can_open_later t.engine.session
 abbrev pub is_followed : TunnelEnd → Tunnel → Bool
 is_followed e t = e.is_kept && not (is_running t.engine.session.status)
 
+-- users are left to the next session: another follows, and this one is over, or its peer takes no more streams
+abbrev pub leaves_users : TunnelEnd → Tunnel → Bool
+leaves_users e t = e.is_kept && (not (is_running t.engine.session.status) || t.engine.session.away.there)
+
 -- A user may wait who is to be accepted now: there is a place, and the peer has given a sign of life where it is asked for one, or there
 -- never will be a place; and the user isn't left to the next session.
 abbrev pub user_is_due : (heard : Bool) → TunnelEnd → Tunnel → Bool
-user_is_due heard e t = may_wait e (length t.lines.by_id) && not (is_followed e t) && not (must_wait t) && not (awaits_sign heard t)
+user_is_due heard e t = may_wait e (length t.lines.by_id) && not (leaves_users e t) && not (must_wait t) && not (awaits_sign heard t)
 
 -- Not for this reason alone does a user get no stream: that 256 streams wait for the peer, or 1,024 are there.
 abbrev pub IsStated : NotJoined → Type 0

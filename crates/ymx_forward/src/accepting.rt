@@ -1,6 +1,6 @@
 //! The connections that come to one side of a tunnel.
 
-ghost use Rattle.std.specs.Prelude.{◌≡◌, ◌-◌, Some, IfSome, IfNone, IsNone, option_map};
+ghost use Rattle.std.specs.Prelude.{◌≡◌, ◌-◌, true, Some, IfSome, IfNone, IsNone, option_map};
 ghost use Rattle.ymx_forward.specs.Users.{is_failed, is_less, is_shut, may_come};
 
 use crate::drain::Drain;
@@ -97,7 +97,9 @@ impl Listening {
     }
 
     /// No more are accepted if that was asked for.
-    pub(crate) fn heed_drain(&mut self) {
+    pub(crate) fn heed_drain(&mut self)
+        ensures { self.new ≡ record self.old { source = self.new.source } }
+    {
         if let Some(drain) = &self.drain {
             if drain.is_asked() && !self.is_over() {
                 self.stop();
@@ -106,7 +108,9 @@ impl Listening {
     }
 
     /// An event says that connections wait, or it is time to look whether one can be accepted.
-    pub(crate) fn note_event(&mut self) {
+    pub(crate) fn note_event(&mut self)
+        ensures { (self.new.can_accept ≡ true) × (self.new.is_room_due ≡ true) }
+    {
         self.can_accept = true;
         self.is_room_due = true;
         self.heed_drain();
@@ -186,7 +190,7 @@ impl Listening {
 
     /// No more are accepted.
     pub(crate) fn stop(&mut self)
-        ensures { self.new.left ≡ self.old.left }
+        ensures { self.new ≡ record self.old { source = self.new.source } }
     {
         self.source = Source::Closed;
     }

@@ -45,7 +45,10 @@ impl Doorkeeper {
         ensures from { self.new.from ≡ self.old.from }
         ensures admitted { IsAdmitted self.old.from result }
     {
-        let peer = Peer::of(socket);
+        // no poll is asked of one that has just come, so it always is one
+        let Some(peer) = Peer::of(socket) else {
+            return Caller::Closed;
+        };
         let address = peer.address();
         if self.from.admits(address) {
             Caller::Peer(peer)
@@ -59,7 +62,10 @@ impl Doorkeeper {
         ensures from { self.new.from ≡ self.old.from }
         ensures nobody { IsNobody result }
     {
-        let address = Peer::of(socket).address();
+        let address = match Peer::of(socket) {
+            Some(peer) => peer.address(),
+            None => None,
+        };
         self.turn_away(rt, address)
     }
 

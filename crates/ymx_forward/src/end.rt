@@ -1,22 +1,24 @@
 //! What an end with one session after another asks for, done over sockets.
 
-ghost use Rattle.std.specs.Prelude.{ℕ, List, Option, [], ◌∷◌, ◌≡◌, None, IfOk, ⊤};
+ghost use Rattle.std.specs.Prelude.{ℕ, List, Option, [], ◌∷◌, ◌≡◌, ◌⊎◌, None, IfOk, IfSome, IsErr, IsNone, option_map, ⊤};
 ghost use Rattle.ymx_policy.specs.Past.{Adds};
 ghost use Rattle.ymx_policy.specs.declared.asks.Deed.{Deed as Asked};
 ghost use Rattle.ymx_policy.specs.declared.asks.Happened.{Happened as Heard};
 ghost use Rattle.ymx_policy.specs.declared.asks.Peers.{Peers as Awaiting};
+ghost use Rattle.ymx_policy.specs.declared.asks.Session.{Session as Wanted};
 ghost use Rattle.ymx_forward.specs.Doors.{MayCall, MeetsAdmitted};
-ghost use Rattle.ymx_forward.specs.Served.{IsServed, ServesAsAsked};
+ghost use Rattle.ymx_forward.specs.Served.{IsNoEnd, IsServed, ServesAsAsked, count_of};
+ghost use Rattle.ymx_forward.specs.Sessions.{HasNoEnd, Serves};
 
 use crate::accepting::Listening;
 use crate::doorkeeper::Doorkeeper;
-use crate::drain::Drain;
+use crate::drain::{Drain, is_asked, shared};
 use crate::host::Host;
 use crate::inbox::Inbox;
 use crate::notices::ProgramWatcher;
 use crate::peer::Peer;
 use crate::site::Site;
-use crate::sockets::{accept_peer, listen_at};
+use crate::sockets::{await_caller, listen_at};
 use crate::starting::{StartFault, failed};
 use crate::system::{Poll, Waker};
 use crate::tunnel::Served;
@@ -27,7 +29,7 @@ use std::net::TcpListener;
 use std::sync::{Arc, Wait};
 use std::thread;
 use std::time::Duration;
-use ymx_policy::{Callee, Deed, Happened, Networks, Peers, Session, Users, World};
+use ymx_policy::{Callee, Deed, Happened, Networks, Peers, Plan, Session, Users, World};
 
 /// The sockets of an end.
 #[derive(Drop)]
@@ -52,15 +54,22 @@ pub(crate) struct EndSockets<'a, R> {
     served: Option<Served>,
     /// Says when no more users are to be taken. None where nothing does.
     drain: Option<Arc<Drain, Global>>,
+    /// Says when no more sessions are to begin, and the one that runs is to end. None where nothing does.
+    leave: Option<Arc<Drain, Global>>,
 }
 
 impl<'a, R: Host> EndSockets<'a, R> {
-    /// None is open. No more users are taken once `drain` asks for that.
+    /// None is open. Once `drain` asks for that a `local` takes no more users, and a `remote` begins no more sessions.
     pub(crate) fn new(
         rt: &'a R,
         alloc: Global,
+        plan: Plan,
         drain: Option<Arc<Drain, Global>>,
     ) -> EndSockets<'a, R> {
+        let (drain, leave) = match plan {
+            Plan::Local(_) | Plan::Link(_) => (drain, None),
+            Plan::Remote(_) => (None, drain),
+        };
         EndSockets {
             rt,
             alloc,
@@ -73,6 +82,7 @@ impl<'a, R: Host> EndSockets<'a, R> {
             inbox: None,
             served: None,
             drain,
+            leave,
         }
     }
 
@@ -94,10 +104,11 @@ impl<'a, R: Host> EndSockets<'a, R> {
             inbox: Some(inbox),
             served: None,
             drain: None,
+            leave: None,
         }
     }
 
-    /// Listens for the peer.
+    /// Listens for the peer, and makes the place in which it is awaited: a want of memory for it is told as such.
     fn listen_for_peer(&mut self, peers: Peers) -> Happened
         // Only those are let in that may call.
         ensures { self.new.keeper.from ≡ peers.from }
@@ -106,7 +117,10 @@ impl<'a, R: Host> EndSockets<'a, R> {
         match listen_at(self.rt, peers.address) {
             Ok((listener, at)) => {
                 self.listener = Some(listener);
-                Happened::Listening(at)
+                match self.prepare() {
+                    Ok(()) => Happened::Listening(at),
+                    Err(fault) => fault.happened(),
+                }
             }
             Err(error) => failed(&error),
         }
@@ -139,8 +153,11 @@ impl<'a, R: Host> EndSockets<'a, R> {
         Ok(())
     }
 
-    /// Calls the peer. A link that has none is to be spared for a while.
+    /// Calls the peer, unless no more sessions are to begin. A link that has none is to be spared for a while.
     fn call(&mut self, callee: Callee) -> Happened {
+        if is_asked(&self.leave) {
+            return Happened::AllCame;
+        }
         match Peer::call(self.rt, callee) {
             Ok(peer) => {
                 if let Some(inbox) = &self.inbox {
@@ -158,13 +175,20 @@ impl<'a, R: Host> EndSockets<'a, R> {
         }
     }
 
-    /// A link can serve again. One whose peer never gave a sign of life is to be spared for a while.
-    fn part(&self, was_heard: bool) {
+    /// How the last session ended. A link can serve again then. One whose peer never gave a sign of life is to be spared for
+    /// a while.
+    fn part(&self) -> Happened
+        ensures { IfSome self.now.served (λ served. result ≡ Happened.SessionEnded served.how) }
+    {
+        let Some(served) = &self.served else {
+            return Happened::Failed(None);
+        };
         match &self.inbox {
-            Some(inbox) if was_heard => inbox.resume(self.rt),
+            Some(inbox) if served.was_heard() => inbox.resume(self.rt),
             Some(inbox) => inbox.rest(self.rt),
             None => {}
         }
+        Happened::SessionEnded(served.end())
     }
 
     /// Waits until the peer calls, after which nobody listens for it. Who may not call is closed.
@@ -191,21 +215,40 @@ impl<'a, R: Host> EndSockets<'a, R> {
     fn meet<V: ProgramWatcher>(&mut self, watcher: &mut V) -> Result<Peer, Happened>
         ensures { IfOk result (MayCall self.old.keeper.from) }
     {
+        if let Err(fault) = self.watch_callers() {
+            return Err(fault.happened());
+        }
         let keeper = &mut self.keeper;
-        match (&mut self.end, &mut self.site) {
-            (Some(end), Some(site)) if end.is_kept => {
-                if let Some(listener) = self.listener.take() {
-                    self.callers = Listening::new(listener, None, true, &site.poll, PEERS).ok();
-                }
-                match &mut self.callers {
-                    Some(callers) => end.await_peer(site, callers, keeper, watcher),
-                    None => Err(Happened::Failed(None)),
-                }
+        match (&mut self.end, &mut self.site, &mut self.callers) {
+            (Some(end), Some(site), Some(callers)) if end.is_kept => {
+                end.await_peer(site, callers, keeper, watcher)
             }
-            _ => match &self.listener {
-                Some(listener) => accept_peer(self.rt, listener, keeper),
-                None => Err(Happened::Failed(None)),
-            },
+            (_, Some(site), Some(callers)) => await_caller(site, callers, keeper),
+            _ => Err(Happened::Failed(None)),
+        }
+    }
+
+    /// Has a poll tell of who calls, until no more sessions are to begin.
+    fn watch_callers(&mut self) -> Result<(), StartFault>
+        ensures { self.new.keeper ≡ self.old.keeper }
+    {
+        let Some(listener) = self.listener.take() else {
+            return Ok(());
+        };
+        self.prepare()?;
+        let is_kept = self.is_kept();
+        if let Some(site) = &self.site {
+            let callers = Listening::new(listener, None, is_kept, &site.poll, PEERS)?;
+            self.callers = Some(callers.until(shared(&self.leave)));
+        }
+        Ok(())
+    }
+
+    /// Whether another session follows one that is lost.
+    fn is_kept(&self) -> bool {
+        match &self.end {
+            Some(end) => end.is_kept,
+            None => false,
         }
     }
 
@@ -219,8 +262,10 @@ impl<'a, R: Host> EndSockets<'a, R> {
 
     /// Runs a session with the peer that is there.
     fn serve<V: ProgramWatcher>(&mut self, session: Session, watcher: &mut V) -> Happened
-        // The session that ended is the one that was asked for.
-        ensures { IsServed session self.new.served result }
+        // The session that ended is the one that was asked for, at this call.
+        ensures served { IsServed session (count_of (option_map (λ site. site.sessions) self.old.site)) (count_of (option_map (λ site. site.sessions) self.new.site)) self.new.served result }
+        // None ran only where there was no peer, no end of its side, or no place for it.
+        ensures unserved { IsNoEnd result → IsNone self.old.peer ⊎ (HasNoEnd self.old.end session.side ⊎ IsNone self.new.site) }
     {
         let Some(peer) = self.peer.take() else {
             return Happened::Failed(None);
@@ -228,22 +273,26 @@ impl<'a, R: Host> EndSockets<'a, R> {
         if let Err(fault) = self.prepare() {
             return fault.happened();
         }
-        self.end = TunnelEnd::for_session(self.end.take(), session);
+        self.end = end_for(self.end.take(), &self.leave, session);
         let served = match (&mut self.end, &mut self.site) {
             (Some(end), Some(site)) => site.serve(end, peer, session, watcher),
             _ => return Happened::Failed(None),
         };
-        let how = served.end();
-        let was_heard = served.was_heard();
         self.served = Some(served);
-        self.part(was_heard);
-        Happened::SessionEnded(how)
+        self.part()
     }
 
     /// Makes a place for its sessions, where there is none yet.
-    fn prepare(&mut self) -> Result<(), StartFault> {
+    fn prepare(&mut self) -> Result<(), StartFault>
+        ensures keeper { self.new.keeper ≡ self.old.keeper }
+        ensures count { count_of (option_map (λ site. site.sessions) self.new.site) ≡ count_of (option_map (λ site. site.sessions) self.old.site) }
+        ensures end { self.new.end ≡ self.old.end }
+        ensures none { IsErr result → IsNone self.new.site }
+    {
         if self.site.is_none() {
-            self.site = Some(Site::new(self.rt, self.alloc)?);
+            let site = Site::new(self.rt, self.alloc)?;
+            let _ = wake_by(self.rt, &self.leave, self.alloc, &site.poll)?;
+            self.site = Some(site);
         }
         Ok(())
     }
@@ -270,9 +319,14 @@ impl<'a, R: Host> EndSockets<'a, R> {
         self.close_user(watcher)
     }
 
-    /// Lets so many seconds go by.
+    /// Lets so many seconds go by, or fewer where no more sessions are to begin.
     fn pause(&self, seconds: u64) -> Happened {
-        thread::sleep(self.rt, Duration::from_secs(seconds));
+        for _ in 0..seconds {
+            if is_asked(&self.leave) {
+                return Happened::Done;
+            }
+            thread::sleep(self.rt, Duration::from_secs(1));
+        }
         Happened::Done
     }
 
@@ -284,7 +338,7 @@ impl<'a, R: Host> EndSockets<'a, R> {
     }
 }
 
-/// Has this poll woken, as by a user, once no more are to be taken.
+/// Has this poll woken, as by a user, once no more connections are to be taken.
 fn wake_by<R: Wait>(
     rt: &R,
     drain: &Option<Arc<Drain, Global>>,
@@ -310,8 +364,9 @@ impl<R: Host, V: ProgramWatcher> World<V, WatcherLines> for EndSockets<'_, R> {
         ensures logged { Adds {A = Asked × Heard} ((deed, result) ∷ []) None None }
         ensures untold { Adds {A = List ℕ} [] None None }
         ensures unwritten { let none : Option (List ℕ) = None in let zero : ℕ = 0 in (none ≡ none) × (zero ≡ zero) }
-        // A session that ended is the one that was asked for.
-        ensures served { ServesAsAsked deed self.new.served result }
+        // A session that ended is the one that was asked for, at this call.
+        ensures served { ServesAsAsked deed (count_of (option_map (λ site. site.sessions) self.old.site)) (count_of (option_map (λ site. site.sessions) self.new.site)) self.new.served result }
+        ensures unserved { (session : Wanted) → deed ≡ Deed.Serve session → IsNoEnd result → IsNone self.old.peer ⊎ (HasNoEnd self.old.end session.side ⊎ IsNone self.new.site) }
         // A peer that was awaited and came may call from where it does.
         ensures admitted { deed ≡ Deed.AwaitPeer → MeetsAdmitted self.old.keeper.from self.new.peer result }
         ensures from { (peers : Awaiting) → deed ≡ Deed.ListenForPeer peers → self.new.keeper.from ≡ peers.from }
@@ -328,5 +383,20 @@ impl<R: Host, V: ProgramWatcher> World<V, WatcherLines> for EndSockets<'_, R> {
             Deed::Pause(seconds) => self.pause(seconds),
             Deed::End(_) => Happened::Done,
         }
+    }
+}
+
+/// The end that such a session is served at, until no more sessions are to begin. None where there is none of its side.
+fn end_for(
+    end: Option<TunnelEnd>,
+    leave: &Option<Arc<Drain, Global>>,
+    session: Session,
+) -> Option<TunnelEnd>
+    ensures serves { IfSome result (Serves session) }
+    ensures none { IsNone result → HasNoEnd end session.side }
+{
+    match TunnelEnd::for_session(end, session) {
+        Ok(end) => Some(end.until(shared(leave))),
+        Err(_) => None,
     }
 }

@@ -9,7 +9,8 @@
 
 mod accepting;
 mod closing;
-mod counts;
+mod counted;
+mod dialing;
 mod doorkeeper;
 mod drain;
 mod echoing;
@@ -19,17 +20,16 @@ mod inbox;
 mod link;
 mod links;
 mod notices;
-mod page;
 mod peer;
 mod peers;
 mod programs;
-mod requests;
 mod selftest;
 mod shared;
 mod silence;
 mod site;
 mod socket;
 mod sockets;
+mod starter;
 mod starting;
 mod status;
 mod stillness;

@@ -8,9 +8,9 @@ use crate::inbox::{Inbox, Taken};
 use crate::notices::ProgramWatcher;
 use crate::peer::Peer;
 use crate::shared::Shared;
-use crate::site::{Site, unwatched, well};
+use crate::site::{Site, well};
 use crate::system::{Poll, TcpConnection};
-use crate::tunnel::Served;
+use crate::tunnel::{Served, Unserved};
 use crate::tunnel_end::TunnelEnd;
 use crate::voices::WatcherLines;
 use crate::watching::{Declined, EndedConnection, Origin, Watcher};
@@ -104,6 +104,8 @@ struct LinkWatcher<'a, R: Wait, V: ProgramWatcher> {
 }
 
 impl<R: Wait, V: ProgramWatcher> Watcher for LinkWatcher<'_, R, V> {
+    ghost counts = { λ _. None };
+
     fn begins(&mut self, from: &TcpConnection) -> Origin {
         self.shared.begins(from)
     }
@@ -181,7 +183,7 @@ impl LinkJob {
             peer,
         } = link;
         let rt = shared.rt;
-        let site = Site { rt, alloc, poll };
+        let site = Site::over(rt, alloc, poll);
         let mut watcher = LinkWatcher {
             shared,
             inbox: counted,
@@ -225,11 +227,11 @@ fn serve<R: Host, V: Watcher>(
 {
     let mut site = site;
     match TunnelEnd::for_session(Some(end), session) {
-        Some(mut end) => {
+        Ok(mut end) => {
             let served = site.serve(&mut end, peer, session, watcher);
             end.refuse_waiting(watcher);
             served
         }
-        None => Served::unbegun(session, unwatched()),
+        Err(none) => Served::unbegun(session, 0, Unserved::NoEnd(none)),
     }
 }

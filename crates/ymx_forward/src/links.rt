@@ -15,6 +15,7 @@ use crate::peers::refused;
 use crate::shared::Shared;
 use crate::site::Site;
 use crate::sockets::listen_at;
+use crate::starter::{Jobs, Starter, new_starter};
 use crate::starting::StartFault;
 use crate::system::{Poll, TcpConnection, Waker};
 use crate::tunnel_end::{LISTENER, TunnelEnd};
@@ -36,61 +37,13 @@ const USERS: usize = 0;
 /// The token of the links, which tell that they are lost, or have something to report.
 const REPORTS: usize = 1;
 
-/// How many links may wait for their threads.
-const LINKS: usize = 64;
-
-/// How many seconds it is waited for the thread that starts those of links. Where the system makes none it never begins.
-const BEGINNING: u64 = 10;
-
 /// How many reports may wait to be heard.
 const WAITING_REPORTS: usize = 1_024;
-
-/// Who has links started, and hears of them.
-#[derive(Drop)]
-struct Starter {
-    /// Takes links, each to run in a thread of its own. None once no more are started.
-    jobs: Option<Sender<LinkJob, Global>>,
-    /// Tells that somebody starts them.
-    attended: Receiver<bool, Global>,
-    /// Somebody does.
-    is_attended: bool,
-    /// Whether the thread for the last one could be made.
-    started: Receiver<bool, Global>,
-    /// What links report.
-    reports: Receiver<Report, Global>,
-}
-
-impl Starter {
-    /// Has a link started. Whether a thread could be made for it.
-    fn start<R: Host>(&mut self, rt: &R, job: LinkJob) -> bool {
-        if !self.is_attended {
-            self.is_attended = self
-                .attended
-                .recv_timeout(rt, Duration::from_secs(BEGINNING))
-                .is_ok();
-        }
-        if !self.is_attended {
-            return false;
-        }
-        let Some(jobs) = &self.jobs else {
-            return false;
-        };
-        if jobs.send(rt, job).is_err() {
-            return false;
-        }
-        match self.started.recv(rt) {
-            Ok(is_started) => is_started,
-            Err(_) => false,
-        }
-    }
-}
 
 /// Who starts the threads of links.
 #[derive(Drop)]
 pub(crate) struct LinkThreads {
-    jobs: Receiver<LinkJob, Global>,
-    attends: Sender<bool, Global>,
-    started: Sender<bool, Global>,
+    jobs: Jobs<LinkJob>,
     reports: Sender<Report, Global>,
 }
 
@@ -103,7 +56,7 @@ impl LinkThreads {
         watcher: &Mutex<V>,
     ) {
         let reports = &self.reports;
-        let _ = self.attends.send(rt, true);
+        self.jobs.attend(rt);
         thread::scope(
             thread::scope_env(),
             rt,
@@ -111,18 +64,26 @@ impl LinkThreads {
                 requires { IsSend V.row }
             {
                 for _ in rt.forever() {
-                    let Ok(job) = self.jobs.recv(rt) else {
+                    let Some(job) = self.jobs.next(rt) else {
                         return;
                     };
                     let is_started = scope
                         .spawn(move || job.run(alloc, Shared { rt, watcher }, reports))
                         .is_ok();
-                    let _ = self.started.send(rt, is_started);
+                    self.jobs.answer(rt, is_started);
                 }
                 unreachable!()
             },
         )
     }
+}
+
+/// Who has links started, and hears of them.
+#[derive(Drop)]
+struct Hearing {
+    starter: Starter<LinkJob>,
+    /// What links report.
+    reports: Receiver<Report, Global>,
 }
 
 /// Where users come in, and who starts the threads of links.
@@ -132,24 +93,14 @@ pub(crate) fn new_links<'a, R: Host>(
     options: LocalOptions,
     drain: Option<Arc<Drain, Global>>,
 ) -> Result<(LinkSockets<'a, R>, LinkThreads), StartFault> {
-    let (give, jobs) = bounded::<LinkJob, Global>(alloc, LINKS)?;
-    let (attends, attended) = bounded::<bool, Global>(alloc, 1)?;
-    let (answer, started) = bounded::<bool, Global>(alloc, LINKS)?;
+    let (starter, jobs) = new_starter::<LinkJob>(alloc)?;
     let (reports, heard) = bounded::<Report, Global>(alloc, WAITING_REPORTS)?;
-    let starter = Starter {
-        jobs: Some(give),
-        attended,
-        is_attended: false,
-        started,
+    let hearing = Hearing {
+        starter,
         reports: heard,
     };
-    let sockets = LinkSockets::new(rt, alloc, options, starter, drain)?;
-    let threads = LinkThreads {
-        jobs,
-        attends,
-        started: answer,
-        reports,
-    };
+    let sockets = LinkSockets::new(rt, alloc, options, hearing, drain)?;
+    let threads = LinkThreads { jobs, reports };
     Ok((sockets, threads))
 }
 
@@ -158,7 +109,7 @@ pub(crate) fn new_links<'a, R: Host>(
 pub(crate) struct LinkSockets<'a, R> {
     site: Site<'a, R>,
     options: LocalOptions,
-    starter: Starter,
+    hearing: Hearing,
     /// The thread that accepts, as the links know it.
     acceptor: Arc<Acceptor, Global>,
     /// The peers that were called for links.
@@ -182,7 +133,7 @@ impl<'a, R: Host> LinkSockets<'a, R> {
         rt: &'a R,
         alloc: Global,
         options: LocalOptions,
-        starter: Starter,
+        hearing: Hearing,
         drain: Option<Arc<Drain, Global>>,
     ) -> Result<LinkSockets<'a, R>, StartFault> {
         let site = Site::new(rt, alloc)?;
@@ -194,7 +145,7 @@ impl<'a, R: Host> LinkSockets<'a, R> {
         Ok(LinkSockets {
             site,
             options,
-            starter,
+            hearing,
             acceptor,
             peers: Vec::new(alloc),
             links: Vec::new(alloc),
@@ -275,7 +226,7 @@ impl<'a, R: Host> LinkSockets<'a, R> {
             session,
             options: self.options,
         };
-        if self.starter.start(self.site.rt, job) {
+        if self.hearing.starter.start(self.site.rt, job) {
             PoolHappened::Started
         } else {
             PoolHappened::Failed(Some(Reason::NoThread))
@@ -284,7 +235,7 @@ impl<'a, R: Host> LinkSockets<'a, R> {
 
     /// No more links are started.
     pub(crate) fn finish(&mut self) {
-        self.starter.jobs = None;
+        self.hearing.starter.finish();
     }
 
     /// Waits until a user comes for whom a link has a place, or a link has something to report. Where all links are full,
@@ -304,7 +255,7 @@ impl<'a, R: Host> LinkSockets<'a, R> {
             if room == Room::Closed {
                 return PoolHappened::NoLinks;
             }
-            if let Ok(report) = self.starter.reports.try_recv(rt) {
+            if let Ok(report) = self.hearing.reports.try_recv(rt) {
                 return report.happened();
             }
             if room == Room::Found || room == Room::Resting {
@@ -331,7 +282,7 @@ impl<'a, R: Host> LinkSockets<'a, R> {
 
     /// Waits until a link has something to report.
     fn wait_for_report(&self) -> PoolHappened {
-        match self.starter.reports.recv(self.site.rt) {
+        match self.hearing.reports.recv(self.site.rt) {
             Ok(report) => report.happened(),
             Err(_) => PoolHappened::NobodyComes(None),
         }

@@ -1,6 +1,6 @@
 //! The connection to a peer.
 
-ghost use Rattle.std.specs.Prelude.{◌≡◌};
+ghost use Rattle.std.specs.Prelude.{◌≡◌, false};
 
 use crate::stream::Stream;
 use crate::system::{TcpConnection, connect, connect_within};
@@ -15,6 +15,8 @@ pub(crate) struct Peer {
     socket: TcpConnection,
     /// Where it is, if the system says so.
     address: Option<SocketAddrV4>,
+    // No poll was asked to tell of it.
+    ghost fresh: { socket.is_registered ≡ false },
 }
 
 impl Peer {
@@ -30,11 +32,22 @@ impl Peer {
 
     /// A peer over this connection. The fault is that the system can't make it one that never waits.
     pub(crate) fn over(connection: TcpStream) -> io::Result<Peer> {
-        Ok(Peer::of(TcpConnection::of(connection)?))
+        let socket = TcpConnection::of(connection)?;
+        Ok(Peer::new(socket))
+    }
+
+    /// A peer over this connection, which never waits. None where a poll was asked to tell of it.
+    pub(crate) fn of(socket: TcpConnection) -> Option<Peer> {
+        if socket.is_registered() {
+            return None;
+        }
+        Some(Peer::new(socket))
     }
 
     /// A peer over this connection, which never waits.
-    pub(crate) fn of(socket: TcpConnection) -> Peer {
+    fn new(socket: TcpConnection) -> Peer
+        requires { socket.is_registered ≡ false }
+    {
         socket.send_at_once();
         let address = match socket.peer() {
             Some(SocketAddr::V4(address)) => Some(address),
@@ -65,8 +78,10 @@ impl Peer {
         self.socket.limit_silence(milliseconds.saturating_mul(2));
     }
 
-    /// Its connection.
-    pub(crate) fn into_socket(self) -> TcpConnection {
+    /// Its connection, of which no poll was asked to tell.
+    pub(crate) fn into_socket(self) -> TcpConnection
+        ensures { result.is_registered ≡ false }
+    {
         let Peer { socket, address: _ } = self;
         socket
     }

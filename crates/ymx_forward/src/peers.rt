@@ -1,36 +1,35 @@
 //! What an end with many peers at once asks for, done over sockets and threads: one thread lets peers in, and each session
 //! has one of its own, which leaves in a channel how it ended.
 
-ghost use Rattle.std.specs.Prelude.{◌≡◌, ◌≢◌, false, Some, None};
-ghost use Rattle.std.specs.Thread.{IsSend, IsSync};
-ghost use Rattle.ymx_policy.specs.Endings.{EndsAt};
-ghost use Rattle.ymx_policy.specs.Plans.{terms_of};
+ghost use Rattle.std.specs.Prelude.{◌≡◌, ◌≢◌, false, Some, None, ⊤};
+ghost use Rattle.std.specs.Thread.{IsSend};
 ghost use Rattle.ymx_forward.specs.Doors.{LetsAdmittedIn};
 ghost use Rattle.ymx_forward.specs.Looks.{SeesAdmitted};
 
 use crate::accepting::Listening;
 use crate::doorkeeper::{Caller, Doorkeeper};
+use crate::drain::{Drain, is_asked, shared};
 use crate::host::Host;
 use crate::notices::ProgramWatcher;
 use crate::peer::Peer;
 use crate::shared::Shared;
-use crate::site::{Site, unstarted, unwatched};
+use crate::site::{Site, unstarted};
 use crate::sockets::listen_at;
+use crate::starter::{Jobs, Starter, new_starter};
 use crate::starting::StartFault;
-use crate::system::{Poll, Waker};
-use crate::tunnel::Served;
-use crate::tunnel_end::{RETRY, TunnelEnd};
+use crate::system::{NoEvents, Poll, Waker};
+use crate::tunnel::{Served, Unserved};
+use crate::tunnel_end::{LISTENER, RETRY, TunnelEnd};
 use crate::watching::Watcher;
 use crossbeam_channel::{Receiver, Sender, bounded};
 use std::alloc::Global;
 use std::net::SocketAddrV4;
-use std::sync::{Mutex, Wait};
+use std::sync::{Arc, Mutex, Wait};
+use std::thread;
 use std::thread::Threads;
 use std::time::Duration;
-use std::{io, thread};
 use ymx_policy::{
-    Errors, Lines, Named, Networks, Peers, Plan, PoolDeed, PoolEnd, PoolHappened, PoolWorld,
-    Reason, Session, SessionEnd, run_pool_to_end,
+    Lines, Named, Networks, Peers, PoolDeed, PoolHappened, PoolWorld, Reason, Session, SessionEnd,
 };
 
 /// The token of the listener.
@@ -42,38 +41,45 @@ const LEAVINGS: usize = 1;
 /// How many ends of sessions may wait to be heard, and threads to begin: as many as sessions at once.
 const ROOM: usize = 256;
 
-/// What the thread that lets peers in shares with those of their sessions.
+/// A peer that has come, and the session that is to run with it.
+#[derive(Drop)]
+struct PeerJob {
+    peer: Peer,
+    session: Session,
+}
+
+/// What the threads of sessions share with the one that lets peers in.
 #[derive(Drop)]
 pub(crate) struct Lobby {
     alloc: Global,
     /// Where peers come in.
     at: SocketAddrV4,
+    /// Where peers come from that have been let in.
+    jobs: Jobs<PeerJob>,
     /// Where a thread leaves how its session ended.
     ends: Sender<SessionEnd, Global>,
     /// Who is woken then.
-    waker: Waker,
+    waker: Arc<Waker, Global>,
     /// A thread takes one before it begins, so that it is told first that its peer has come.
     begun: Receiver<(), Global>,
+    /// Says when each session is to end. None where nothing does.
+    drain: Option<Arc<Drain, Global>>,
 }
 
 /// What only the thread has that lets peers in.
 #[derive(Drop)]
 struct Entrance {
     poll: Poll,
+    starter: Starter<PeerJob>,
     ends: Receiver<SessionEnd, Global>,
     begins: Sender<(), Global>,
-}
-
-/// Both halves of a place where peers come in.
-#[derive(Drop)]
-pub(crate) struct PeerPool {
-    lobby: Lobby,
-    entrance: Entrance,
+    /// Says when no more peers are to be let in. None where nothing does.
+    drain: Option<Arc<Drain, Global>>,
 }
 
 /// Where peers come in.
 #[derive(Drop)]
-struct PeerSockets<'a, R> {
+pub(crate) struct PeerSockets<'a, R> {
     rt: &'a R,
     entrance: Entrance,
     listening: Option<Listening>,
@@ -96,50 +102,75 @@ enum Look {
     Nobody,
 }
 
-/// Where peers come in, and what makes a thread for one: whether that could be done.
-#[derive(Drop)]
-struct PeerThreads<'a, R, F> {
-    sockets: PeerSockets<'a, R>,
-    start: F,
-}
-
-/// A place where peers come in, at this address.
-pub(crate) fn new_lobby<R: Host>(
-    rt: &R,
+/// Where peers come in, at this address, until `drain` asks for that, and who starts the threads of their sessions.
+pub(crate) fn new_peers<'a, R: Host>(
+    rt: &'a R,
     alloc: Global,
     at: SocketAddrV4,
-) -> Result<PeerPool, StartFault> {
+    drain: Option<Arc<Drain, Global>>,
+) -> Result<(PeerSockets<'a, R>, Lobby), StartFault> {
     let poll = Poll::new(rt, alloc)?;
-    let waker = Waker::new(&poll, LEAVINGS)?;
+    let waker = Arc::new(alloc, Waker::new(&poll, LEAVINGS)?)?;
+    if let Some(drain) = &drain {
+        let _ = drain.wakes(rt, Arc::try_clone(&waker)?);
+    }
+    let (starter, jobs) = new_starter::<PeerJob>(alloc)?;
     let (leave, ends) = bounded::<SessionEnd, Global>(alloc, ROOM)?;
     let (begins, begun) = bounded::<(), Global>(alloc, ROOM)?;
+    let entrance = Entrance {
+        poll,
+        starter,
+        ends,
+        begins,
+        drain: shared(&drain),
+    };
     let lobby = Lobby {
         alloc,
         at,
+        jobs,
         ends: leave,
         waker,
         begun,
+        drain,
     };
-    let entrance = Entrance { poll, ends, begins };
-    Ok(PeerPool { lobby, entrance })
+    Ok((PeerSockets::new(rt, entrance), lobby))
 }
 
 impl Lobby {
-    /// Runs such a session with this peer, and leaves how it ended.
-    fn serve<R: Host, V: ProgramWatcher>(
+    /// Runs a session with each peer that is let in, each in a thread of its own, until no more are, and all have ended.
+    pub(crate) fn run<R: Host + Threads + Sync, V: ProgramWatcher + Send + Drop>(
         &self,
         rt: &R,
-        peer: Peer,
-        session: Session,
         watcher: &Mutex<V>,
     ) {
-        let mut shared = Shared { rt, watcher };
+        self.jobs.attend(rt);
+        thread::scope(
+            thread::scope_env(),
+            rt,
+            move |scope|
+                requires { IsSend V.row }
+            {
+                for _ in rt.forever() {
+                    let Some(job) = self.jobs.next(rt) else {
+                        return;
+                    };
+                    let is_started = scope.spawn(move || self.serve(rt, job, watcher)).is_ok();
+                    self.jobs.answer(rt, is_started);
+                }
+                unreachable!()
+            },
+        )
+    }
+
+    /// Runs a session with a peer, and leaves how it ended.
+    fn serve<R: Host, V: ProgramWatcher>(&self, rt: &R, job: PeerJob, watcher: &Mutex<V>) {
+        let mut watched = Shared { rt, watcher };
         let _ = self.begun.recv(rt);
         let how = match Site::new(rt, self.alloc) {
-            Ok(site) => serve_peer(site, peer, session, &mut shared).end(),
+            Ok(site) => self.serve_at(site, job, &mut watched),
             Err(fault) => {
                 if let StartFault::Unwatched(error) = &fault {
-                    shared.failed(Named::Bind(self.at), Reason::of(error));
+                    watched.failed(Named::Bind(self.at), Reason::of(error));
                 }
                 unstarted(fault)
             }
@@ -147,82 +178,70 @@ impl Lobby {
         let _ = self.ends.send(rt, how);
         self.waker.wake();
     }
-}
 
-/// Runs such a session with this peer.
-fn serve_peer<R: Host, V: Watcher>(
-    site: Site<'_, R>,
-    peer: Peer,
-    session: Session,
-    watcher: &mut V,
-) -> Served
-    // The session that ended is the one that was asked for.
-    ensures { result.session ≡ session }
-{
-    let mut site = site;
-    match TunnelEnd::for_session(None, session) {
-        Some(mut end) => site.serve(&mut end, peer, session, watcher),
-        None => Served::unbegun(session, unwatched()),
+    /// Runs a session with a peer at this site, whose waits end where it is to end. How it ended.
+    fn serve_at<R: Host, V: Watcher>(
+        &self,
+        site: Site<'_, R>,
+        job: PeerJob,
+        watcher: &mut V,
+    ) -> SessionEnd {
+        let rt = site.rt;
+        let place = match self.wake(&site) {
+            Ok(place) => place,
+            Err(fault) => return unstarted(fault),
+        };
+        let how = serve_peer(site, job, shared(&self.drain), watcher).end();
+        if let (Some(drain), Some(place)) = (&self.drain, place) {
+            drain.forget(rt, place);
+        }
+        how
+    }
+
+    /// Has the waits at this site end where each session is to end. The place among those who are woken then.
+    fn wake<R: Host>(&self, site: &Site<'_, R>) -> Result<Option<usize>, StartFault> {
+        let Some(drain) = &self.drain else {
+            return Ok(None);
+        };
+        let waker = Arc::new(self.alloc, Waker::new(&site.poll, LISTENER)?)?;
+        Ok(drain.wakes(site.rt, waker))
     }
 }
 
-/// Runs the pool of peers of this plan, each in a thread of its own, up to its last words.
-pub(crate) fn run_peers<
-    R: Host + Threads + Sync,
-    V: ProgramWatcher + Send + Drop,
-    T,
-    L: Lines<T>,
-    D,
-    E: Errors<D>,
->(rt: &R, pool: PeerPool, plan: Plan, watcher: &Mutex<V>, lines: &mut T, errors: &mut D) -> PoolEnd
-    // It has come to its end by its tables alone.
-    ensures { EndsAt (terms_of plan) result.status result.words }
+/// Runs a session with a peer, until `drain` asks for its end.
+fn serve_peer<R: Host, V: Watcher>(
+    site: Site<'_, R>,
+    job: PeerJob,
+    drain: Option<Arc<Drain, Global>>,
+    watcher: &mut V,
+) -> Served
+    // The session that ended is the one that was asked for.
+    ensures { result.session ≡ job.session }
 {
-    let PeerPool { lobby, entrance } = pool;
-    let lobby = &lobby;
-    thread::scope(
-        thread::scope_env(),
-        rt,
-        |scope|
-            requires { IsSync R.row × IsSend V.row }
-            ensures { EndsAt (terms_of plan) result.status result.words }
-        {
-            let start = |peer: Peer, session: Session| -> bool
-                requires { IsSync R.row × IsSend V.row }
-            {
-                scope
-                    .spawn(move || lobby.serve(rt, peer, session, watcher))
-                    .is_ok()
-            };
-            let sockets = PeerSockets {
-                rt,
-                entrance,
-                listening: None,
-                keeper: Doorkeeper::new(Networks::all()),
-                peer: None,
-                is_begun: false,
-            };
-            let mut threads = PeerThreads { sockets, start };
-            run_threads::<_, _, T, L, D, E>(plan, &mut threads, lines, errors)
-        },
-    )
+    let PeerJob { peer, session } = job;
+    let mut site = site;
+    match TunnelEnd::for_session(None, session) {
+        Ok(end) => {
+            let mut end = end.until(drain);
+            site.serve(&mut end, peer, session, watcher)
+        }
+        Err(none) => Served::unbegun(session, 0, Unserved::NoEnd(none)),
+    }
 }
 
-/// Runs the pool of peers over these sockets.
-fn run_threads<R: Host, F: FnMut(Peer, Session) -> bool, T, L: Lines<T>, D, E: Errors<D>>(
-    plan: Plan,
-    threads: &mut PeerThreads<'_, R, F>,
-    lines: &mut T,
-    errors: &mut D,
-) -> PoolEnd
-    requires { F.IsAlwaysCallable threads.old.start }
-    ensures { EndsAt (terms_of plan) result.status result.words }
-{
-    let rt = threads.sockets.rt;
-    run_pool_to_end::<_, T, L, _, D, E>(rt, plan, threads, lines, errors)
-}
+impl<'a, R: Host> PeerSockets<'a, R> {
+    /// None is there, and it doesn't listen.
+    fn new(rt: &'a R, entrance: Entrance) -> PeerSockets<'a, R> {
+        PeerSockets {
+            rt,
+            entrance,
+            listening: None,
+            keeper: Doorkeeper::new(Networks::all()),
+            peer: None,
+            is_begun: false,
+        }
+    }
 
-impl<R: Host> PeerSockets<'_, R> {
     /// Listens for peers.
     fn listen(&mut self, peers: Peers) -> PoolHappened
         // Only those are let in that may call.
@@ -245,7 +264,8 @@ impl<R: Host> PeerSockets<'_, R> {
         Ok(at)
     }
 
-    /// Waits until a session ends or, where there is room for it, a peer comes that is let in. Others who call are closed.
+    /// Waits until a session ends or, where there is room for it, a peer comes that is let in. Others who call are closed. Where
+    /// no more are to be let in nobody listens any longer.
     fn wait(&mut self, has_room: bool) -> PoolHappened
         // The peer that has come may call from where it does, and there is room for it.
         ensures admitted { LetsAdmittedIn self.old.keeper.from self.new.peer result }
@@ -254,6 +274,10 @@ impl<R: Host> PeerSockets<'_, R> {
         for _ in self.rt.forever() {
             if let Ok(how) = self.entrance.ends.try_recv(self.rt) {
                 return PoolHappened::Left(how);
+            }
+            if is_asked(&self.entrance.drain) {
+                self.listening = None;
+                return PoolHappened::AllCame;
             }
             match self.look(has_room) {
                 Look::Happened(happened) => return happened,
@@ -299,7 +323,7 @@ impl<R: Host> PeerSockets<'_, R> {
     }
 
     /// Waits for who knocks or leaves, and only for a while where one could not be let in.
-    fn sleep(&mut self) -> io::Result<()>
+    fn sleep(&mut self) -> Result<(), NoEvents>
         ensures { self.new.keeper ≡ self.old.keeper }
     {
         let is_full = match &self.listening {
@@ -316,6 +340,25 @@ impl<R: Host> PeerSockets<'_, R> {
             Ok(how) => PoolHappened::Left(how),
             Err(_) => PoolHappened::NobodyComes(None),
         }
+    }
+
+    /// Has a thread made for a session with the peer that came.
+    fn begin(&mut self, session: Session) -> PoolHappened {
+        let Some(peer) = self.peer.take() else {
+            return PoolHappened::Failed(None);
+        };
+        let job = PeerJob { peer, session };
+        if self.entrance.starter.start(self.rt, job) {
+            self.is_begun = true;
+            PoolHappened::Started
+        } else {
+            PoolHappened::Failed(Some(Reason::NoThread))
+        }
+    }
+
+    /// No more sessions begin.
+    pub(crate) fn finish(&mut self) {
+        self.entrance.starter.finish();
     }
 
     /// Lets the thread begin that waits for that.
@@ -347,31 +390,20 @@ pub(crate) fn refused(listening: &mut Listening) -> Option<PoolHappened>
     }
 }
 
-impl<R: Host, T, L: Lines<T>, F: FnMut(Peer, Session) -> bool> PoolWorld<T, L>
-    for PeerThreads<'_, R, F> {
+impl<R: Host, T, L: Lines<T>> PoolWorld<T, L> for PeerSockets<'_, R> {
     ghost log = { λ _. None };
 
-    ghost may = { λ w. F.IsAlwaysCallable w.start };
+    ghost may = { λ _. ⊤ };
 
     fn perform(&mut self, deed: PoolDeed, _lines: &mut T) -> PoolHappened {
-        self.sockets.release();
+        self.release();
         match deed {
-            PoolDeed::ListenForPeers(peers) => self.sockets.listen(peers),
-            PoolDeed::Start(session) => {
-                let Some(peer) = self.sockets.peer.take() else {
-                    return PoolHappened::Failed(None);
-                };
-                if (self.start)(peer, session) {
-                    self.sockets.is_begun = true;
-                    PoolHappened::Started
-                } else {
-                    PoolHappened::Failed(Some(Reason::NoThread))
-                }
-            }
-            PoolDeed::Await => self.sockets.wait(true),
-            PoolDeed::RefusePeers => self.sockets.wait(false),
-            PoolDeed::AwaitLeaving => self.sockets.wait_for_leaving(),
-            PoolDeed::Pause(seconds) => self.sockets.pause(seconds),
+            PoolDeed::ListenForPeers(peers) => self.listen(peers),
+            PoolDeed::Start(session) => self.begin(session),
+            PoolDeed::Await => self.wait(true),
+            PoolDeed::RefusePeers => self.wait(false),
+            PoolDeed::AwaitLeaving => self.wait_for_leaving(),
+            PoolDeed::Pause(seconds) => self.pause(seconds),
             PoolDeed::ListenForUsers(_) | PoolDeed::Call(_) => PoolHappened::Failed(None),
             PoolDeed::PlaceUser | PoolDeed::CloseLinks | PoolDeed::End(_) => PoolHappened::Done,
         }

@@ -4,19 +4,19 @@
 
 ghost use Rattle.std.specs.Prelude.{ℕ, List, Option, Some, ◌≡◌, false, true};
 ghost use Rattle.std.specs.Io.KnownBytes.{Keeps};
-ghost use Rattle.ymx_policy.specs.Endings.{EndsAlone, EndsAt, EndsBy, EndsSo, EndsTogether, is_watched_at, unwatched_words};
-ghost use Rattle.ymx_policy.specs.Plans.{has_pool, is_called, terms_of};
+ghost use Rattle.ymx_policy.specs.Endings.{EndsAlone, EndsBy, EndsSo, EndsTogether, is_watched_at, unwatched_words};
+ghost use Rattle.ymx_policy.specs.Plans.{has_pool, terms_of};
 
 use crate::drain::Drain;
 use crate::end::EndSockets;
 use crate::host::Host;
 use crate::links::{LinkSockets, new_links};
 use crate::notices::{Notices, ProgramWatcher};
-use crate::peers::{new_lobby, run_peers};
+use crate::peers::{PeerSockets, new_peers};
 use crate::shared::Shared;
 use crate::starting::StartFault;
 use crate::status::{Board, new_page};
-use crate::voices::{Aside, Muted, OutletErrors, OutletLines, Unbegun, Unheard, WatcherLines};
+use crate::voices::{Aside, OutletErrors, OutletLines, Unbegun, Unheard, WatcherLines};
 use crate::watching::Unwatched;
 use std::alloc::Global;
 use std::net::SocketAddrV4;
@@ -143,7 +143,7 @@ fn run_watched<R: Host + Threads + Sync, E: Outlet + Send, L: Outlet + Send>(
     ensures silent { (terms_of plan).is_verbose ≡ false → result ≡ 0 → Keeps (L.contents lines.old) (L.contents lines.new) }
 {
     let Place { rt, alloc, address } = place;
-    match new_page(rt, alloc, address, can_drain(plan)) {
+    match new_page(rt, alloc, address, true) {
         Ok((page, board)) => {
             let mut page = page;
             let board = &board;
@@ -156,11 +156,6 @@ fn run_watched<R: Host + Threads + Sync, E: Outlet + Send, L: Outlet + Send>(
         }
         Err(fault) => say_unwatched(plan, address, fault.reason(), errors, lines),
     }
-}
-
-/// Whether it can be asked to take no more connections: a `local` can.
-fn can_drain(plan: Plan) -> bool {
-    matches!(plan, Plan::Local(_))
 }
 
 /// Runs the end or the pool of this plan, and counts what happens.
@@ -300,7 +295,7 @@ fn run_end_told<R: Host, V: ProgramWatcher + Drop, E: Outlet>(
         drain,
     } = watch;
     let mut watcher = watcher;
-    let mut sockets = EndSockets::new(rt, alloc, drain);
+    let mut sockets = EndSockets::new(rt, alloc, plan, drain);
     run::<_, _, WatcherLines, _, _, OutletErrors>(rt, plan, &mut sockets, &mut watcher, errors)
 }
 
@@ -323,7 +318,7 @@ fn run_end_untold<R: Host, V: ProgramWatcher + Drop, E: Outlet, L: Outlet>(
         drain,
     } = watch;
     let mut sockets = Aside {
-        world: EndSockets::new(rt, alloc, drain),
+        world: EndSockets::new(rt, alloc, plan, drain),
         watcher,
     };
     run::<_, _, OutletLines, _, _, OutletErrors>(rt, plan, &mut sockets, lines, errors)
@@ -331,82 +326,116 @@ fn run_end_untold<R: Host, V: ProgramWatcher + Drop, E: Outlet, L: Outlet>(
 
 // ---- many peers
 
-/// Runs a `remote` that serves many peers at once, and tells this watcher.
-fn run_peers_told<R: Host + Threads + Sync, V: ProgramWatcher + Send + Drop, E: Outlet>(
+/// Runs a `remote` that serves many peers at once, each in a thread of its own, and tells this watcher.
+fn run_peers_told<R: Host + Threads + Sync, V: ProgramWatcher + Send + Drop, E: Outlet + Send>(
     rt: &R,
     watch: Watch<V>,
     options: RemoteOptions,
     errors: &mut E,
 ) -> u8
-    requires awaited { is_called options.peer ≡ false }
-    requires told { options.is_verbose ≡ true }
+    requires { options.is_verbose ≡ true }
     ensures ended { (lines lines_new : Option (List ℕ)) (unwritten unwritten_new : ℕ) →
         EndsTogether (terms_of (Plan.Remote options)) result (E.contents errors.old) (E.contents errors.new) (E.failures errors.old) (E.failures errors.new) lines lines_new unwritten unwritten_new }
     ensures good { result ≡ 0 → Keeps (E.contents errors.old) (E.contents errors.new) }
 {
-    let alloc = watch.alloc;
-    let watcher = Mutex::new(watch.watcher);
-    let mut lines = Shared {
-        rt,
-        watcher: &watcher,
-    };
-    run_peer_pool::<_, _, _, WatcherLines, _>(rt, alloc, options, &watcher, &mut lines, errors)
+    let Watch {
+        alloc,
+        watcher,
+        drain,
+    } = watch;
+    let watcher = Mutex::new(watcher);
+    let watcher = &watcher;
+    let plan = Plan::Remote(options);
+    match new_peers(rt, alloc, address_of(options.peer), drain) {
+        Ok((sockets, lobby)) => {
+            let mut sockets = sockets;
+            let ((), status) = join_mut(
+                rt,
+                &mut || lobby.run(rt, watcher),
+                &mut || run_peer_pool_told(rt, plan, &mut sockets, watcher, errors),
+            );
+            status
+        }
+        Err(fault) => {
+            let mut lines = Shared { rt, watcher };
+            run_unbegun::<_, _, WatcherLines, _>(rt, plan, fault, &mut lines, errors)
+        }
+    }
 }
 
-/// Runs a `remote` that serves many peers at once, of whose connections only this watcher hears.
+/// Runs the pool of peers, and lets the thread end that starts theirs.
+fn run_peer_pool_told<R: Host, V: ProgramWatcher, E: Outlet>(
+    rt: &R,
+    plan: Plan,
+    sockets: &mut PeerSockets<'_, R>,
+    watcher: &Mutex<V>,
+    errors: &mut E,
+) -> u8
+    requires { (terms_of plan).is_verbose ≡ true }
+    ensures ended { (lines lines_new : Option (List ℕ)) (unwritten unwritten_new : ℕ) →
+        EndsTogether (terms_of plan) result (E.contents errors.old) (E.contents errors.new) (E.failures errors.old) (E.failures errors.new) lines lines_new unwritten unwritten_new }
+    ensures good { result ≡ 0 → Keeps (E.contents errors.old) (E.contents errors.new) }
+{
+    let mut lines = Shared { rt, watcher };
+    let status = run_pool::<_, _, WatcherLines, _, _, OutletErrors>(
+        rt, plan, sockets, &mut lines, errors,
+    );
+    sockets.finish();
+    status
+}
+
+/// Runs a `remote` that serves many peers at once, each in a thread of its own, of whose connections only this watcher hears.
 fn run_peers_untold<
     R: Host + Threads + Sync,
     V: ProgramWatcher + Send + Drop,
-    E: Outlet,
-    L: Outlet,
+    E: Outlet + Send,
+    L: Outlet + Send,
 >(rt: &R, watch: Watch<V>, options: RemoteOptions, lines: &mut L, errors: &mut E) -> u8
-    requires awaited { is_called options.peer ≡ false }
-    requires untold { options.is_verbose ≡ false }
+    requires { options.is_verbose ≡ false }
     ensures ended { EndsTogether (terms_of (Plan.Remote options)) result (E.contents errors.old) (E.contents errors.new) (E.failures errors.old) (E.failures errors.new) (L.contents lines.old) (L.contents lines.new) (L.failures lines.old) (L.failures lines.new) }
     ensures good { result ≡ 0 → Keeps (E.contents errors.old) (E.contents errors.new) }
     ensures silent { result ≡ 0 → Keeps (L.contents lines.old) (L.contents lines.new) }
 {
-    let alloc = watch.alloc;
-    let watcher = Mutex::new(watch.watcher);
-    run_peer_pool::<_, _, _, OutletLines, _>(rt, alloc, options, &watcher, lines, errors)
+    let Watch {
+        alloc,
+        watcher,
+        drain,
+    } = watch;
+    let watcher = Mutex::new(watcher);
+    let watcher = &watcher;
+    let plan = Plan::Remote(options);
+    match new_peers(rt, alloc, address_of(options.peer), drain) {
+        Ok((sockets, lobby)) => {
+            let mut sockets = sockets;
+            let ((), status) = join_mut(
+                rt,
+                &mut || lobby.run(rt, watcher),
+                &mut || run_peer_pool_untold(rt, plan, &mut sockets, lines, errors),
+            );
+            status
+        }
+        Err(fault) => run_unbegun::<_, _, OutletLines, _>(rt, plan, fault, lines, errors),
+    }
 }
 
-/// Runs a `remote` that serves many peers at once. With `--keep` it says each fault as it comes, and without at its end; so
-/// it tells their reasons.
-fn run_peer_pool<
-    R: Host + Threads + Sync,
-    V: ProgramWatcher + Send + Drop,
-    T,
-    L: Lines<T>,
-    E: Outlet,
->(
+/// Runs the pool of peers, and lets the thread end that starts theirs.
+fn run_peer_pool_untold<R: Host, E: Outlet, L: Outlet>(
     rt: &R,
-    alloc: Global,
-    options: RemoteOptions,
-    watcher: &Mutex<V>,
-    lines: &mut T,
+    plan: Plan,
+    sockets: &mut PeerSockets<'_, R>,
+    lines: &mut L,
     errors: &mut E,
 ) -> u8
-    requires { is_called options.peer ≡ false }
-    ensures { EndsTogether (terms_of (Plan.Remote options)) result (E.contents errors.old) (E.contents errors.new) (E.failures errors.old) (E.failures errors.new) (L.contents lines.old) (L.contents lines.new) (L.failures lines.old) (L.failures lines.new) }
+    requires { (terms_of plan).is_verbose ≡ false }
+    ensures ended { EndsTogether (terms_of plan) result (E.contents errors.old) (E.contents errors.new) (E.failures errors.old) (E.failures errors.new) (L.contents lines.old) (L.contents lines.new) (L.failures lines.old) (L.failures lines.new) }
+    ensures good { result ≡ 0 → Keeps (E.contents errors.old) (E.contents errors.new) }
+    ensures silent { result ≡ 0 → Keeps (L.contents lines.old) (L.contents lines.new) }
 {
-    let plan = Plan::Remote(options);
-    let pool = match new_lobby(rt, alloc, address_of(options.peer)) {
-        Ok(pool) => pool,
-        Err(fault) => return run_unbegun::<_, _, L, _>(rt, plan, fault, lines, errors),
-    };
-    if options.is_kept {
-        let end = run_peers::<_, _, T, L, _, OutletErrors>(rt, pool, plan, watcher, lines, errors);
-        return conclude::<_, L, _>(plan, end, lines, errors);
-    }
-    if options.is_verbose {
-        let end = run_peers::<_, _, T, L, _, Muted>(rt, pool, plan, watcher, lines, &mut Muted);
-        return conclude::<_, L, _>(plan, end, lines, errors);
-    }
-    let end = run_peers::<_, _, Muted, Muted, _, Muted>(
-        rt, pool, plan, watcher, &mut Muted, &mut Muted,
+    let status = run_pool::<_, _, OutletLines, _, _, OutletErrors>(
+        rt, plan, sockets, lines, errors,
     );
-    conclude::<_, L, _>(plan, end, lines, errors)
+    sockets.finish();
+    status
 }
 
 /// The address itself.
@@ -414,19 +443,6 @@ fn address_of(peer: PeerAddress) -> SocketAddrV4 {
     match peer {
         PeerAddress::Connect(address) | PeerAddress::Listen(address) => address,
     }
-}
-
-/// Says the last words of a pool of peers. Answers the exit status.
-fn conclude<T, L: Lines<T>, E: Outlet>(
-    plan: Plan,
-    end: PoolEnd,
-    lines: &mut T,
-    errors: &mut E,
-) -> u8
-    requires { EndsAt (terms_of plan) end.status end.words }
-    ensures { EndsTogether (terms_of plan) result (E.contents errors.old) (E.contents errors.new) (E.failures errors.old) (E.failures errors.new) (L.contents lines.old) (L.contents lines.new) (L.failures lines.old) (L.failures lines.new) }
-{
-    end.conclude::<T, L, _, OutletErrors>(plan, lines, errors)
 }
 
 /// Runs a pool that can't begin, for this.

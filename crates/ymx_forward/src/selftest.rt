@@ -98,6 +98,8 @@ pub fn run_selftest<R: Host + Threads + Sync, W: Outlet + Send, E: Outlet>(
     // At a good end the writer took all three lines, and nothing is said.
     ensures good { IsSome result → Keeps (E.contents errors.old) (E.contents errors.new) }
     ensures done { IsSome result → Appends (W.contents writer.old) (W.contents writer.new) echo_lines }
+    // At any end it took the first of them, in their order, and nothing else.
+    ensures lines { FirstArePrinted (W.contents writer.old) (W.contents writer.new) (W.failures writer.old) (W.failures writer.new) }
 {
     let Some((addresses, owned)) = prepare(rt) else {
         say(errors, fault_text(Fault::CannotListen(any_port())).as_str());
@@ -131,6 +133,7 @@ fn run_all<R: Host + Threads + Sync, W: Outlet + Send>(
     writer: &mut W,
 ) -> Result<AllEchoed, Stop>
     ensures done { OnOk result (Appends (W.contents writer.old) (W.contents writer.new) echo_lines) }
+    ensures lines { FirstArePrinted (W.contents writer.old) (W.contents writer.new) (W.failures writer.old) (W.failures writer.new) }
 {
     let (sender, receiver) = match bounded::<Echoed, Global>(alloc, WAITING_RESULTS) {
         Ok(ends) => ends,
@@ -142,7 +145,10 @@ fn run_all<R: Host + Threads + Sync, W: Outlet + Send>(
     };
     let (printed, ()) = join_mut(
         rt,
-        &mut || print_all(rt, &receiver, writer),
+        &mut ||
+            ensures done { OnOk result (Appends (W.contents writer.entry.now) (W.contents writer.exit.now) echo_lines) }
+            ensures lines { FirstArePrinted (W.contents writer.entry.now) (W.contents writer.exit.now) (W.failures writer.entry.now) (W.failures writer.exit.now) }
+        { print_all(rt, &receiver, writer) },
         &mut || trial.run(rt, alloc),
     );
     printed
@@ -338,7 +344,7 @@ fn run_session<R: Host>(
     let Ok(peer) = Peer::over(connection) else {
         return;
     };
-    if let Some(mut end) = TunnelEnd::for_session(end, session) {
+    if let Ok(mut end) = TunnelEnd::for_session(end, session) {
         let _ = site.serve(&mut end, peer, session, &mut Unwatched);
     }
 }

@@ -1,5 +1,7 @@
 //! Who is told of what several threads do.
 
+ghost use Rattle.std.specs.Prelude.{None};
+
 use crate::notices::ProgramWatcher;
 use crate::system::TcpConnection;
 use crate::watching::{Declined, EndedConnection, Origin, Watcher};
@@ -14,6 +16,8 @@ pub(crate) struct Shared<'a, R: Wait, V: ProgramWatcher> {
 }
 
 impl<R: Wait, V: ProgramWatcher> Watcher for Shared<'_, R, V> {
+    ghost counts = { λ _. None };
+
     fn begins(&mut self, from: &TcpConnection) -> Origin {
         let mut watcher = self.watcher.lock(self.rt);
         watcher.begins(from)

@@ -1,6 +1,8 @@
 //! How long a peer has been silent.
 
-ghost use Rattle.std.specs.Prelude.{◌≡◌, false, true};
+ghost use Rattle.std.specs.Prelude.{◌≡◌, ◌+◌, ◌≤◌, false, true};
+ghost use Rattle.std.specs.Duration.{as_nanos};
+ghost use Rattle.std.specs.declared.time.Duration.{Duration as DurationValue};
 ghost use Rattle.ymx_forward.specs.Signs.{is_sign};
 
 use std::time::{Clock, Duration, Instant};
@@ -62,7 +64,9 @@ impl Silence {
     }
 
     /// It was asked for a sign, and has as long again.
-    pub(crate) fn note_asked<R: Clock>(&mut self, rt: &R) {
+    pub(crate) fn note_asked<R: Clock>(&mut self, rt: &R)
+        ensures { self.new.was_asked ≡ true }
+    {
         self.was_asked = true;
         self.begin(rt);
     }
@@ -77,7 +81,9 @@ impl Silence {
     }
 
     /// What is due now. Where the clock can't be read, nothing is.
-    pub(crate) fn due<R: Clock>(&self, rt: &R) -> Due {
+    pub(crate) fn due<R: Clock>(&self, rt: &R) -> Due
+        ensures { result ≡ Due.Loss → self.now.was_asked ≡ true }
+    {
         match self.since.elapsed(rt) {
             Ok(passed) => due_after(self.patience, passed, self.was_asked),
             Err(_) => Due::In(self.patience),
@@ -98,7 +104,9 @@ pub(crate) fn is_sign(before: u64, bytes: u64, unframed: Option<usize>) -> bool
 
 /// What is due after so long a silence. A loss only behind a sign that was asked for.
 fn due_after(patience: Duration, passed: Duration, was_asked: bool) -> Due
-    ensures asked { result ≡ Due.Loss → was_asked ≡ true }
+    ensures left { (left : DurationValue) → result ≡ Due.In left → as_nanos left + as_nanos passed ≡ as_nanos patience }
+    ensures ping { result ≡ Due.Ping → (was_asked ≡ false) × (as_nanos patience ≤ as_nanos passed) }
+    ensures loss { result ≡ Due.Loss → (was_asked ≡ true) × (as_nanos patience ≤ as_nanos passed) }
 {
     match patience.checked_sub(passed) {
         Some(left) if left > Duration::ZERO => Due::In(left),

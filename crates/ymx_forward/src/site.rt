@@ -1,14 +1,15 @@
 //! Where an end runs its sessions: its runtime, its allocator, and the poll that tells it of events.
 
-ghost use Rattle.std.specs.Prelude.{◌≡◌, ◌||◌, true};
+ghost use Rattle.std.specs.Prelude.{◌≡◌, ◌||◌, IfOk, true};
+ghost use Rattle.ymx_forward.specs.Counts.{CountsOne};
 ghost use Rattle.ymx_forward.specs.Sessions.{Serves};
 
 use crate::closing::close;
 use crate::peer::Peer;
 use crate::socket::Socket;
 use crate::starting::StartFault;
-use crate::system::Poll;
-use crate::tunnel::{Served, TunnelLoop, wire_of};
+use crate::system::{NoEvents, Poll};
+use crate::tunnel::{Served, TunnelLoop, Unserved, wire_of};
 use crate::tunnel_end::{RETRY, TunnelEnd};
 use crate::watching::Watcher;
 use std::alloc::Global;
@@ -28,19 +29,37 @@ pub(crate) struct Site<'a, R> {
     pub(crate) rt: &'a R,
     pub(crate) alloc: Global,
     pub(crate) poll: Poll,
+    /// How many sessions it has served. It stays at the greatest `u64`.
+    sessions: u64,
 }
 
 impl<'a, R: Net> Site<'a, R> {
     /// A place with a poll of its own.
-    pub(crate) fn new(rt: &'a R, alloc: Global) -> Result<Site<'a, R>, StartFault> {
+    pub(crate) fn new(rt: &'a R, alloc: Global) -> Result<Site<'a, R>, StartFault>
+        ensures { IfOk result (λ site. site.sessions ≡ 0) }
+    {
         let poll = Poll::new(rt, alloc)?;
-        Ok(Site { rt, alloc, poll })
+        Ok(Site::over(rt, alloc, poll))
     }
 }
 
-impl<R> Site<'_, R> {
+impl<'a, R> Site<'a, R> {
+    /// A place with this poll.
+    pub(crate) fn over(rt: &'a R, alloc: Global, poll: Poll) -> Site<'a, R>
+        ensures { result.sessions ≡ 0 }
+    {
+        Site {
+            rt,
+            alloc,
+            poll,
+            sessions: 0,
+        }
+    }
+
     /// Waits for events, and where a listener is full only for a while.
-    pub(crate) fn wait(&mut self, is_full: bool) -> io::Result<()> {
+    pub(crate) fn wait(&mut self, is_full: bool) -> Result<(), NoEvents>
+        ensures { self.new.sessions ≡ self.old.sessions }
+    {
         self.poll
             .wait(is_full.then_some(Duration::from_secs(RETRY)))
     }
@@ -63,8 +82,12 @@ impl<R: Net + Clock + Wait> Site<'_, R> {
     ) -> Served
         // Its end was made for this session, and this session is the one that ended.
         requires { Serves session end.old }
-        ensures { result.session ≡ session }
+        ensures session { result.session ≡ session }
+        // It is the one that is counted now.
+        ensures number { result.number ≡ self.new.sessions }
+        ensures counted { CountsOne self.old.sessions self.new.sessions }
     {
+        self.sessions = self.sessions.saturating_add(1);
         let began = Instant::now(self.rt);
         let address = peer.address();
         end.note_all();
@@ -76,8 +99,10 @@ impl<R: Net + Clock + Wait> Site<'_, R> {
         }
         watcher.peer(true);
         let mut served = match wire_of(peer, &self.poll) {
-            Some(wire) => self.run(end, wire, session, watcher),
-            None => Served::unbegun(session, unwatched()),
+            Ok(wire) => self.run(end, wire, session, watcher),
+            Err(refused) => {
+                Served::unbegun(session, self.sessions, Unserved::Unwatched(refused))
+            }
         };
         watcher.peer(false);
         served.note(self.has_lasted(began), address);
@@ -93,15 +118,18 @@ impl<R: Net + Clock + Wait> Site<'_, R> {
         watcher: &mut V,
     ) -> Served
         requires { Serves session end.old }
-        ensures { result.session ≡ session }
+        ensures session { result.session ≡ session }
+        ensures number { result.number ≡ self.new.sessions }
+        ensures kept { self.new.sessions ≡ self.old.sessions }
     {
-        let limit = end.limits.close;
-        let mut tunnel = match TunnelLoop::new(self.alloc, wire, end, session.window) {
+        let number = self.sessions;
+        let mut tunnel = match TunnelLoop::new(self.alloc, wire, end, session.window, number) {
             Ok(tunnel) => tunnel,
-            Err(fault) => return Served::unbegun(session, unbegun(fault)),
+            Err(fault) => return Served::unbegun(session, number, Unserved::Unmade(fault)),
         };
         let served = tunnel.serve(self.rt, &mut self.poll, watcher, session);
         let mut wire = tunnel.into_wire();
+        let limit = end.close_limit();
         close(
             self.rt,
             &mut self.poll,
@@ -123,13 +151,13 @@ impl<R: Net + Clock + Wait> Site<'_, R> {
     }
 }
 
-/// How a session ended that could not begin.
-fn unbegun(fault: NewFault) -> SessionEnd
+/// How a session ended of which nothing was done, for this.
+pub(crate) fn unserved(why: &Unserved) -> SessionEnd
     ensures { (result.is_unwatched || result.lacked_memory) ≡ true }
 {
-    match fault {
-        NewFault::OutOfMemory(_) => lacking(),
-        _ => unwatched(),
+    match why {
+        Unserved::Unmade(NewFault::OutOfMemory(_)) => lacking(),
+        Unserved::Unmade(_) | Unserved::Unwatched(_) | Unserved::NoEnd(_) => unwatched(),
     }
 }
 
@@ -143,6 +171,7 @@ pub(crate) fn well() -> SessionEnd {
         lacked_memory: false,
         is_unwatched: false,
         has_lasted: false,
+        is_peer_away: false,
     }
 }
 
@@ -156,7 +185,7 @@ fn lacking() -> SessionEnd
 }
 
 /// How a session ended of which nothing was done, as the system refused to watch the peer.
-pub(crate) fn unwatched() -> SessionEnd
+fn unwatched() -> SessionEnd
     ensures { result.is_unwatched ≡ true }
 {
     let mut how = well();

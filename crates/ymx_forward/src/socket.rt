@@ -9,7 +9,7 @@ ghost use Rattle.ymx_engine.specs.declared.device.Pulled.TheVariants as Pulled;
 ghost use Rattle.ymx_forward.specs.declared.socket.ConnectState.TheVariants as ConnectState;
 
 use crate::stream::Stream;
-use crate::system::{Poll, TcpConnection};
+use crate::system::{NoEvents, Poll, TcpConnection};
 use crate::watching::Origin;
 use std::io;
 use std::io::{ErrorKind, IoSlice};
@@ -143,14 +143,16 @@ pub(crate) struct Socket<S: Stream = TcpConnection> {
 impl<S: Stream + Drop> Socket<S> {
     /// A connection that is there, and never waits. It may be used at once.
     pub(crate) fn connected(socket: S, origin: Origin) -> Socket<S>
-        ensures { result.is_wire ≡ false }
+        ensures wire { result.is_wire ≡ false }
+        ensures socket { result.socket ≡ socket }
     {
         Socket::new(socket, origin, ConnectState::Connected, true)
     }
 
     /// The connection of a session, which is there, and never waits. It may be used at once.
     pub(crate) fn wire(socket: S) -> Socket<S>
-        ensures { result.is_wire ≡ true }
+        ensures wire { result.is_wire ≡ true }
+        ensures socket { result.socket ≡ socket }
     {
         let mut wire = Socket::connected(socket, Origin::untold());
         wire.is_wire = true;
@@ -170,7 +172,8 @@ impl<S: Stream + Drop> Socket<S> {
 
     /// One of which nothing was moved. `is_ready` says whether it may be used at once.
     fn new(socket: S, origin: Origin, state: ConnectState, is_ready: bool) -> Socket<S>
-        ensures { result.is_wire ≡ false }
+        ensures wire { result.is_wire ≡ false }
+        ensures socket { result.socket ≡ socket }
     {
         Socket {
             origin,
@@ -204,27 +207,49 @@ impl<S: Stream + Drop> Socket<S> {
         ensures once { result ≡ true → S.registered self.old.socket ≡ false }
         ensures asked { S.registered self.new.socket ≡ true }
         ensures stays { self.new.is_wire ≡ self.old.is_wire }
+        // It is asked under this token.
+        ensures told { result ≡ true → S.told_under self.new.socket ≡ option_map (λ _. token) (S.told_under self.old.socket) }
     {
-        !self.socket.is_registered() && self.socket.register(poll, token)
+        !self.socket.is_registered() && self.watch(poll, token).is_ok()
+    }
+
+    /// From now on this poll tells of it under this token. The fault is that the system refuses.
+    pub(crate) fn watch(&mut self, poll: &Poll, token: usize) -> Result<(), NoEvents>
+        requires once { S.registered self.old.socket ≡ false }
+        ensures kept { ⟦<Socket<S> as Device>⟧.seen self.new ≡ ⟦<Socket<S> as Device>⟧.seen self.old }
+        ensures asked { S.registered self.new.socket ≡ true }
+        ensures stays { self.new.is_wire ≡ self.old.is_wire }
+        // It is asked under this token.
+        ensures told { S.told_under self.new.socket ≡ option_map (λ _. token) (S.told_under self.old.socket) }
+    {
+        self.socket.register(poll, token)
     }
 
     /// How many bytes it has given. It stays at the greatest `u64`.
-    pub(crate) fn pulled(&self) -> u64 {
+    pub(crate) fn pulled(&self) -> u64
+        ensures { result ≡ self.now.traffic.pulled }
+    {
         self.traffic.pulled
     }
 
     /// How many bytes it has taken. It stays at the greatest `u64`.
-    pub(crate) fn pushed(&self) -> u64 {
+    pub(crate) fn pushed(&self) -> u64
+        ensures { result ≡ self.now.traffic.pushed }
+    {
         self.traffic.pushed
     }
 
     /// What was first the matter with it.
-    pub(crate) fn fault(&self) -> Option<SocketFault> {
+    pub(crate) fn fault(&self) -> Option<SocketFault>
+        ensures { result ≡ self.now.failure }
+    {
         self.failure
     }
 
     /// Why it failed. None if it didn't, or the system doesn't say.
-    pub(crate) fn reason(&self) -> Option<Reason> {
+    pub(crate) fn reason(&self) -> Option<Reason>
+        ensures { result ≡ self.now.reason }
+    {
         self.reason
     }
 

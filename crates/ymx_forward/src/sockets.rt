@@ -3,11 +3,12 @@
 ghost use Rattle.std.specs.Prelude.{◌≡◌, IfOk};
 ghost use Rattle.ymx_forward.specs.Doors.{MayCall};
 
+use crate::accepting::Listening;
 use crate::doorkeeper::{Caller, Doorkeeper};
 use crate::peer::Peer;
-use crate::starting::failed;
+use crate::site::Site;
 use crate::system;
-use crate::system::{TcpConnection, address_of, listen, send_at_once};
+use crate::system::{address_of, listen, send_at_once};
 use std::io;
 use std::io::ErrorKind;
 use std::net::{Net, SocketAddr, SocketAddrV4, TcpListener, TcpStream};
@@ -41,27 +42,40 @@ pub(crate) fn listen_at<R: Net<Stream = TcpStream, Listener = TcpListener>>(
     Ok((listener, at))
 }
 
-/// Waits until a peer calls that is let in, or somebody who is to be told to have been closed.
-pub(crate) fn accept_peer<R: Clock + Wait>(
-    rt: &R,
-    listener: &TcpListener,
+/// Waits until a peer calls that is let in, or somebody who is to be told to have been closed, or none is to come any more.
+pub(crate) fn await_caller<R: Clock + Wait>(
+    site: &mut Site<'_, R>,
+    callers: &mut Listening,
     keeper: &mut Doorkeeper,
 ) -> Result<Peer, Happened>
     ensures from { keeper.new.from ≡ keeper.old.from }
     // It may call from where it does.
     ensures admitted { IfOk result (MayCall keeper.old.from) }
 {
-    for _ in rt.forever() {
-        match accept(listener).and_then(TcpConnection::of) {
-            Ok(socket) => match keeper.judge(rt, socket) {
+    for _ in site.rt.forever() {
+        callers.note_event();
+        if let Some(socket) = callers.accept(site.rt, 0) {
+            match keeper.judge(site.rt, socket) {
                 Caller::Peer(peer) => return Ok(peer),
                 Caller::TurnedAway(from) => return Err(Happened::TurnedAway(from)),
                 Caller::Closed => {}
-            },
-            Err(error) => return Err(failed(&error)),
+            }
+        } else if callers.is_over() {
+            return Err(last_of(callers));
+        } else if site.wait(callers.is_full()).is_err() {
+            return Err(Happened::Failed(None));
         }
     }
     unreachable!()
+}
+
+/// Why no peers come any more.
+fn last_of(callers: &mut Listening) -> Happened {
+    if callers.has_failed() {
+        Happened::Failed(callers.take_refusal())
+    } else {
+        Happened::AllCame
+    }
 }
 
 /// Accepts one connection.

@@ -1,26 +1,24 @@
 //! The page of an end, served to who asks at an address of its own, beside the end and in a thread of its own. The first
 //! line of a request is read, up to 8,192 bytes, and within two seconds. One that is stuck holds up no other.
 
-ghost use Rattle.std.specs.Prelude.{◌≡◌, false};
+ghost use Rattle.std.specs.Prelude.{◌≡◌, false, is_some};
 
-use crate::counts::{Counted, Counters};
-use crate::drain::Drain;
+use crate::counted::{Counted, Counters};
+use crate::drain::{Asked, Drain};
 use crate::host::Host;
 use crate::notices::ProgramWatcher;
-use crate::page::Seen;
-use crate::requests::{Answer, answer_of};
 use crate::sockets::listen_at;
 use crate::starting::StartFault;
 use crate::stream::Stream;
-use crate::system::{Listener, Poll, TcpConnection, Waker};
+use crate::system::{Listener, NoEvents, Poll, TcpConnection, Waker};
 use std::alloc::Global;
 use std::collections::VecDeque;
-use std::io;
 use std::io::ErrorKind;
 use std::net::SocketAddrV4;
 use std::sync::atomic::{AtomicBool, Ordering};
 use std::sync::{Arc, Wait};
 use std::time::{Clock, Duration, Instant};
+use ymx_status::{Drainable, Known, RequestLine, Seen, heed};
 
 /// The token of the listener.
 const CALLERS: usize = 0;
@@ -33,9 +31,6 @@ const ASKING: usize = 2;
 
 /// How many are answered at once at most. Where one more comes, the oldest is closed.
 const AT_ONCE: usize = 16;
-
-/// How many bytes of a request are read at most.
-const REQUEST: usize = 8_192;
 
 /// How many bytes are read at once.
 const PART: usize = 1_024;
@@ -96,7 +91,7 @@ pub(crate) fn new_page<R: Host>(
     };
     let board = Board {
         alloc,
-        counters: Counters::new(alloc),
+        counters: Counters::new(),
         drain,
         has_ended: AtomicBool::new(false),
         waker,
@@ -120,6 +115,7 @@ impl Board {
         Counted {
             rt,
             counters: &self.counters,
+            known: Known::new(self.alloc),
             watcher,
         }
     }
@@ -128,16 +124,6 @@ impl Board {
     pub(crate) fn note_end(&self) {
         self.has_ended.store(true, Ordering::SeqCst);
         self.waker.wake();
-    }
-
-    /// What is answered to this, and done: an end that can be asked to take no more connections is.
-    fn heed<R: Wait>(&self, rt: &R, answer: Answer) -> Answer {
-        match (answer, &self.drain) {
-            (Answer::Drain, Some(drain)) => drain.ask(rt),
-            (Answer::Drain, None) => return Answer::NotFound,
-            _ => {}
-        }
-        answer
     }
 
     /// What is seen of the end.
@@ -152,6 +138,29 @@ impl Board {
             oldest,
             is_draining,
         }
+    }
+}
+
+/// Who asks an end to take no more connections, if it can be asked.
+#[derive(Drop)]
+struct Asker<'a, R: Wait> {
+    rt: &'a R,
+    drain: Option<&'a Arc<Drain, Global>>,
+    /// The end was asked.
+    asked: Option<Asked>,
+}
+
+impl<R: Wait> Drainable for Asker<'_, R> {
+    ghost can_drain = { λ a. is_some a.drain };
+
+    ghost is_asked = { λ a. is_some a.asked };
+
+    fn ask(&mut self) -> bool {
+        let Some(drain) = self.drain else {
+            return false;
+        };
+        self.asked = Some(drain.ask(self.rt));
+        true
     }
 }
 
@@ -176,7 +185,7 @@ impl Page {
     }
 
     /// Waits until something can be done, and where somebody is there not for long.
-    fn wait(&mut self) -> io::Result<()> {
+    fn wait(&mut self) -> Result<(), NoEvents> {
         let has_callers = !self.callers.is_empty();
         self.poll
             .wait(has_callers.then_some(Duration::from_secs(GLANCE)))
@@ -198,10 +207,10 @@ impl Page {
         requires { socket.is_registered ≡ false }
     {
         let mut socket = socket.to_peer();
-        if !socket.register(&self.poll, ASKING) {
+        if socket.register(&self.poll, ASKING).is_err() {
             return;
         }
-        let Ok(since) = Instant::now(rt) else {
+        let (Ok(since), Ok(line)) = (Instant::now(rt), RequestLine::new(self.alloc)) else {
             return;
         };
         if self.callers.len() >= AT_ONCE {
@@ -210,7 +219,7 @@ impl Page {
         let caller = Caller {
             socket,
             since,
-            line: Vec::new(self.alloc),
+            line,
             answer: None,
             written: 0,
             is_told: false,
@@ -239,7 +248,7 @@ struct Caller {
     /// When it came.
     since: Instant,
     /// What has come of the first line.
-    line: Vec<u8>,
+    line: RequestLine,
     /// What is to be answered, once that line is there.
     answer: Option<String>,
     /// How many bytes of the answer were taken.
@@ -297,7 +306,7 @@ impl Caller {
             match self.socket.read(&mut buffer) {
                 Ok(0) => return Step::Gone,
                 Ok(count) => {
-                    if self.hear(&buffer[..count]) {
+                    if self.line.hear(&buffer[..count]) {
                         return Step::Done;
                     }
                 }
@@ -308,23 +317,14 @@ impl Caller {
         Step::Waits
     }
 
-    /// Hears these bytes. Whether the line is there. One that is too long counts as an empty one.
-    fn hear(&mut self, bytes: &[u8]) -> bool {
-        for byte in bytes {
-            if *byte == b'\n' {
-                return true;
-            }
-            if self.line.len() >= REQUEST || self.line.push(*byte).is_err() {
-                self.line.clear();
-                return true;
-            }
-        }
-        false
-    }
-
     /// Decides on the answer.
     fn decide<R: Host>(&mut self, rt: &R, board: &Board) {
-        let answer = board.heed(rt, answer_of(self.line.as_slice()));
+        let mut asker = Asker {
+            rt,
+            drain: board.drain.as_ref(),
+            asked: None,
+        };
+        let answer = heed(self.line.bytes(), &mut asker);
         self.answer = answer.text(board.alloc, board.seen(rt)).ok();
     }
 

@@ -7,7 +7,7 @@ ghost use Rattle.std.specs.Io.{ReadsAtMost, WritesAtMost};
 ghost use Rattle.std.specs.Io.KnownBytes.{ReadConsumes, WriteAppends};
 ghost use Rattle.std.specs.Io.Slices.{io_slices_bytes};
 
-use crate::system::Poll;
+use crate::system::{NoEvents, Poll};
 use std::io;
 use std::io::IoSlice;
 use std::net::SocketAddr;
@@ -33,17 +33,21 @@ pub(crate) trait Stream {
     /// Whether a poll was asked to tell of it.
     ghost registered: { Self → Bool };
 
+    /// Under which token a poll was asked last to tell of it, where it can tell.
+    ghost told_under: { Self → Option ℕ };
+
     /// Whether a poll was asked to tell of it.
     fn is_registered(&self) -> bool
         ensures { result ≡ registered self.now };
 
-    /// From now on this poll tells under this token when it may give bytes or take some. False where the system refuses.
-    /// It is asked once.
-    fn register(&mut self, poll: &Poll, token: usize) -> bool
+    /// From now on this poll tells under this token when it may give bytes or take some. The fault is that the system
+    /// refuses. It is asked once.
+    fn register(&mut self, poll: &Poll, token: usize) -> Result<(), NoEvents>
         requires once { registered self.old ≡ false }
         ensures registered { registered self.new ≡ true }
         ensures bytes { (left self.new ≡ left self.old) × (had self.new ≡ had self.old) }
-        ensures open { (finished self.new ≡ finished self.old) × (closed self.new ≡ closed self.old) × (aborted self.new ≡ aborted self.old) };
+        ensures open { (finished self.new ≡ finished self.old) × (closed self.new ≡ closed self.old) × (aborted self.new ≡ aborted self.old) }
+        ensures told { told_under self.new ≡ option_map (λ _. token) (told_under self.old) };
 
     /// Reads once into the front of this buffer, and says how many bytes. None, and no fault, where no more come.
     fn read(&mut self, buffer: &mut [u8]) -> io::Result<usize>

@@ -8,11 +8,12 @@ ghost use Rattle.std.specs.Io.{ReadsAtMost};
 ghost use Rattle.std.specs.Slice.Iter.{iter_rest, iter_steps};
 ghost use Rattle.std.specs.Iterator.Runs.{EveryRun, ItemsMapTo};
 ghost use Rattle.mio.specs.declared.event.event.Event.{Event as SystemEvent};
-ghost use Rattle.mio.specs.Event.{event_token, is_readable, is_writable, is_error, is_read_closed};
 ghost use Rattle.mio.specs.Events.{items};
 ghost use Rattle.libc.specs.Net.{SockOption};
 ghost use Rattle.ymx_forward.specs.Counts.{CountsOne};
+ghost use Rattle.ymx_forward.specs.Events.{event_of};
 
+use crate::dialing::Dialer;
 use crate::starting::StartFault;
 use crate::stream::Stream;
 use libc::net as c;
@@ -32,6 +33,27 @@ const RETRIES: u32 = 1_000_000;
 
 /// How many connections may wait in the system to be accepted.
 const BACKLOG: i32 = 4_096;
+
+/// The system has refused to tell of events. Only a call that it refused makes one.
+#[derive(Drop)]
+pub(crate) struct NoEvents {
+    why: io::Error,
+}
+
+impl NoEvents {
+    /// What kind of error it was.
+    pub(crate) fn kind(&self) -> ErrorKind {
+        self.why.kind()
+    }
+}
+
+/// What the system answered, where it was asked to tell of events.
+fn told(answer: io::Result<()>) -> Result<(), NoEvents> {
+    match answer {
+        Ok(()) => Ok(()),
+        Err(why) => Err(NoEvents { why }),
+    }
+}
 
 // ---- connections that never wait
 
@@ -75,13 +97,6 @@ impl TcpConnection {
     {
         connection.set_nonblocking(true)?;
         Ok(TcpConnection::new(mio::net::TcpStream::from_std(connection)))
-    }
-
-    /// Begins to connect to this address.
-    pub(crate) fn begin<R: Net>(rt: &R, address: SocketAddr) -> io::Result<TcpConnection>
-        ensures { IfOk result (λ connection. connection.is_registered ≡ false) }
-    {
-        Ok(TcpConnection::new(mio::net::TcpStream::connect(rt, address)?))
     }
 
     fn new(inner: mio::net::TcpStream) -> TcpConnection
@@ -148,17 +163,17 @@ impl Stream for TcpConnection {
 
     ghost registered = { λ s. s.is_registered };
 
+    ghost told_under = { λ _. None };
+
     fn is_registered(&self) -> bool {
         self.is_registered
     }
 
-    fn register(&mut self, poll: &Poll, token: usize) -> bool {
+    fn register(&mut self, poll: &Poll, token: usize) -> Result<(), NoEvents> {
         self.is_registered = true;
         let both = Interest::READABLE | Interest::WRITABLE;
         let registry = poll.inner.registry();
-        registry
-            .register(&mut self.inner, Token(token), both)
-            .is_ok()
+        told(registry.register(&mut self.inner, Token(token), both))
     }
 
     fn peer(&self) -> Option<SocketAddr> {
@@ -208,6 +223,22 @@ impl Stream for TcpConnection {
     }
 }
 
+/// Connects by the system.
+#[derive(Drop)]
+pub(crate) struct SystemDialer<'a, R> {
+    pub(crate) rt: &'a R,
+}
+
+impl<R: Net> Dialer for SystemDialer<'_, R> {
+    ghost use Rattle.std.specs.Prelude.{None};
+
+    ghost called = { λ _. None };
+
+    fn begin(&mut self, address: SocketAddr) -> io::Result<TcpConnection> {
+        Ok(TcpConnection::new(mio::net::TcpStream::connect(self.rt, address)?))
+    }
+}
+
 /// Where connections come from, of which a poll tells. Its calls never wait. It is closed when it is dropped.
 #[derive(Drop)]
 pub(crate) struct Listener {
@@ -245,6 +276,8 @@ pub(crate) struct Poll {
     events: mio::Events,
     /// How often it has waited. It stays at the greatest `u64`.
     waits: u64,
+    /// How often events were taken, with a wait or without. It stays at the greatest `u64`.
+    looks: u64,
 }
 
 impl Poll {
@@ -254,22 +287,27 @@ impl Poll {
             events: mio::Events::with_capacity(alloc, EVENTS)?,
             inner: mio::Poll::new(rt)?,
             waits: 0,
+            looks: 0,
         })
     }
 
     /// Waits for events, and no longer than the limit, if there is one. They take the place of those that were there.
-    pub(crate) fn wait(&mut self, limit: Option<Duration>) -> io::Result<()>
-        ensures { CountsOne self.old.waits self.new.waits }
+    pub(crate) fn wait(&mut self, limit: Option<Duration>) -> Result<(), NoEvents>
+        ensures waits { CountsOne self.old.waits self.new.waits }
+        ensures looks { CountsOne self.old.looks self.new.looks }
     {
         self.waits = self.waits.saturating_add(1);
-        self.inner.poll(&mut self.events, limit)
+        self.looks = self.looks.saturating_add(1);
+        told(self.inner.poll(&mut self.events, limit))
     }
 
     /// Takes the events that are there, which take the place of those before. It doesn't wait.
-    pub(crate) fn look(&mut self) -> io::Result<()>
-        ensures { self.new.waits ≡ self.old.waits }
+    pub(crate) fn look(&mut self) -> Result<(), NoEvents>
+        ensures waits { self.new.waits ≡ self.old.waits }
+        ensures looks { CountsOne self.old.looks self.new.looks }
     {
-        self.inner.poll(&mut self.events, Some(Duration::ZERO))
+        self.looks = self.looks.saturating_add(1);
+        told(self.inner.poll(&mut self.events, Some(Duration::ZERO)))
     }
 
     /// Whether no event is there.
@@ -307,11 +345,7 @@ pub(crate) struct Event {
 impl Event {
     /// What this event of the system says.
     pub(crate) fn of(event: &mio::event::Event) -> Event
-        ensures token { result.token ≡ (event_token event.now).0 }
-        ensures readable { result.is_readable ≡ is_readable event.now }
-        ensures writable { result.is_writable ≡ is_writable event.now }
-        ensures read_closed { result.is_read_closed ≡ is_read_closed event.now }
-        ensures error { result.is_error ≡ is_error event.now }
+        ensures { result ≡ event_of event.now }
     {
         let Token(token) = event.token();
         Event {

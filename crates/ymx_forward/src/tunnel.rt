@@ -3,32 +3,40 @@
 //! All that moves is moved by calls of [`ymx_engine::Tunnel`], which owns the wire and the connections. Each function
 //! here that makes such calls says that they are all it did: `Runs`.
 
-ghost use Rattle.std.specs.Prelude.{◌≡◌, ◌⊎◌, ◌||◌, [], true, false, not, length, is_some, IfErr, IfOk, IfSome, IsSome, Some, None};
+ghost use Rattle.std.specs.Prelude.{◌≡◌, ◌⊎◌, ◌||◌, [], true, false, not, length, is_err, is_some, option_map, IfErr, IfOk, IfSome, IsSome, Some, None};
 ghost use Rattle.ymx_engine.specs.Runs.{Runs, IsOver};
 ghost use Rattle.ymx_engine.specs.Served.{Serving, NoneWaits, NoneGives, NoneEnds, NoneStops, NoneHangs};
 ghost use Rattle.ymx_engine.specs.Turns.{Line as LineValue, line_of};
 ghost use Rattle.ymx_engine.specs.Ways.{is_over};
 ghost use Rattle.ymx_engine.specs.Work.{HasRead, ServesOne, WorksOnce, Writes, has_work};
 ghost use Rattle.ymx_forward.specs.Counts.{CountsOne};
-ghost use Rattle.ymx_forward.specs.Loops.{NeedsEvents, WaitsInNeed, WasLost};
+ghost use Rattle.mio.specs.Events.{items};
+ghost use Rattle.ymx_forward.specs.Ended.{declined_for};
+ghost use Rattle.ymx_forward.specs.Events.{Hears, HearsAll, StreamHears, WireHears, readiness_of, token_of, wire_token};
+ghost use Rattle.ymx_forward.specs.Loops.{NeedsEvents, WaitsInNeed, WasLost, WorksBetween, has_task, side_is_over, stream_is_due};
+ghost use Rattle.ymx_forward.specs.declared.tunnel_end.Side.{Side as SideValue};
 ghost use Rattle.ymx_forward.specs.Signs.{is_sign};
-ghost use Rattle.ymx_engine.specs.Engines.{unframed};
-ghost use Rattle.ymx_forward.specs.Users.{IsStated, awaits_sign, can_open_later, has_no_place, is_followed, must_wait, user_is_due};
-ghost use Rattle.ymx_forward.specs.Sessions.{IsBegunFor, free_target, has_failed, rule_of};
+ghost use Rattle.ymx_engine.specs.Engines.{is_flushed, unframed};
+ghost use Rattle.ymx_forward.specs.Users.{IsStated, awaits_sign, can_open_later, has_no_place, is_followed, leaves_users, must_wait, user_is_due};
+ghost use Rattle.ymx_forward.specs.Offers.{BeginsFor, CallsTarget, EndsOffer, IsAnswered, NoneWaitsForPlace};
+ghost use Rattle.ymx_forward.specs.Sessions.{IsBegunFor, IsUnserved, free_target, has_failed, is_said, rule_of};
 ghost use Rattle.ymx_law_session.specs.Limits.{IsWithin};
 ghost use Rattle.ymx_forward.specs.Sides.{role_at};
 ghost use Rattle.ymx_model.specs.session.Sessions.{is_running, new_session};
-ghost use Rattle.ymx_session.specs.NewSessions.{first_id};
+ghost use Rattle.ymx_session.specs.NewSessions.{IsNewFault, first_id};
+ghost use Rattle.ymx_status.specs.Counts.{with_declined};
 
+use crate::dialing::Dialer;
 use crate::inbox::Places;
 use crate::peer::Peer;
 use crate::silence::{Due, Silence, is_sign, shorter};
+use crate::site::unserved;
 use crate::socket::Socket;
 use crate::stillness::Stillness;
 use crate::stream::Stream;
-use crate::system::{Event, Poll, TcpConnection};
-use crate::tunnel_end::{LISTENER, RETRY, Side, TunnelEnd};
-use crate::watching::{Declined, EndedConnection, Ending, Origin, Watcher};
+use crate::system::{Event, NoEvents, Poll, SystemDialer, TcpConnection};
+use crate::tunnel_end::{LISTENER, NoEnd, RETRY, Side, TunnelEnd};
+use crate::watching::{Declined, EndedConnection, Ending, Origin, Watcher, ended_connection};
 use std::alloc::Global;
 use std::io;
 use std::net::{Net, SocketAddr, SocketAddrV4};
@@ -80,11 +88,15 @@ struct Tokens<'a> {
 }
 
 impl<S: Stream + Drop> Registry<Socket<S>> for Tokens<'_> {
-    ghost use Rattle.std.specs.Prelude.{None};
+    ghost use Rattle.std.specs.Prelude.{None, option_map};
 
     ghost told = { λ _. None };
 
-    fn register(&mut self, id: u32, device: &mut Socket<S>) -> bool {
+    fn register(&mut self, id: u32, device: &mut Socket<S>) -> bool
+        ensures seen { ⟦<Socket<S> as Device>⟧.seen device.new ≡ ⟦<Socket<S> as Device>⟧.seen device.old }
+        // The poll is asked to tell of it under its stream's token.
+        ensures under { result ≡ true → S.told_under device.new.socket ≡ option_map (λ _. token_of id) (S.told_under device.old.socket) }
+    {
         device.register(self.poll, (id as usize) + STREAMS)
     }
 }
@@ -98,36 +110,55 @@ pub struct Finished {
     was_left: bool,
 }
 
-/// How a session ended that was asked for. [`TunnelLoop::serve`] makes one where the session ran, and nothing else does: so who
-/// has one of a session that ended well has run a loop that was begun for it.
+/// Why no loop of a session came to its end. What it holds only the call makes that was refused.
+#[derive(Drop)]
+pub(crate) enum Unserved {
+    /// It is the client's, and there is no end to which users come.
+    NoEnd(NoEnd),
+    /// The system refused to tell of events.
+    Unwatched(NoEvents),
+    /// It could not be made.
+    Unmade(NewFault),
+}
+
+/// How a session ended that was asked for. [`TunnelLoop::serve`] makes one where the session ran, and else nothing but
+/// [`Served::unbegun`], which is given why it couldn't: so who has one of a session that ended well has run a loop that was
+/// begun for it.
 #[derive(Drop)]
 pub(crate) struct Served {
     session: Asked,
+    /// Its number among the sessions of its place.
+    number: u64,
     how: SessionEnd,
-    /// How its loop came to its end. None where it didn't, or no loop could begin.
-    finished: Option<Finished>,
+    /// How its loop came to its end, or why none did.
+    finished: Result<Finished, Unserved>,
     /// Its peer gave a sign of life, or wasn't to give one.
     was_heard: bool,
-    ghost ran: { finished ≡ None → (how.is_unwatched || how.lacked_memory) ≡ true },
+    ghost ran: { is_err finished ≡ true → (how.is_unwatched || how.lacked_memory) ≡ true },
 }
 
 impl Served {
-    /// This session could not begin.
-    pub(crate) fn unbegun(session: Asked, how: SessionEnd) -> Served
-        requires { (how.is_unwatched || how.lacked_memory) ≡ true }
-        ensures { result.session ≡ session }
+    /// This session could not begin, for this reason.
+    pub(crate) fn unbegun(session: Asked, number: u64, why: Unserved) -> Served
+        // One that could not be made is none that can be, or there was no memory for it.
+        requires { IsUnserved session why }
+        ensures session { result.session ≡ session }
+        ensures number { result.number ≡ number }
     {
+        let how = unserved(&why);
         Served {
             session,
+            number,
             how,
-            finished: None,
+            finished: Err(why),
             was_heard: false,
         }
     }
 
     /// Notes whether it went on for a while, and where its peer was.
     pub(crate) fn note(&mut self, has_lasted: bool, peer: Option<SocketAddrV4>)
-        ensures { self.new.session ≡ self.old.session }
+        ensures session { self.new.session ≡ self.old.session }
+        ensures number { self.new.number ≡ self.old.number }
     {
         self.how.has_lasted = has_lasted;
         self.how.peer = peer;
@@ -153,12 +184,16 @@ impl Served {
 pub(crate) struct TunnelLoop<'a> {
     tunnel: Tunnel<Socket, Socket>,
     tunnel_end: &'a mut TunnelEnd,
+    /// Its number among the sessions of its place.
+    number: u64,
     /// How many bytes connections have given since the wire was last written to.
     unwritten: u64,
     /// Those who watch were told that the session was lost.
     is_loss_told: bool,
     /// The peer has given a sign of life, or isn't asked for one.
     is_heard: bool,
+    /// The peer was told that no more of its streams are taken.
+    is_leaving: bool,
     /// How long nothing has moved.
     stillness: Stillness,
     /// The system refused to wait for events.
@@ -178,20 +213,26 @@ impl<'a> TunnelLoop<'a> {
         wire: Socket,
         tunnel_end: &'a mut TunnelEnd,
         window: u32,
+        number: u64,
     ) -> Result<TunnelLoop<'a>, NewFault>
         // Its session is a new one of this side and this window.
         ensures session { IfOk result (λ made. made.tunnel.engine.session ≡ new_session (role_at tunnel_end.old.side) window (first_id (role_at tunnel_end.old.side) 0)) }
         // Its tunnel forgets nobody who can be served.
         ensures serves { IfOk result (λ made. Serving made.tunnel) }
         ensures end { IfOk result (λ made. made.tunnel_end.now ≡ tunnel_end.old) }
+        ensures number { IfOk result (λ made. made.number ≡ number) }
+        // It can't be made with this window, or there was no memory for it.
+        ensures refused { IfErr result (λ fault. IsNewFault (role_at tunnel_end.old.side) (record { window = window; first = 0 }) fault) }
     {
         let session = new_session(alloc, role_of(&tunnel_end.side), window)?;
         Ok(TunnelLoop {
             tunnel: Tunnel::new(alloc, session, wire)?,
             tunnel_end,
+            number,
             unwritten: 0,
             is_loss_told: false,
             is_heard: false,
+            is_leaving: false,
             stillness: Stillness::new(),
             is_unwatched: false,
             has_unwatched: false,
@@ -217,15 +258,22 @@ impl<'a> TunnelLoop<'a> {
         // It was begun for this session.
         requires begun { IsBegunFor session self.old.tunnel_end.now self.old.tunnel }
         ensures session { result.session ≡ session }
+        ensures number { result.number ≡ self.old.number }
         ensures runs { Runs self.old.tunnel self.new.tunnel }
-        ensures over { IfSome result.finished (λ finished. finished.was_left ≡ false → IsOver self.new.tunnel) }
-        ensures lost { IfSome result.finished (λ finished. finished.was_left ≡ true → WasLost self.old.tunnel self.new.tunnel) }
+        ensures over { IfOk result.finished (λ finished. finished.was_left ≡ false → IsOver self.new.tunnel) }
+        ensures lost { IfOk result.finished (λ finished. finished.was_left ≡ true → WasLost self.old.tunnel self.new.tunnel) }
         ensures broken { result.how.broken ≡ rule_of self.new.tunnel.engine.session.status }
+        ensures away { result.how.is_peer_away ≡ self.new.tunnel.engine.session.away.there }
     {
-        let finished = self.run(rt, poll, watcher, session.is_followed);
-        let how = self.end(finished.is_none());
+        let number = self.number;
+        let finished = match self.run(rt, poll, watcher, session.is_followed) {
+            Ok(finished) => Ok(finished),
+            Err(refused) => Err(Unserved::Unwatched(refused)),
+        };
+        let how = self.end(finished.is_err());
         Served {
             session,
+            number,
             how,
             finished,
             was_heard: self.is_heard,
@@ -234,39 +282,41 @@ impl<'a> TunnelLoop<'a> {
 
     /// Runs until this side and all its connections have ended, and the wire has taken all that is due or has failed. Where
     /// another session follows, as `is_kept` says, it is also left once the session is lost and nothing has moved for too
-    /// long. None where the system refused to wait for events.
+    /// long. The fault is that the system refused to tell of events.
     pub(crate) fn run<R: Net + Clock + Wait, V: Watcher>(
         &mut self,
         rt: &R,
         poll: &mut Poll,
         watcher: &mut V,
         is_kept: bool,
-    ) -> Option<Finished>
+    ) -> Result<Finished, NoEvents>
         ensures runs { Runs self.old.tunnel self.new.tunnel }
         // It waits for events only where nothing can be moved without one.
         ensures waits { Serving self.old.tunnel → WaitsInNeed self.old.tunnel self.new.tunnel poll.old.waits poll.new.waits }
+        // Between two looks at the events it works a whole round.
+        ensures rounds { WorksBetween self.old.tunnel self.new.tunnel poll.old.looks poll.new.looks }
         // A loop that wasn't left is over: nothing is due, or the wire has failed, and no connection is left.
-        ensures over { IfSome result (λ finished. finished.was_left ≡ false → IsOver self.new.tunnel) }
-        ensures empty { IfSome result (λ finished. finished.was_left ≡ false → self.new.tunnel.lines.by_id ≡ []) }
+        ensures over { IfOk result (λ finished. finished.was_left ≡ false → IsOver self.new.tunnel) }
+        ensures empty { IfOk result (λ finished. finished.was_left ≡ false → self.new.tunnel.lines.by_id ≡ []) }
         // One is left only where another session follows, and only once its own was over.
-        ensures left { IfSome result (λ finished. finished.was_left ≡ true → is_kept ≡ true) }
-        ensures lost { IfSome result (λ finished. finished.was_left ≡ true → WasLost self.old.tunnel self.new.tunnel) }
+        ensures left { IfOk result (λ finished. finished.was_left ≡ true → is_kept ≡ true) }
+        ensures lost { IfOk result (λ finished. finished.was_left ≡ true → WasLost self.old.tunnel self.new.tunnel) }
     {
         let mut silence = self.begin_silence(rt);
         for _ in rt.forever() {
             if self.is_over() {
-                return Some(Finished { was_left: false });
+                return Ok(Finished { was_left: false });
             }
             let limit = self.hear_silence(rt, &mut silence);
-            if self.await_events(rt, poll, limit).is_err() {
+            if let Err(refused) = self.await_events(rt, poll, limit) {
                 self.is_unwatched = true;
                 self.tunnel.give_up_wire();
                 self.leave_all(watcher);
-                return None;
+                return Err(refused);
             }
             if is_kept && self.is_to_be_left(rt) {
                 self.leave_all(watcher);
-                return Some(Finished { was_left: true });
+                return Ok(Finished { was_left: true });
             }
             self.take_turn(rt, poll, watcher);
         }
@@ -322,7 +372,10 @@ impl<'a> TunnelLoop<'a> {
         rt: &R,
         silence: &mut Option<Silence>,
     ) -> Option<Duration>
-        ensures { Runs self.old.tunnel self.new.tunnel }
+        ensures runs { Runs self.old.tunnel self.new.tunnel }
+        // Where nobody listens for silence the peer is never given up, and else only once it was asked for a sign.
+        ensures patient { silence.old ≡ None → self.new.tunnel ≡ self.old.tunnel }
+        ensures asked { IfSome silence.old (λ silence. silence.was_asked ≡ false → self.new.tunnel.wire ≡ self.old.tunnel.wire) }
     {
         if self.is_lost() {
             return None;
@@ -350,7 +403,8 @@ impl<'a> TunnelLoop<'a> {
     /// Asks the peer for a sign, unless the answer to the last ping is still to come. The number of the ping that it is to
     /// answer.
     fn ask(&mut self, pending: Option<u32>) -> Option<u32>
-        ensures { Runs self.old.tunnel self.new.tunnel }
+        ensures runs { Runs self.old.tunnel self.new.tunnel }
+        ensures wire { self.new.tunnel.wire ≡ self.old.tunnel.wire }
     {
         match pending {
             Some(number) => self.ask_behind(number),
@@ -360,7 +414,8 @@ impl<'a> TunnelLoop<'a> {
 
     /// Asks the peer for a sign behind the ping of this number, if its answer is back.
     fn ask_behind(&mut self, number: u32) -> Option<u32>
-        ensures { Runs self.old.tunnel self.new.tunnel }
+        ensures runs { Runs self.old.tunnel self.new.tunnel }
+        ensures wire { self.new.tunnel.wire ≡ self.old.tunnel.wire }
     {
         if self.is_pending(number) {
             Some(number)
@@ -371,14 +426,16 @@ impl<'a> TunnelLoop<'a> {
 
     /// Whether the answer to the ping of this number is still to come. One that is back is collected.
     fn is_pending(&mut self, number: u32) -> bool
-        ensures { Runs self.old.tunnel self.new.tunnel }
+        ensures runs { Runs self.old.tunnel self.new.tunnel }
+        ensures wire { self.new.tunnel.wire ≡ self.old.tunnel.wire }
     {
         matches!(self.tunnel.ponged(number), Ok(false))
     }
 
     /// Asks the peer for a sign.
     fn ping(&mut self) -> Option<u32>
-        ensures { Runs self.old.tunnel self.new.tunnel }
+        ensures runs { Runs self.old.tunnel self.new.tunnel }
+        ensures wire { self.new.tunnel.wire ≡ self.old.tunnel.wire }
     {
         match self.tunnel.ping() {
             Ok(number) => Some(number),
@@ -392,11 +449,17 @@ impl<'a> TunnelLoop<'a> {
         rt: &R,
         poll: &mut Poll,
         limit: Option<Duration>,
-    ) -> io::Result<()>
+    ) -> Result<(), NoEvents>
         ensures runs { Runs self.old.tunnel self.new.tunnel }
         ensures waits { Serving self.old.tunnel → (poll.new.waits ≡ poll.old.waits) ⊎ (NeedsEvents self.old.tunnel × CountsOne poll.old.waits poll.new.waits) }
-        // Where a user may wait whom it can give a stream, it doesn't wait.
+        // Where a user may wait whom it can give a stream, it doesn't wait; nor where a stream waits for which there is a place.
         ensures users { user_is_due self.old.is_heard self.old.tunnel_end.now self.old.tunnel ≡ true → poll.new.waits ≡ poll.old.waits }
+        ensures streams { stream_is_due self.old.tunnel_end.now.side self.old.tunnel ≡ true → poll.new.waits ≡ poll.old.waits }
+        ensures looked { CountsOne poll.old.looks poll.new.looks }
+        // It waits where there is nothing to do.
+        ensures sleeps { has_task self.old.is_heard self.old.tunnel_end.now self.old.tunnel ≡ false → CountsOne poll.old.waits poll.new.waits }
+        // Each event that came was heard, before anything else moved.
+        ensures heard { IfOk result (λ _. (was : SideValue) × HearsAll (items poll.new.events) self.old.tunnel self.new.tunnel was self.new.tunnel_end.now.side) }
     {
         let is_waiting = !self.has_work();
         self.note_waiting(rt, is_waiting);
@@ -412,9 +475,10 @@ impl<'a> TunnelLoop<'a> {
         poll: &mut Poll,
         is_waiting: bool,
         limit: Option<Duration>,
-    ) -> io::Result<()>
+    ) -> Result<(), NoEvents>
         ensures looks { is_waiting ≡ false → poll.new.waits ≡ poll.old.waits }
         ensures waits { is_waiting ≡ true → CountsOne poll.old.waits poll.new.waits }
+        ensures looked { CountsOne poll.old.looks poll.new.looks }
     {
         if is_waiting {
             poll.wait(shorter(self.timeout(), limit))
@@ -461,7 +525,7 @@ impl<'a> TunnelLoop<'a> {
     {
         self.accept_connections(rt, poll, watcher);
         self.read_wire();
-        self.accept_streams(rt, poll, watcher);
+        self.take_streams(rt, poll, watcher);
         self.tell_loss(rt, watcher);
         self.serve_queued(watcher);
         self.flush();
@@ -473,6 +537,8 @@ impl<'a> TunnelLoop<'a> {
     fn has_work(&self) -> bool
         // Where it has none, its tunnel has none.
         ensures idle { result ≡ false → has_work self.now.tunnel ≡ false }
+        // It has some only where there is something to do.
+        ensures exact { result ≡ has_task self.now.is_heard self.now.tunnel_end.now self.now.tunnel }
         // Then no bytes of a stream wait that its connection may take now.
         ensures rest { Serving self.now.tunnel → result ≡ false → NoneWaits self.now.tunnel }
         // Where the wire may take bytes too, no stream takes bytes that its connection may have.
@@ -482,8 +548,9 @@ impl<'a> TunnelLoop<'a> {
         // Each connection that may take bytes was told then where no more come, and each whose stream takes none any more.
         ensures ends { Serving self.now.tunnel → result ≡ false → NoneEnds self.now.tunnel }
         ensures stops { Serving self.now.tunnel → result ≡ false → NoneStops self.now.tunnel }
-        // Nor does a user wait then whom it can give a stream.
+        // Nor does a user wait then whom it can give a stream, nor a stream for which there is a place.
         ensures users { result ≡ false → user_is_due self.now.is_heard self.now.tunnel_end.now self.now.tunnel ≡ false }
+        ensures streams { result ≡ false → stream_is_due self.now.tunnel_end.now.side self.now.tunnel ≡ false }
     {
         self.has_user() || self.has_offer() || self.tunnel.has_work()
     }
@@ -494,7 +561,7 @@ impl<'a> TunnelLoop<'a> {
         ensures { result ≡ user_is_due self.now.is_heard self.now.tunnel_end.now self.now.tunnel }
     {
         self.tunnel_end.may_accept(self.tunnel.len())
-            && !self.is_to_be_followed()
+            && !self.leaves_users()
             && !self.must_wait()
             && !self.awaits_sign()
     }
@@ -507,7 +574,9 @@ impl<'a> TunnelLoop<'a> {
     }
 
     /// Whether a stream waits that is to be accepted now.
-    fn has_offer(&self) -> bool {
+    fn has_offer(&self) -> bool
+        ensures { result ≡ stream_is_due self.now.tunnel_end.now.side self.now.tunnel }
+    {
         self.free_target().is_some() && self.tunnel.offered_count() > 0
     }
 
@@ -542,8 +611,11 @@ impl<'a> TunnelLoop<'a> {
         self.tunnel.len() >= STREAMS_AT_ONCE || self.tunnel.opens_left() == 0
     }
 
-    /// How many streams can be opened for connections that come.
+    /// How many streams can be opened for connections that come. None now where those are left to the next session.
     fn places(&self) -> Places {
+        if self.leaves_users() {
+            return Places::Free(0);
+        }
         if !self.can_open_later() {
             return Places::Never;
         }
@@ -557,13 +629,20 @@ impl<'a> TunnelLoop<'a> {
     fn is_over(&self) -> bool
         ensures over { result ≡ true → IsOver self.now.tunnel }
         ensures empty { result ≡ true → self.now.tunnel.lines.by_id ≡ [] }
+        // Nobody comes to it any more: a `remote` ends a session that runs only once it has told its peer that it takes no more streams,
+        // and serves all that came.
+        ensures side { result ≡ true → side_is_over self.now.is_leaving self.now.tunnel_end.now self.now.tunnel ≡ true }
+        // It does end then, once the wire has taken all; and so does a `local` whose users are left to the next session.
+        ensures ends { role_at self.now.tunnel_end.now.side ≡ Role.Server → self.now.is_leaving ≡ true → length self.now.tunnel.engine.session.offered ≡ 0 → length self.now.tunnel.lines.by_id ≡ 0 → is_flushed self.now.tunnel.engine ≡ true → self.now.tunnel.wire.failed ≡ Some false → result ≡ true }
+        ensures parts { role_at self.now.tunnel_end.now.side ≡ Role.Client → leaves_users self.now.tunnel_end.now self.now.tunnel ≡ true → length self.now.tunnel.lines.by_id ≡ 0 → is_flushed self.now.tunnel.engine ≡ true → self.now.tunnel.wire.failed ≡ Some false → result ≡ true }
     {
         let is_side_over = match &self.tunnel_end.side {
             Side::Local(listening) => {
-                (listening.is_over() && self.tunnel_end.waiting.is_none())
-                    || self.is_to_be_followed()
+                (listening.is_over() && self.tunnel_end.waiting.is_none()) || self.leaves_users()
             }
-            Side::Remote { .. } => self.is_lost() && self.tunnel.offered_count() == 0,
+            Side::Remote { .. } => {
+                (self.is_lost() || self.is_leaving) && self.tunnel.offered_count() == 0
+            }
         };
         is_side_over && self.tunnel.is_empty() && self.tunnel.is_over()
     }
@@ -589,11 +668,19 @@ impl<'a> TunnelLoop<'a> {
         self.tunnel_end.is_kept && self.is_lost()
     }
 
+    /// Whether users are left to the next session: another one follows, and this one is over, or its peer takes no more streams.
+    fn leaves_users(&self) -> bool
+        ensures { result ≡ leaves_users self.now.tunnel_end.now self.now.tunnel }
+    {
+        self.tunnel_end.is_kept && (self.is_lost() || self.tunnel.is_peer_away())
+    }
+
     // ---- events
 
     /// Notes what the events say that are there.
     fn note_all(&mut self, poll: &Poll)
-        ensures { Runs self.old.tunnel self.new.tunnel }
+        ensures runs { Runs self.old.tunnel self.new.tunnel }
+        ensures heard { HearsAll (items poll.now.events) self.old.tunnel self.new.tunnel self.old.tunnel_end.now.side self.new.tunnel_end.now.side }
     {
         'event: for event in poll.events() {
             self.note(Event::of(event));
@@ -601,8 +688,10 @@ impl<'a> TunnelLoop<'a> {
     }
 
     /// Notes what an event says.
+    #[tactic(auto, using(crate::proofs::Heard::wire_hears, crate::proofs::Heard::users_hear, crate::proofs::Heard::stream_hears, crate::proofs::Heard::none_hears))]
     fn note(&mut self, event: Event)
-        ensures { Runs self.old.tunnel self.new.tunnel }
+        ensures runs { Runs self.old.tunnel self.new.tunnel }
+        ensures heard { Hears event self.old.tunnel self.new.tunnel self.old.tunnel_end.now.side self.new.tunnel_end.now.side }
     {
         if event.token == WIRE {
             self.note_wire(event);
@@ -617,7 +706,9 @@ impl<'a> TunnelLoop<'a> {
 
     /// Notes what an event says of the wire.
     fn note_wire(&mut self, event: Event)
-        ensures { Runs self.old.tunnel self.new.tunnel }
+        ensures runs { Runs self.old.tunnel self.new.tunnel }
+        ensures heard { WireHears (readiness_of event) self.old.tunnel self.new.tunnel }
+        ensures end { self.new.tunnel_end.now ≡ self.old.tunnel_end.now }
     {
         if !self.tunnel.wire().has_failed() {
             self.tunnel.note_wire(readiness_of(event));
@@ -626,7 +717,9 @@ impl<'a> TunnelLoop<'a> {
 
     /// Notes what an event says of a connection. One that can't be made may be used at once, so that it fails.
     fn note_stream(&mut self, id: u32, event: Event)
-        ensures { Runs self.old.tunnel self.new.tunnel }
+        ensures runs { Runs self.old.tunnel self.new.tunnel }
+        ensures heard { StreamHears id (readiness_of event) self.old.tunnel self.new.tunnel }
+        ensures end { self.new.tunnel_end.now ≡ self.old.tunnel_end.now }
     {
         self.tunnel.note_line(id, readiness_of(event));
     }
@@ -638,7 +731,7 @@ impl<'a> TunnelLoop<'a> {
     fn accept_connections<R: Wait, V: Watcher>(&mut self, rt: &R, poll: &Poll, watcher: &mut V)
         ensures { Runs self.old.tunnel self.new.tunnel }
     {
-        if self.is_to_be_followed() {
+        if self.leaves_users() {
             return;
         }
         'accept: for _ in 0..ACCEPTS {
@@ -658,9 +751,15 @@ impl<'a> TunnelLoop<'a> {
         ensures accepts_only { IfSome result (λ _. must_wait self.new.tunnel ≡ false) }
         // None is accepted before the peer has given a sign of life, where it is asked for one.
         ensures accepts_heard { IfSome result (λ _. awaits_sign self.old.is_heard self.new.tunnel ≡ false) }
+        // None is accepted that is left to the next session: so none is closed as the peer takes no more streams.
+        ensures accepts_own { IfSome result (λ _. leaves_users self.old.tunnel_end.now self.new.tunnel ≡ false) }
     {
         let open = self.tunnel.len();
-        if !self.tunnel_end.may_accept(open) || self.must_wait() || self.awaits_sign() {
+        if !self.tunnel_end.may_accept(open)
+            || self.leaves_users()
+            || self.must_wait()
+            || self.awaits_sign()
+        {
             return None;
         }
         self.tunnel_end.next_user(rt, open)
@@ -670,7 +769,9 @@ impl<'a> TunnelLoop<'a> {
     /// unless others are counted on.
     fn begin_local<V: Watcher>(&mut self, socket: TcpConnection, poll: &Poll, watcher: &mut V)
         requires placed { must_wait self.old.tunnel ≡ false }
-        ensures { Runs self.old.tunnel self.new.tunnel }
+        ensures runs { Runs self.old.tunnel self.new.tunnel }
+        // Users are accepted on while the session runs, unless the system refused to watch this one.
+        ensures kept { is_running self.old.tunnel.engine.session.status ≡ true → (self.new.tunnel_end.now ≡ self.old.tunnel_end.now) ⊎ (self.new.has_unwatched ≡ true) }
     {
         let origin = watcher.begins(&socket);
         self.stop_if_lost();
@@ -683,7 +784,8 @@ impl<'a> TunnelLoop<'a> {
 
     /// Once the session is lost no more are accepted, if as many are as come.
     fn stop_if_lost(&mut self)
-        ensures { self.new.tunnel ≡ self.old.tunnel }
+        ensures tunnel { self.new.tunnel ≡ self.old.tunnel }
+        ensures kept { is_running self.old.tunnel.engine.session.status ≡ true → self.new.tunnel_end.now ≡ self.old.tunnel_end.now }
     {
         if self.is_lost() {
             self.stop_endless();
@@ -701,6 +803,7 @@ impl<'a> TunnelLoop<'a> {
     fn open(&mut self, socket: Socket, poll: &Poll) -> Result<u32, NotJoined>
         ensures runs { Runs self.old.tunnel self.new.tunnel }
         ensures stated { must_wait self.old.tunnel ≡ false → IfErr result IsStated }
+        ensures end { self.new.tunnel_end.now ≡ self.old.tunnel_end.now }
     {
         self.tunnel.open(socket, &mut Tokens { poll })
     }
@@ -708,7 +811,9 @@ impl<'a> TunnelLoop<'a> {
     /// Says why a connection that came got no stream. It is never that it came too early.
     fn decline<V: Watcher>(&mut self, origin: Origin, why: NotJoined, watcher: &mut V)
         requires stated { IsStated why }
-        ensures { self.new.tunnel ≡ self.old.tunnel }
+        ensures tunnel { self.new.tunnel ≡ self.old.tunnel }
+        ensures kept { (self.new.tunnel_end.now ≡ self.old.tunnel_end.now) ⊎ (self.new.has_unwatched ≡ true) }
+        ensures counted { V.counts watcher.new ≡ option_map (with_declined (declined_for why)) (V.counts watcher.old) }
     {
         match why {
             NotJoined::BySession(fault) => {
@@ -743,7 +848,8 @@ impl<'a> TunnelLoop<'a> {
 
     /// The system refuses to watch a connection that came: it counts as one that could not be accepted.
     fn stop_unwatched(&mut self)
-        ensures { self.new.tunnel ≡ self.old.tunnel }
+        ensures tunnel { self.new.tunnel ≡ self.old.tunnel }
+        ensures noted { self.new.has_unwatched ≡ true }
     {
         self.has_unwatched = true;
         if let Side::Local(listening) = &mut self.tunnel_end.side {
@@ -764,46 +870,120 @@ impl<'a> TunnelLoop<'a> {
 
     // ---- streams that come
 
+    /// Takes no more streams once that was asked for, and accepts those that came before.
+    fn take_streams<R: Net, V: Watcher>(&mut self, rt: &R, poll: &Poll, watcher: &mut V)
+        ensures runs { Runs self.old.tunnel self.new.tunnel }
+        // No stream waits then for which there is a place.
+        ensures none { NoneWaitsForPlace self.new.tunnel_end.now.side self.new.tunnel }
+    {
+        self.heed_drain();
+        self.accept_streams(&mut SystemDialer { rt }, poll, watcher);
+    }
+
+    /// Tells the peer, once, that no more of its streams are taken, if that was asked for.
+    fn heed_drain(&mut self)
+        ensures runs { Runs self.old.tunnel self.new.tunnel }
+        ensures told { self.old.is_leaving ≡ false → self.new.is_leaving ≡ true → is_said self.new.tunnel.engine.session ≡ true }
+        ensures once { self.old.is_leaving ≡ true → self.new ≡ self.old }
+    {
+        if self.must_leave() {
+            self.say_away();
+            self.is_leaving = true;
+        }
+    }
+
+    /// Whether the peer is to be told now that no more of its streams are taken: that was asked for, the session runs, and the
+    /// peer wasn't told.
+    fn must_leave(&self) -> bool
+        ensures { result ≡ true → (self.now.is_leaving ≡ false) × (is_running self.now.tunnel.engine.session.status ≡ true) }
+    {
+        !self.is_leaving && !self.is_lost() && self.tunnel_end.is_drained()
+    }
+
+    /// Tells the peer that no more of its streams are taken.
+    fn say_away(&mut self)
+        requires { is_running self.old.tunnel.engine.session.status ≡ true }
+        ensures runs { Runs self.old.tunnel self.new.tunnel }
+        ensures told { is_said self.new.tunnel.engine.session ≡ true }
+        ensures leaving { self.new.is_leaving ≡ self.old.is_leaving }
+    {
+        let _ = self.tunnel.go_away();
+    }
+
     /// Begins a connection to the target for each stream that waits, as far as the limit lets it.
-    fn accept_streams<R: Net, V: Watcher>(&mut self, rt: &R, poll: &Poll, watcher: &mut V)
-        ensures { Runs self.old.tunnel self.new.tunnel }
+    fn accept_streams<D: Dialer, V: Watcher>(
+        &mut self,
+        dialer: &mut D,
+        poll: &Poll,
+        watcher: &mut V,
+    )
+        ensures runs { Runs self.old.tunnel self.new.tunnel }
+        ensures end { self.new.tunnel_end.now ≡ self.old.tunnel_end.now }
+        // Nobody is called but the target.
+        ensures called { CallsTarget self.old.tunnel_end.now.side (D.called dialer.old) (D.called dialer.new) }
+        // No stream waits then for which there is a place.
+        ensures none { NoneWaitsForPlace self.new.tunnel_end.now.side self.new.tunnel }
     {
         'offered: for _ in 0..self.tunnel.offered_count() {
             let Some(target) = self.free_target() else {
                 return;
             };
-            self.begin_remote(rt, target, poll, watcher);
+            self.begin_remote(dialer, target, poll, watcher);
         }
     }
 
     /// Begins a connection to the target for the stream that came first. If it can't begin, the stream is reset.
-    fn begin_remote<R: Net, V: Watcher>(
+    fn begin_remote<D: Dialer, V: Watcher>(
         &mut self,
-        rt: &R,
+        dialer: &mut D,
         target: SocketAddr,
         poll: &Poll,
         watcher: &mut V,
     )
         requires { free_target self.old.tunnel_end.now.side (length self.old.tunnel.lines.by_id) ≡ Some target }
-        ensures { Runs self.old.tunnel self.new.tunnel }
+        ensures runs { Runs self.old.tunnel self.new.tunnel }
+        ensures end { self.new.tunnel_end.now ≡ self.old.tunnel_end.now }
+        // This target is called, and the stream gets that connection, or else is rejected: it waits no more.
+        ensures called { BeginsFor target self.old.tunnel self.new.tunnel (D.called dialer.old) (D.called dialer.new) }
     {
         let origin = watcher.begins(self.tunnel.wire().connection());
-        match TcpConnection::begin(rt, target) {
-            Ok(socket) => {
-                socket.send_at_once();
-                self.keep_alive(&socket);
-                match self.accept(Socket::begun(socket, origin), poll) {
-                    Ok(_) => {}
-                    Err(why) => self.end_unjoined(origin, why, watcher),
-                }
-            }
-            Err(error) => {
-                if self.tunnel.reject() {
-                    let reason = Some(Reason::of(&error));
-                    let ended = EndedConnection::of_nothing(Ending::ConnectionFailed, reason);
-                    watcher.ended(origin, &ended);
-                }
-            }
+        match dialer.begin(target) {
+            Ok(socket) => self.join_first(socket, origin, poll, watcher),
+            Err(error) => self.reject_first(&error, origin, watcher),
+        }
+    }
+
+    /// Joins this connection to the stream that came first, or says why that can't be.
+    fn join_first<V: Watcher>(
+        &mut self,
+        socket: TcpConnection,
+        origin: Origin,
+        poll: &Poll,
+        watcher: &mut V,
+    )
+        requires { IsSome (free_target self.old.tunnel_end.now.side (length self.old.tunnel.lines.by_id)) }
+        ensures runs { Runs self.old.tunnel self.new.tunnel }
+        ensures end { self.new.tunnel_end.now ≡ self.old.tunnel_end.now }
+        ensures answered { EndsOffer true self.old.tunnel self.new.tunnel }
+    {
+        socket.send_at_once();
+        self.keep_alive(&socket);
+        if let Err(why) = self.accept(Socket::begun(socket, origin), poll) {
+            self.end_unjoined(origin, why, watcher);
+        }
+    }
+
+    /// Rejects the stream that came first, for which no connection could be begun, for this reason.
+    #[tactic(auto, using(crate::proofs::Offers::rejected_or_none))]
+    fn reject_first<V: Watcher>(&mut self, error: &io::Error, origin: Origin, watcher: &mut V)
+        ensures runs { Runs self.old.tunnel self.new.tunnel }
+        ensures end { self.new.tunnel_end.now ≡ self.old.tunnel_end.now }
+        ensures answered { EndsOffer false self.old.tunnel self.new.tunnel }
+    {
+        if self.tunnel.reject() {
+            let reason = Some(Reason::of(error));
+            let ended = EndedConnection::of_nothing(Ending::ConnectionFailed, reason);
+            watcher.ended(origin, &ended);
         }
     }
 
@@ -811,14 +991,17 @@ impl<'a> TunnelLoop<'a> {
     fn accept(&mut self, socket: Socket, poll: &Poll) -> Result<Option<u32>, NotJoined>
         // Fewer are served than may be at once.
         requires { IsSome (free_target self.old.tunnel_end.now.side (length self.old.tunnel.lines.by_id)) }
-        ensures { Runs self.old.tunnel self.new.tunnel }
+        ensures runs { Runs self.old.tunnel self.new.tunnel }
+        ensures end { self.new.tunnel_end.now ≡ self.old.tunnel_end.now }
+        ensures answered { IsAnswered result self.old.tunnel self.new.tunnel }
     {
         self.tunnel.accept(socket, &mut Tokens { poll })
     }
 
     /// Says why a connection to the target was not joined to its stream.
     fn end_unjoined<V: Watcher>(&mut self, origin: Origin, why: NotJoined, watcher: &mut V)
-        ensures { self.new.tunnel ≡ self.old.tunnel }
+        ensures same { self.new.tunnel ≡ self.old.tunnel }
+        ensures end { self.new.tunnel_end.now ≡ self.old.tunnel_end.now }
     {
         let ending = match why {
             NotJoined::OutOfMemory(_) => {
@@ -890,7 +1073,7 @@ impl<'a> TunnelLoop<'a> {
         let is_lost = self.is_lost() || self.is_unwatched;
         if let Some(socket) = self.tunnel.forget(id) {
             let ended = match ways {
-                Some(ways) => EndedConnection::of(&socket, ways, is_lost),
+                Some(ways) => ended_connection(&socket, ways, is_lost),
                 None => EndedConnection::of_nothing(Ending::Refused, None),
             };
             self.lacked_memory |= ended.lacked_memory();
@@ -954,6 +1137,7 @@ impl<'a> TunnelLoop<'a> {
     fn end(&self, is_unwatched: bool) -> SessionEnd
         ensures broken { result.broken ≡ rule_of self.now.tunnel.engine.session.status }
         ensures unwatched { result.is_unwatched ≡ is_unwatched }
+        ensures away { result.is_peer_away ≡ self.now.tunnel.engine.session.away.there }
         ensures accepted { self.now.tunnel_end.now.is_kept ≡ false → has_failed self.now.tunnel_end.now.side ≡ true → result.accept_failed ≡ true }
     {
         SessionEnd {
@@ -968,6 +1152,7 @@ impl<'a> TunnelLoop<'a> {
             lacked_memory: self.lacked_memory || self.tunnel.has_lacked_memory(),
             is_unwatched,
             has_lasted: false,
+            is_peer_away: self.tunnel.is_peer_away(),
         }
     }
 }
@@ -987,12 +1172,15 @@ fn role_of(side: &Side) -> Role
 fn new_session(alloc: Global, role: Role, window: u32) -> Result<Session, NewFault>
     ensures new { IfOk result (λ session. session ≡ new_session role window (first_id role 0)) }
     ensures within { IfOk result IsWithin }
+    ensures refused { IfErr result (λ fault. IsNewFault role (record { window = window; first = 0 }) fault) }
 {
     Session::new(alloc, role, Config { window, first: 0 })
 }
 
 /// What an event says of a socket. One that fails may be used at once, so that it says so.
-fn readiness_of(event: Event) -> Readiness {
+fn readiness_of(event: Event) -> Readiness
+    ensures { result ≡ readiness_of event }
+{
     let is_closing = event.is_read_closed || event.is_error;
     Readiness {
         can_pull: event.is_readable || is_closing,
@@ -1001,10 +1189,20 @@ fn readiness_of(event: Event) -> Readiness {
     }
 }
 
-/// The connection to the peer, of whose events the poll tells. None where the system refuses.
-pub(crate) fn wire_of(peer: Peer, poll: &Poll) -> Option<Socket>
-    ensures { IfSome result (λ wire. wire.is_wire ≡ true) }
+/// The connection to the peer, of whose events the poll tells. The fault is that the system refuses.
+pub(crate) fn wire_of(peer: Peer, poll: &Poll) -> Result<Socket, NoEvents>
+    ensures { IfOk result (λ wire. wire.is_wire ≡ true) }
 {
-    let mut wire = Socket::wire(peer.into_socket());
-    wire.register(poll, WIRE).then_some(wire)
+    watched(peer.into_socket(), poll)
+}
+
+/// The wire over this stream, of whose events the poll tells under the wire's token. The fault is that the system refuses.
+fn watched<S: Stream + Drop>(stream: S, poll: &Poll) -> Result<Socket<S>, NoEvents>
+    requires once { S.registered stream ≡ false }
+    ensures wire { IfOk result (λ wire. wire.is_wire ≡ true) }
+    ensures told { IfOk result (λ wire. S.told_under wire.socket ≡ option_map (λ _. wire_token) (S.told_under stream)) }
+{
+    let mut wire = Socket::wire(stream);
+    wire.watch(poll, WIRE)?;
+    Ok(wire)
 }

@@ -1,13 +1,14 @@
 //! One end of a tunnel, through all its sessions.
 
-ghost use Rattle.std.specs.Prelude.{◌≡◌, IfOk, IfSome, None, is_some};
+ghost use Rattle.std.specs.Prelude.{◌≡◌, IfErr, IfOk, None, is_some};
 ghost use Rattle.ymx_policy.specs.declared.asks.Session.{Session as Asked};
 ghost use Rattle.ymx_forward.specs.Doors.{MayCall};
-ghost use Rattle.ymx_forward.specs.Sessions.{AreLimitsOf, Serves, asked_to_go, goes_to, has_failed};
+ghost use Rattle.ymx_forward.specs.Sessions.{AreLimitsOf, HasNoEnd, Serves, asked_to_go, goes_to, has_failed};
 ghost use Rattle.ymx_forward.specs.Users.{comes_to, may_wait};
 
 use crate::accepting::Listening;
 use crate::doorkeeper::{Caller, Doorkeeper};
+use crate::drain::{Drain, is_asked};
 use crate::inbox::{Inbox, Places};
 use crate::peer::Peer;
 use crate::site::Site;
@@ -82,6 +83,12 @@ impl Limits {
     }
 }
 
+/// A client's session has no end, as there is none to which users come. Only [`TunnelEnd::for_session`] makes one.
+#[derive(Drop)]
+pub(crate) struct NoEnd {
+    seal: (),
+}
+
 /// One side of a tunnel, which lasts through its sessions: the listener of `Local` stays open.
 #[derive(Drop)]
 pub(crate) struct TunnelEnd {
@@ -92,6 +99,8 @@ pub(crate) struct TunnelEnd {
     pub(crate) limits: Limits,
     /// A connection that came while there was no session.
     pub(crate) waiting: Option<TcpConnection>,
+    /// Says when no more streams of the peer are to be taken. None where nothing does.
+    drain: Option<Arc<Drain, Global>>,
     /// Where its users come from, if they come to it.
     users: Option<SocketAddrV4>,
 }
@@ -113,6 +122,7 @@ impl TunnelEnd {
                 keepalive: None,
             },
             waiting: None,
+            drain: None,
             users,
         }
     }
@@ -139,20 +149,25 @@ impl TunnelEnd {
                 keepalive: None,
             },
             waiting: None,
+            drain: None,
             users: None,
         }
     }
 
     /// The end that such a session is served at: the client's goes on, and a server's is new.
-    pub(crate) fn for_session(end: Option<TunnelEnd>, session: Session) -> Option<TunnelEnd>
+    pub(crate) fn for_session(end: Option<TunnelEnd>, session: Session) -> Result<TunnelEnd, NoEnd>
         // Its side and its limits are those that were asked for.
-        ensures { IfSome result (Serves session) }
+        ensures made { IfOk result (Serves session) }
+        // There is one, unless it is to be the client's, and users come to none.
+        ensures none { IfErr result (λ _. HasNoEnd end session.side) }
     {
         let mut end = match session.side {
             SessionSide::Client => {
-                let end = end?;
+                let Some(end) = end else {
+                    return Err(NoEnd { seal: () });
+                };
                 if let Side::Remote { .. } = &end.side {
-                    return None;
+                    return Err(NoEnd { seal: () });
                 }
                 end
             }
@@ -160,7 +175,30 @@ impl TunnelEnd {
         };
         end.is_kept = session.is_followed;
         end.limits = Limits::of(session);
-        Some(end)
+        Ok(end)
+    }
+
+    /// No more streams of the peer are taken once this asks for that.
+    pub(crate) fn until(self, drain: Option<Arc<Drain, Global>>) -> TunnelEnd
+        ensures { (session : Asked) → Serves session self → Serves session result }
+    {
+        let mut end = self;
+        end.drain = drain;
+        end
+    }
+
+    /// Whether that was asked.
+    pub(crate) fn is_drained(&self) -> bool {
+        is_asked(&self.drain)
+    }
+
+    /// After how long a silence the connection is closed at the end, though the peer hasn't closed it. None if never. Where no
+    /// more streams were to be taken, the peer isn't waited for without end.
+    pub(crate) fn close_limit(&self) -> Option<Duration> {
+        match self.limits.close {
+            None if self.is_drained() => Some(Duration::from_secs(CLOSING)),
+            limit => limit,
+        }
     }
 
     /// Connections may wait, of which an event was told before.

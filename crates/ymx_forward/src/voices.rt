@@ -108,28 +108,6 @@ impl<W: PoolWorld<Unwatched, WatcherLines>, T, L: Lines<T>> PoolWorld<T, L> for 
     }
 }
 
-/// Says nothing: nothing is to be said yet.
-#[derive(Clone, Copy)]
-pub(crate) struct Muted;
-
-impl Errors<Muted> for Muted {
-    ghost contents = { λ _. None };
-
-    ghost failures = { λ _. 0 };
-
-    fn say(_device: &mut Muted, _fault: Fault) {}
-}
-
-impl Lines<Muted> for Muted {
-    ghost told = { λ _. None };
-
-    ghost contents = { λ _. None };
-
-    ghost failures = { λ _. 0 };
-
-    fn tell(_lines: &mut Muted, _notice: Notice) {}
-}
-
 /// Where a pool could not begin: whatever is asked for, this happened.
 #[derive(Drop)]
 pub(crate) struct Unbegun {

@@ -17,14 +17,14 @@ use Rattle.ymx_policy.specs.declared.pool.PoolStage.TheVariants as stage
 use Rattle.ymx_policy.specs.declared.pool.Pool.{Pool}
 use Rattle.ymx_policy.specs.declared.asks.Named.TheVariants as option
 use Rattle.ymx_policy.specs.Table.{cannot_meet, first_fault, refusal, silence}
-use Rattle.ymx_policy.specs.PoolTable.{after_at, after_calling, after_last, after_no_thread, after_opening, after_peers, after_placing, after_starting, after_users, after_waiting, asked, behind_start, both, clean, deed_at, ending_at, has_links, heeds, leaving, let_in, listening, meets, one_more, rests, settles_at, shuts, unlinked}
+use Rattle.ymx_policy.specs.PoolTable.{after_at, after_calling, after_last, after_no_thread, after_opening, after_peers, after_placing, after_starting, after_users, after_waiting, asked, behind_start, both, clean, deed_at, ending_at, has_links, heeds, lacks_peers, leaving, let_in, listening, meets, one_more, rests, settles_at, shuts, unlinked}
 use Rattle.ymx_policy.specs.PoolPast.{IsPast, asks, pool_of}
 use Rattle.ymx_policy.specs.Laws.{is_clean}
 use Rattle.ymx_policy.specs.PoolLaws.{all_clean, clean_after}
 use Rattle.ymx_policy.proofs.PoolKeeping.{keeps}
 
 -- what went wrong here or there went wrong in both
-clean_both : (a b : SessionEnd) → is_clean (both a b) ≡ (is_clean a && is_clean b)
+pub clean_both : (a b : SessionEnd) → is_clean (both a b) ≡ (is_clean a && is_clean b)
 clean_both a b = grind arith
 
 no_fault : (users : SocketAddrV4) (unmet : Fault) (how : SessionEnd) → first_fault users unmet how ≡ None → is_clean how ≡ true
@@ -93,6 +93,7 @@ users_fine t p (NobodyComes why) f = (heeds_fine t.goes_on t p silence None _ f)
 users_fine t p other f = (heeds_fine t.goes_on t p silence None _ f).0
 
 peers_fine : (t : Terms) (p : Pool) (h : PoolHappened) → IsFine (after_peers t p h) → IsFine p
+peers_fine t p AllCame f = shuts_fine false t (record p { words = silence; has_all = true }) f
 peers_fine t p (NobodyComes why) f = shuts_fine false t (record p { words = silence; why = refusal (option.Bind p.peers) why }) f
 peers_fine t p other f = shuts_fine false t (record p { words = silence; why = None }) f
 
@@ -155,8 +156,8 @@ EndsFine p = p.stage ≡ stage.Over → p.has_faulted ≡ false → is_clean p.a
 
 settles_ends : (at : PoolStage) (t : Terms) (p : Pool) → EndsFine (settles_at at t p)
 settles_ends at t p o f =
-    let e = either p.has_faulted (is_some (ending_at at (has_links t.role) p.is_shut (cannot_meet t.role p.peers) (first_fault t.users.address (cannot_meet t.role p.peers) p.all))) f in
-    no_fault t.users.address (cannot_meet t.role p.peers) p.all (ending_none at (has_links t.role) p.is_shut (cannot_meet t.role p.peers) (first_fault t.users.address (cannot_meet t.role p.peers) p.all) o e.1)
+    let e = either p.has_faulted (is_some (ending_at at (has_links t.role) (lacks_peers p) (cannot_meet t.role p.peers) (first_fault t.users.address (cannot_meet t.role p.peers) p.all))) f in
+    no_fault t.users.address (cannot_meet t.role p.peers) p.all (ending_none at (has_links t.role) (lacks_peers p) (cannot_meet t.role p.peers) (first_fault t.users.address (cannot_meet t.role p.peers) p.all) o e.1)
 
 shuts_ends : (links : Bool) (t : Terms) (p : Pool) → EndsFine (shuts links t p)
 shuts_ends true t p o f = cc
@@ -189,6 +190,7 @@ last_ends true t p AllCame o f = cc
 last_ends true t p NoLinks o f = cc
 last_ends true t p (NobodyComes why) o f = cc
 last_ends true t p other o f = cc
+last_ends false t p AllCame o f = shuts_ends false t (record p { words = silence; has_all = true }) o f
 last_ends false t p (NobodyComes why) o f = shuts_ends false t (record p { words = silence; why = refusal (option.Bind p.peers) why }) o f
 last_ends false t p other o f = shuts_ends false t (record p { words = silence; why = None }) o f
 

@@ -26,7 +26,7 @@ use Rattle.ymx_policy.proofs.PoolKeeping.{keeps}
 -- ---- how many run
 
 -- before it first waits none has run, there is a place for one that is to have its thread, and where it ends none runs
-abbrev has_place : PoolStage → (count places : ℕ) → Type 0
+abbrev pub has_place : PoolStage → (count places : ℕ) → Type 0
 has_place stage.Calling count places = count ≡ 0
 has_place stage.Opening count places = count ≡ 0
 has_place stage.Starting count places = count < places
@@ -80,6 +80,7 @@ users_running t p (NobodyComes why) = heeds_running t.goes_on t p silence None _
 users_running t p other = heeds_running t.goes_on t p silence None _
 
 peers_running : (t : Terms) (p : Pool) (h : PoolHappened) → (after_peers t p h).running ≡ p.running
+peers_running t p AllCame = refl
 peers_running t p (NobodyComes why) = refl
 peers_running t p other = refl
 
@@ -131,11 +132,11 @@ running_at stage.Over t p h room shut bad e = refl
 count_step : (t : Terms) (p : Pool) (h : PoolHappened) (n : ℕ) → has_place p.stage p.running t.places → p.running ≡ n → (after t p h).running ≡ running_after (asked t p).deed h n
 count_step t p h n r e = running_at p.stage t p h _ _ _ r ∙ ap (running_after (asked t p).deed h) e
 
-record IsCounted (t : Terms) (past : List (PoolAsk × PoolHappened)) (p : Pool) : Type 0 where
-  place : has_place p.stage p.running t.places
-  count : p.running ≡ running past
+pub record IsCounted (t : Terms) (past : List (PoolAsk × PoolHappened)) (p : Pool) : Type 0 where
+  pub place : has_place p.stage p.running t.places
+  pub count : p.running ≡ running past
 
-counted : (t : Terms) (past : List (PoolAsk × PoolHappened)) → 0 < t.places → IsPast t past → IsCounted t past (pool_of t past)
+pub counted : (t : Terms) (past : List (PoolAsk × PoolHappened)) → 0 < t.places → IsPast t past → IsCounted t past (pool_of t past)
 counted t past some valid = keeps t (λ past p. IsCounted t past p) (record { place = place_first t; count = refl })
     (λ past p h goes c. record { place = place_step t p h some c.place; count = count_step t p h (running past) c.place c.count }) past valid
 

@@ -1,13 +1,10 @@
 -- How a program with a plan ends.
-use Rattle.std.proofs.Common.{◌≡◌, ℕ, List, [], ◌∷◌, Bool, true, false, Option, None, Some, refl, ap, sym, ◌∙◌, subst, true≢false}
+use Rattle.std.proofs.Common.{◌≡◌, ℕ, List, [], ◌∷◌, Bool, true, false, Option, None, Some, refl, ap, sym, ◌∙◌, subst}
 use Rattle.std.specs.Prelude.{map}
 use Rattle.std.specs.Io.KnownBytes.{Keeps}
-use Rattle.ymx_policy.specs.declared.plan.Plan.{Plan}
-use Rattle.ymx_policy.specs.declared.plan.Role.TheVariants.{RemoteAwaits}
 use Rattle.ymx_policy.specs.declared.plan.Terms.{Terms}
 use Rattle.ymx_policy.specs.declared.asks.Fault.{Fault}
 use Rattle.ymx_policy.specs.declared.asks.Notice.{Notice}
-use Rattle.ymx_policy.specs.declared.asks.Words.{Words}
 use Rattle.ymx_policy.specs.declared.asks.Deed.{Deed}
 use Rattle.ymx_policy.specs.declared.asks.Happened.{Happened}
 use Rattle.ymx_policy.specs.declared.asks.PoolDeed.{PoolDeed}
@@ -15,15 +12,15 @@ use Rattle.ymx_policy.specs.declared.asks.PoolHappened.{PoolHappened}
 use Rattle.ymx_policy.specs.Texts.{fault_text, notice_text}
 use Rattle.ymx_policy.specs.Voices.{AreSaid}
 use Rattle.ymx_policy.specs.Laws.{status_of}
-use Rattle.ymx_policy.specs.Past.{HasEnded, Seen, asks, faults as said_faults, notices, then_said, then_told}
-use Rattle.ymx_policy.specs.PoolPast.{ComesToEnd, HasEnded as PoolHasEnded, asks as pool_asks, faults, notices as pool_notices}
-use Rattle.ymx_policy.specs.Endings.{EndsAlone, EndsAt, EndsTogether}
+use Rattle.ymx_policy.specs.Past.{HasEnded, Seen, asks, notices, then_told}
+use Rattle.ymx_policy.specs.PoolPast.{HasEnded as PoolHasEnded, asks as pool_asks, notices as pool_notices}
+use Rattle.ymx_policy.specs.Endings.{EndsAlone, EndsTogether}
 use Rattle.ymx_policy.proofs.Keeping.{said}
 use Rattle.ymx_policy.proofs.ReasonsTold.{none}
 use Rattle.ymx_policy.proofs.PoolReasons.{none as pool_none}
 use Rattle.ymx_policy.specs.declared.asks.Deed.TheVariants as deed
 use Rattle.ymx_policy.specs.declared.asks.PoolDeed.TheVariants as pool_deed
-use Rattle.ymx_policy.proofs.PoolKeeping.{never_well, quiet, said as pool_said, unreasoned}
+use Rattle.ymx_policy.proofs.PoolKeeping.{said as pool_said}
 
 -- what a device took stays where nothing was said
 stays : (fs : List Fault) (taken taken_new : Option (List ℕ)) (failures failures_new : ℕ) → 0 ≡ status_of fs → AreSaid taken taken_new failures failures_new (map fault_text fs) → Keeps taken taken_new
@@ -69,8 +66,8 @@ ends_together t status before now ended = record {
   past = ended.past;
   valid = ended.valid;
   ends = ended.ends;
-  says = λ k. ended.shown.says;
-  tells = λ k silent.
+  says = ended.shown.says;
+  tells = λ silent.
       let P : Bool → Type 0 = λ v. AreSaid before.lines now.lines before.line_failures now.line_failures (map notice_text (then_told v (pool_asks t ended.past).words (pool_notices v ended.past))) in
       subst P silent ended.shown.writes;
 }
@@ -80,58 +77,8 @@ pub together_well : (t : Terms) (status : ℕ) (before now : Seen PoolDeed PoolH
 together_well t status before now ended e =
     stays _ before.taken now.taken before.failures now.failures (sym e ∙ pool_said t ended.past status ended.valid ended.ends) ended.shown.says
 
--- it came to its end
-pub ends_at : (t : Terms) (status : ℕ) (words : Words) (before now : Seen PoolDeed PoolHappened) → ComesToEnd t status words before now → EndsAt t status words
-ends_at t status words before now comes = record { past = comes.past; valid = comes.valid; last = comes.last; ends = comes.ends }
-
--- the faults of the last words are all, where nothing was said before
-last_faults : (words : Words) (fs : List Fault) → fs ≡ [] → then_said words [] ≡ then_said words fs
-last_faults words fs e = ap (then_said words) (sym e)
-
--- so are the reasons
-last_reasons : (words : Words) (ns : List Notice) → ns ≡ [] → then_told false words [] ≡ then_told false words ns
-last_reasons words ns e = ap (then_told false words) (sym e)
-
--- and then said its last words
-pub ends_behind : (t : Terms) (status : ℕ) (words : Words) (taken taken_new : Option (List ℕ)) (failures failures_new : ℕ) (lines lines_new : Option (List ℕ)) (unwritten unwritten_new : ℕ) → EndsAt t status words
-    → (t.goes_on ≡ false → AreSaid taken taken_new failures failures_new (map fault_text (then_said words [])))
-    → (t.goes_on ≡ false → t.is_verbose ≡ false → AreSaid lines lines_new unwritten unwritten_new (map notice_text (then_told false words [])))
-    → EndsTogether t status taken taken_new failures failures_new lines lines_new unwritten unwritten_new
-ends_behind t status words taken taken_new failures failures_new lines lines_new unwritten unwritten_new comes says tells = record {
-  past = comes.past;
-  valid = comes.valid;
-  ends = comes.ends;
-  says = λ k.
-      let P : List Fault → Type 0 = λ fs. AreSaid taken taken_new failures failures_new (map fault_text fs) in
-      let Q : Words → Type 0 = λ w. AreSaid taken taken_new failures failures_new (map fault_text (then_said w (faults comes.past))) in
-      subst Q (sym comes.last) (subst P (last_faults words (faults comes.past) (quiet t comes.past k comes.valid)) (says k));
-  tells = λ k silent.
-      let P : List Notice → Type 0 = λ ns. AreSaid lines lines_new unwritten unwritten_new (map notice_text ns) in
-      let Q : Words → Type 0 = λ w. AreSaid lines lines_new unwritten unwritten_new (map notice_text (then_told false w (pool_notices false comes.past))) in
-      subst Q (sym comes.last) (subst P (last_reasons words (pool_notices false comes.past) (unreasoned t comes.past k comes.valid)) (tells k silent));
-}
-
-not_both : (n : ℕ) → n ≡ 0 → n ≡ 1 → ⊥
-not_both n e f = cc
-
--- a good end of a pool of peers says nothing: there is none with --keep
-pub peers_well : (t : Terms) (status : ℕ) (taken taken_new : Option (List ℕ)) (failures failures_new : ℕ) (lines lines_new : Option (List ℕ)) (unwritten unwritten_new : ℕ) → t.role ≡ RemoteAwaits → EndsTogether t status taken taken_new failures failures_new lines lines_new unwritten unwritten_new → status ≡ 0 → Keeps taken taken_new
-peers_well t status taken taken_new failures failures_new lines lines_new unwritten unwritten_new r ended e = by_keep t.goes_on refl
-  where
-    by_keep : (kept : Bool) → t.goes_on ≡ kept → Keeps taken taken_new
-    by_keep true k = absurd (not_both status e (never_well t ended.past status r k ended.valid ended.ends))
-    by_keep false k = stays _ taken taken_new failures failures_new (sym e ∙ pool_said t ended.past status ended.valid ended.ends) (ended.says k)
-
 -- a good end of a pool tells nothing, where no lines were asked for
 pub pool_silent : (t : Terms) (status : ℕ) (before now : Seen PoolDeed PoolHappened) → PoolHasEnded t status before now → t.is_verbose ≡ false → status ≡ 0 → Keeps before.lines now.lines
 pool_silent t status before now ended silent e =
     let P : Bool → Type 0 = λ v. AreSaid before.lines now.lines before.line_failures now.line_failures (map notice_text (then_told v (pool_asks t ended.past).words (pool_notices v ended.past))) in
     unchanged _ before.lines now.lines before.line_failures now.line_failures (pool_none t ended.past ended.valid (ended.ends ∙ ap pool_deed.End e)) (subst P silent ended.shown.writes)
-
--- nor does that of a pool of peers
-pub peers_silent : (t : Terms) (status : ℕ) (taken taken_new : Option (List ℕ)) (failures failures_new : ℕ) (lines lines_new : Option (List ℕ)) (unwritten unwritten_new : ℕ) → t.role ≡ RemoteAwaits → EndsTogether t status taken taken_new failures failures_new lines lines_new unwritten unwritten_new → t.is_verbose ≡ false → status ≡ 0 → Keeps lines lines_new
-peers_silent t status taken taken_new failures failures_new lines lines_new unwritten unwritten_new r ended silent e = by_keep t.goes_on refl
-  where
-    by_keep : (kept : Bool) → t.goes_on ≡ kept → Keeps lines lines_new
-    by_keep true k = absurd (not_both status e (never_well t ended.past status r k ended.valid ended.ends))
-    by_keep false k = unchanged _ lines lines_new unwritten unwritten_new (pool_none t ended.past ended.valid (ended.ends ∙ ap pool_deed.End e)) (ended.tells k silent)

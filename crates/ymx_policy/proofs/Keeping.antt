@@ -11,7 +11,7 @@ use Rattle.ymx_policy.specs.declared.state.Stage.TheVariants as stage
 use Rattle.ymx_policy.specs.declared.state.State.{State}
 use Rattle.ymx_policy.specs.Machine.{fresh, asked, after}
 use Rattle.ymx_policy.specs.Past.{IsPast, asks, faults, is_end, state_of, then_said}
-use Rattle.ymx_policy.specs.Laws.{is_some_fault, status_of}
+use Rattle.ymx_policy.specs.Laws.{ends_well, is_some_fault, is_well, status_of}
 
 -- what holds at first and is kept by each step holds at each moment
 pub keeps : (t : Terms) (J : List (Ask × Happened) → State → Type 0) → J [] (fresh t)
@@ -31,7 +31,7 @@ said_now past s = then_said s.words (faults past)
 faulted_step : (t : Terms) (s : State) (h : Happened) (fs : List Fault) → is_end (asked t s).deed ≡ false → s.has_faulted ≡ is_some_fault fs → (after t s h).has_faulted ≡ is_some_fault (then_said (after t s h).words fs)
 faulted_step t s h fs goes e = grind arith
 
-has_faulted : (t : Terms) (past : List (Ask × Happened)) → IsPast t past → (state_of t past).has_faulted ≡ is_some_fault (said_now past (state_of t past))
+pub has_faulted : (t : Terms) (past : List (Ask × Happened)) → IsPast t past → (state_of t past).has_faulted ≡ is_some_fault (said_now past (state_of t past))
 has_faulted t = keeps t (λ past s. s.has_faulted ≡ is_some_fault (said_now past s)) refl (λ past s h goes e. faulted_step t s h (said_now past s) goes e)
 
 -- the status at an end
@@ -62,3 +62,22 @@ few at fs e = grind arith
 pub one_fault : (t : Terms) (past : List (Ask × Happened)) → t.goes_on ≡ false → IsPast t past → length (then_said (asks t past).words (faults past)) ≤ 1
 one_fault t past kept valid =
     few (state_of t past).stage (said_now past (state_of t past)) (keeps t (λ past s. is_said_once s.stage (said_now past s) ≡ true) (once_first t) (λ past s h goes e. once_step t s h (said_now past s) kept goes e) past valid)
+
+-- ---- a good end
+
+-- it hasn't ended, or a fault was said, or what happened last was well
+abbrev is_fine : Stage → (bad well : Bool) → Bool
+is_fine stage.Over false well = well
+is_fine at bad well = true
+
+fine_step : (t : Terms) (s : State) (h : Happened) → is_end (asked t s).deed ≡ false → is_fine (after t s h).stage (after t s h).has_faulted (is_well h) ≡ true
+fine_step t s h goes = grind arith
+
+fine_first : (t : Terms) → is_fine (fresh t).stage (fresh t).has_faulted false ≡ true
+fine_first t = grind arith
+
+fine_end : (t : Terms) (s : State) (well : Bool) → (asked t s).deed ≡ deed.End 0 → is_fine s.stage s.has_faulted well ≡ true → well ≡ true
+fine_end t s well a e = grind arith
+
+pub well : (t : Terms) (past : List (Ask × Happened)) → IsPast t past → (asks t past).deed ≡ deed.End 0 → ends_well past ≡ true
+well t past valid a = fine_end t (state_of t past) (ends_well past) a (keeps t (λ past s. is_fine s.stage s.has_faulted (ends_well past) ≡ true) (fine_first t) (λ past s h goes e. fine_step t s h goes) past valid)

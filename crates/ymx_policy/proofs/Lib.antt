@@ -11,3 +11,5 @@ pub mod Counting
 pub mod Crowds
 pub mod ReasonsTold
 pub mod PoolReasons
+pub mod Leaving
+pub mod Sparing

@@ -1,6 +1,6 @@
 -- What holds of a pool at each moment.
 use Rattle.std.specs.Prelude.{is_some}
-use Rattle.std.proofs.Common.{◌≡◌, ◌||◌, ◌-◌, ℕ, List, [], ◌∷◌, Bool, true, false, Option, None, Some, refl, ap, sym, ◌∙◌, subst, arith}
+use Rattle.std.proofs.Common.{◌≡◌, ◌&&◌, ◌||◌, ◌-◌, ℕ, List, [], ◌∷◌, Bool, true, false, Option, None, Some, refl, ap, sym, ◌∙◌, subst, arith}
 use Rattle.ymx_policy.specs.declared.plan.Role.TheVariants.{RemoteAwaits}
 use Rattle.ymx_policy.specs.declared.plan.Terms.{Terms}
 use Rattle.ymx_policy.specs.declared.asks.Fault.{Fault}
@@ -18,9 +18,10 @@ use Rattle.ymx_policy.specs.declared.asks.PoolHappened.TheVariants.{Failed, Lack
 use Rattle.ymx_policy.specs.declared.asks.Notice.{Notice}
 use Rattle.ymx_policy.specs.Table.{refusal, silence}
 use Rattle.std.specs.declared.net.socket_addr.SocketAddrV4.{SocketAddrV4}
-use Rattle.ymx_policy.specs.PoolTable.{goes, has_room, turned_away, after_at, after_calling, after_last, after_no_thread, after_opening, after_peers, after_placing, after_starting, after_users, after_waiting, clean, deed_at, fresh, asked, after, has_links, heeds, leaving, left, meets, rests, settles, settles_at, shuts, unlinked, waits}
+use Rattle.ymx_policy.specs.PoolTable.{goes, has_room, turned_away, after_at, after_calling, after_last, after_no_thread, after_opening, after_peers, after_placing, after_starting, after_users, after_waiting, clean, deed_at, fresh, asked, after, has_links, heeds, leaving, left, listening, meets, rests, settles, settles_at, shuts, unlinked, waits}
 use Rattle.ymx_policy.specs.Past.{then_said, then_told, with}
 use Rattle.ymx_policy.specs.PoolPast.{IsPast, asks, faults, is_end, notices, pool_of}
+use Rattle.ymx_policy.specs.PoolLaws.{has_all, is_all_came, waits as waits_now}
 use Rattle.ymx_policy.specs.Laws.{is_some_fault, status_of}
 
 -- what holds at first and is kept by each step holds at each moment
@@ -115,6 +116,7 @@ users_marks t p (NobodyComes why) fs e = heeds_all t.goes_on t p silence None _ 
 users_marks t p other fs e = heeds_all t.goes_on t p silence None _ fs refl refl e
 
 peers_marks : (t : Terms) (p : Pool) (h : PoolHappened) (fs : List Fault) → p.has_faulted ≡ is_some_fault fs → IsMarked (after_peers t p h) fs
+peers_marks t p AllCame fs e = shuts_marks false t (record p { words = silence; has_all = true }) fs refl e
 peers_marks t p (NobodyComes why) fs e = shuts_marks false t (record p { words = silence; why = refusal (option.Bind p.peers) why }) fs refl e
 peers_marks t p other fs e = shuts_marks false t (record p { words = silence; why = None }) fs refl e
 
@@ -208,15 +210,91 @@ pub unreasoned : (t : Terms) (past : List (PoolAsk × PoolHappened)) → t.goes_
 unreasoned t past k valid = (keeps t IsStill (record { before = refl; now = still_first t })
     (λ past p h goes q. record { before = still_list t p (notices false past) goes q.now q.before; now = still_step t p h k goes q.now }) past valid).before
 
--- ---- a pool of peers never ends well with --keep
+-- ---- all peers have come that were to
+
+-- it knows so exactly where it heard it
+heeds_knows : (kept : Bool) (t : Terms) (p : Pool) (words : Words) (why : Option Notice) (how : SessionEnd) → (heeds kept t p words why how).has_all ≡ p.has_all
+heeds_knows true t p words why how = refl
+heeds_knows false t p words why how = refl
+
+rests_knows : (goes_on : Bool) (t : Terms) (p : Pool) (refused : Option Notice) → (rests goes_on t p refused).has_all ≡ p.has_all
+rests_knows true t p refused = refl
+rests_knows false t p refused = refl
+
+calling_knows : (t : Terms) (p : Pool) (h : PoolHappened) → (after_calling t p h).has_all ≡ p.has_all
+calling_knows t p h = grind arith
+
+opening_knows : (links : Bool) (t : Terms) (p : Pool) (h : PoolHappened) → (after_opening links t p h).has_all ≡ p.has_all
+opening_knows links t p h = grind arith
+
+no_thread_knows : (links : Bool) (t : Terms) (p : Pool) (why : Option Reason) → (after_no_thread links t p why).has_all ≡ p.has_all
+no_thread_knows true t p why = heeds_knows t.goes_on t p silence (refusal option.Links why) unlinked
+no_thread_knows false t p why = rests_knows (t.goes_on || p.has_served) t p (refusal option.Peers why)
+
+starting_knows : (links : Bool) (t : Terms) (p : Pool) (h : PoolHappened) → (after_starting links t p h).has_all ≡ p.has_all
+starting_knows links t p Started = refl
+starting_knows links t p (Failed why) = no_thread_knows links t p why
+starting_knows links t p other = no_thread_knows links t p None
+
+meets_knows : (kept : Bool) (p : Pool) (f : Fault) (why : Option Notice) → (meets kept p f why).has_all ≡ p.has_all
+meets_knows true p f why = refl
+meets_knows false p f why = refl
+
+waiting_knows : (links : Bool) (t : Terms) (p : Pool) (h : PoolHappened) → links ≡ false → (after_waiting links t p h).has_all ≡ (is_all_came h || p.has_all)
+waiting_knows true t p h l = cc
+waiting_knows false t p Came l = refl
+waiting_knows false t p (Delayed why) l = refl
+waiting_knows false t p (TurnedAway from) l = refl
+waiting_knows false t p (Left how) l = heeds_knows t.goes_on t (record p { running = p.running - 1 }) (leaving false t.goes_on) None how
+waiting_knows false t p (Met f why) l = meets_knows t.goes_on p f why
+waiting_knows false t p AllCame l = refl
+waiting_knows false t p (NobodyComes why) l = refl
+waiting_knows false t p other l = refl
+
+placing_knows : (t : Terms) (p : Pool) (h : PoolHappened) → (after_placing t p h).has_all ≡ p.has_all
+placing_knows t p LackedMemory = heeds_knows t.goes_on t p silence None (record clean { lacked_memory = true })
+placing_knows t p other = refl
+
+never_waits : (links : Bool) (t : Terms) (peers : SocketAddrV4) → waits_now (listening links t peers) ≡ false
+never_waits true t peers = refl
+never_waits false t peers = refl
+
+waits_there : (room shut : Bool) (t : Terms) (peers : SocketAddrV4) (bad : Bool) → waits_now (deed_at stage.Waiting t room shut peers bad) ≡ true
+waits_there true shut t peers bad = refl
+waits_there false true t peers bad = refl
+waits_there false false t peers bad = refl
+
+heard_if : (b waits heard before : Bool) → waits ≡ b → (waits && heard || before) ≡ (b && heard || before)
+heard_if b waits heard before e = ap (λ (w : Bool). w && heard || before) e
+
+all_at : (at : PoolStage) (t : Terms) (p : Pool) (h : PoolHappened) (room shut bad : Bool) → has_links t.role ≡ false → (after_at at t p h).has_all ≡ (waits_now (deed_at at t room shut p.peers bad) && is_all_came h || p.has_all)
+all_at stage.Calling t p h room shut bad l = calling_knows t p h
+all_at stage.Opening t p h room shut bad l = opening_knows (has_links t.role) t p h ∙ sym (heard_if false (waits_now (listening (has_links t.role) t p.peers)) (is_all_came h) p.has_all (never_waits (has_links t.role) t p.peers))
+all_at stage.Starting t p h room shut bad l = starting_knows (has_links t.role) t p h
+all_at stage.Waiting t p h room shut bad l = waiting_knows (has_links t.role) t p h l ∙ sym (heard_if true (waits_now (deed_at stage.Waiting t room shut p.peers bad)) (is_all_came h) p.has_all (waits_there room shut t p.peers bad))
+all_at stage.Placing t p h room shut bad l = placing_knows t p h
+all_at stage.Closing t p h room shut bad l = refl
+all_at stage.Resting t p h room shut bad l = refl
+all_at stage.Over t p h room shut bad l = refl
+
+all_step : (t : Terms) (p : Pool) (h : PoolHappened) → has_links t.role ≡ false → (after t p h).has_all ≡ (waits_now (asked t p).deed && is_all_came h || p.has_all)
+all_step t p h l = all_at p.stage t p h _ _ _ l
+
+both_heard : (a before b : Bool) → b ≡ before → (a || b) ≡ (a || before)
+both_heard a before b e = ap (λ (x : Bool). a || x) e
+
+pub knows_all : (t : Terms) → has_links t.role ≡ false → (past : List (PoolAsk × PoolHappened)) → IsPast t past → (pool_of t past).has_all ≡ has_all past
+knows_all t l = keeps t (λ past p. p.has_all ≡ has_all past) refl (λ past p h goes e. all_step t p h l ∙ both_heard (waits_now (asked t p).deed && is_all_came h) (has_all past) p.has_all e)
+
+-- ---- a pool of peers ends well with --keep only then
 
 -- a fault is said where it ends
 abbrev is_bad : PoolStage → (bad : Bool) → Bool
 is_bad stage.Over bad = bad
 is_bad at bad = true
 
-bad_step : (t : Terms) (p : Pool) (h : PoolHappened) → t.role ≡ RemoteAwaits → t.goes_on ≡ true → is_bad p.stage p.has_faulted ≡ true → is_bad (after t p h).stage (after t p h).has_faulted ≡ true
-bad_step t p h r k e = grind arith
+bad_step : (t : Terms) (p : Pool) (h : PoolHappened) → t.role ≡ RemoteAwaits → t.goes_on ≡ true → (after t p h).has_all ≡ false → is_bad p.stage p.has_faulted ≡ true → is_bad (after t p h).stage (after t p h).has_faulted ≡ true
+bad_step t p h r k a e = grind arith
 
 bad_first : (t : Terms) → is_bad (fresh t).stage (fresh t).has_faulted ≡ true
 bad_first t = grind arith
@@ -224,5 +302,15 @@ bad_first t = grind arith
 bad_end : (t : Terms) (p : Pool) (n : ℕ) → (asked t p).deed ≡ deed.End n → is_bad p.stage p.has_faulted ≡ true → n ≡ 1
 bad_end t p n a e = grind arith
 
-pub never_well : (t : Terms) (past : List (PoolAsk × PoolHappened)) (n : ℕ) → t.role ≡ RemoteAwaits → t.goes_on ≡ true → IsPast t past → (asks t past).deed ≡ deed.End n → n ≡ 1
-never_well t past n r k valid a = bad_end t (pool_of t past) n a (keeps t (λ past p. is_bad p.stage p.has_faulted ≡ true) (bad_first t) (λ past p h goes e. bad_step t p h r k e) past valid)
+-- where it knows now that all have come, or not, it did so before or didn't
+all_before : (t : Terms) (p : Pool) (h : PoolHappened) → t.role ≡ RemoteAwaits → (after t p h).has_all ≡ false → p.has_all ≡ false
+all_before t p h r a = grind arith
+
+awaits_none : (t : Terms) → t.role ≡ RemoteAwaits → has_links t.role ≡ false
+awaits_none t r = grind arith
+
+pub never_well : (t : Terms) (past : List (PoolAsk × PoolHappened)) (n : ℕ) → t.role ≡ RemoteAwaits → t.goes_on ≡ true → has_all past ≡ false → IsPast t past → (asks t past).deed ≡ deed.End n → n ≡ 1
+never_well t past n r k none valid a =
+    bad_end t (pool_of t past) n a
+    (keeps t (λ past p. p.has_all ≡ false → is_bad p.stage p.has_faulted ≡ true) (λ none. bad_first t) (λ past p h goes e now. bad_step t p h r k now (e (all_before t p h r now))) past valid
+    (knows_all t (awaits_none t r) past valid ∙ none))

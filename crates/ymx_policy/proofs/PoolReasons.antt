@@ -16,7 +16,7 @@ use Rattle.ymx_policy.specs.declared.pool.PoolStage.TheVariants as stage
 use Rattle.ymx_policy.specs.declared.pool.Pool.{Pool}
 use Rattle.ymx_policy.specs.Table.{cannot_meet, first_fault, first_reason, refusal, silence}
 use Rattle.std.specs.declared.net.socket_addr.SocketAddrV4.{SocketAddrV4}
-use Rattle.ymx_policy.specs.PoolTable.{has_room, turned_away, after_at, after_calling, after_last, after_no_thread, after_opening, after_peers, after_placing, after_starting, after_users, after_waiting, cause_at, clean, ending_at, has_links, heeds, leaving, meets, rests, settles_at, shuts, unlinked}
+use Rattle.ymx_policy.specs.PoolTable.{has_room, turned_away, after_at, after_calling, after_last, after_no_thread, after_opening, after_peers, after_placing, after_starting, after_users, after_waiting, cause_at, clean, ending_at, has_links, heeds, lacks_peers, leaving, meets, rests, settles_at, shuts, unlinked}
 use Rattle.ymx_policy.specs.PoolPast.{IsPast, asks, faults, notices, pool_of}
 use Rattle.ymx_policy.specs.Past.{then_said, then_told}
 use Rattle.ymx_policy.proofs.PoolKeeping.{keeps, said}
@@ -37,7 +37,7 @@ no_cause at links shut unmet gathered why reason h e = grind arith
 settles_mute : (at : PoolStage) (t : Terms) (p : Pool) → (p.words.fault ≡ None → p.words.reason ≡ None) → IsMute (settles_at at t p).words
 settles_mute at t p e = record {
   reason = e;
-  cause = no_cause at (has_links t.role) p.is_shut (cannot_meet t.role p.peers) (first_fault t.users.address (cannot_meet t.role p.peers) p.all) p.why (first_reason t.users.address p.why p.all)
+  cause = no_cause at (has_links t.role) (lacks_peers p) (cannot_meet t.role p.peers) (first_fault t.users.address (cannot_meet t.role p.peers) p.all) p.why (first_reason t.users.address p.why p.all)
       (no_reason t.users.address (cannot_meet t.role p.peers) p.why p.all);
 }
 
@@ -91,6 +91,7 @@ users_mute t p (NobodyComes why) = all_mute t.goes_on t p None _
 users_mute t p other = all_mute t.goes_on t p None _
 
 peers_mute : (t : Terms) (p : Pool) (h : PoolHappened) → IsMute (after_peers t p h).words
+peers_mute t p AllCame = shuts_mute false t (record p { words = silence; has_all = true }) silent
 peers_mute t p (NobodyComes why) = shuts_mute false t (record p { words = silence; why = refusal (option.Bind p.peers) why }) silent
 peers_mute t p other = shuts_mute false t (record p { words = silence; why = None }) silent
 

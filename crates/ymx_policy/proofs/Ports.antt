@@ -15,30 +15,31 @@ use Rattle.ymx_policy.specs.declared.state.Stage.{Stage}
 use Rattle.ymx_policy.specs.declared.state.Stage.TheVariants as stage
 use Rattle.ymx_policy.specs.declared.state.State.{State}
 use Rattle.ymx_policy.specs.Machine.{fresh, asked, after}
-use Rattle.ymx_policy.specs.Past.{IsPast, asks, state_of}
-use Rattle.ymx_policy.specs.Laws.{has_opened, has_peer, is_local, listened, opens, peer_after, peers_of}
+use Rattle.ymx_policy.specs.Past.{IsPast, asks, is_end, state_of}
+use Rattle.ymx_policy.specs.Laws.{all_came_last, has_opened, has_peer, is_all_came, is_local, listened, opens, peer_after, peers_of}
 use Rattle.ymx_policy.proofs.Keeping.{keeps}
 
 -- ---- a `remote` that calls goes on with --keep
 
--- it calls, serves or pauses
-abbrev goes_on : Stage → Bool
-goes_on stage.Calling = true
-goes_on stage.Serving = true
-goes_on stage.Pausing = true
-goes_on at = false
+-- it calls, serves or pauses, or has ended where all had come
+abbrev goes_on : Stage → (all_came : Bool) → Bool
+goes_on stage.Calling all = true
+goes_on stage.Serving all = true
+goes_on stage.Pausing all = true
+goes_on stage.Over all = all
+goes_on at all = false
 
-on_step : (t : Terms) (s : State) (h : Happened) → t.role ≡ RemoteCalls → t.goes_on ≡ true → goes_on s.stage ≡ true → goes_on (after t s h).stage ≡ true
-on_step t s h r k e = grind arith
+on_step : (t : Terms) (s : State) (h : Happened) (all : Bool) → t.role ≡ RemoteCalls → t.goes_on ≡ true → is_end (asked t s).deed ≡ false → goes_on s.stage all ≡ true → goes_on (after t s h).stage (is_all_came h) ≡ true
+on_step t s h all r k goes e = grind arith
 
-on_first : (t : Terms) → t.role ≡ RemoteCalls → goes_on (fresh t).stage ≡ true
+on_first : (t : Terms) → t.role ≡ RemoteCalls → goes_on (fresh t).stage false ≡ true
 on_first t r = grind arith
 
-no_end : (t : Terms) (s : State) (n : ℕ) → goes_on s.stage ≡ true → (asked t s).deed ≢ deed.End n
-no_end t s n e = grind arith
+no_end : (t : Terms) (s : State) (n : ℕ) (all : Bool) → all ≡ false → goes_on s.stage all ≡ true → (asked t s).deed ≢ deed.End n
+no_end t s n all none e = grind arith
 
-pub forever : (t : Terms) (past : List (Ask × Happened)) (n : ℕ) → t.role ≡ RemoteCalls → t.goes_on ≡ true → IsPast t past → (asks t past).deed ≢ deed.End n
-forever t past n r k valid = no_end t (state_of t past) n (keeps t (λ past s. goes_on s.stage ≡ true) (on_first t r) (λ past s h goes e. on_step t s h r k e) past valid)
+pub forever : (t : Terms) (past : List (Ask × Happened)) (n : ℕ) → t.role ≡ RemoteCalls → t.goes_on ≡ true → all_came_last past ≡ false → IsPast t past → (asks t past).deed ≢ deed.End n
+forever t past n r k none valid = no_end t (state_of t past) n (all_came_last past) none (keeps t (λ past s. goes_on s.stage (all_came_last past) ≡ true) (on_first t r) (λ past s h goes e. on_step t s h (all_came_last past) r k goes e) past valid)
 
 -- ---- a session has a peer
 

@@ -40,6 +40,7 @@ abbrev is_rested : Stage → (pause : ℕ) → (last : Option Deed) → Type 0
 is_rested stage.Calling pause last = (pause ≡ 0) ⊎ (last ≡ Some (deed.Pause pause))
 is_rested stage.Serving pause last = Unit {0}
 is_rested stage.Pausing pause last = 0 < pause
+is_rested stage.Over pause last = Unit {0}
 is_rested at pause last = ⊥
 
 rest_step : (t : Terms) (s : State) (h : Happened) (last : Option Deed) → t.role ≡ RemoteCalls → t.goes_on ≡ true → is_rested s.stage s.pause last → is_rested (after t s h).stage (after t s h).pause (Some (asked t s).deed)

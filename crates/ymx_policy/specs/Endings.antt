@@ -31,21 +31,14 @@ pub record EndsAlone (t : Terms) (status : ℕ) (taken taken_new : Option (List 
   pub says : AreSaid taken taken_new failures failures_new (map fault_text (then_said (asks t past).words (faults past)))
   pub tells : t.is_verbose ≡ false → AreSaid lines lines_new unwritten unwritten_new (map notice_text (then_told false (asks t past).words (notices false past)))
 
--- A pool with these terms has come to its end with this status, by its tables alone, and these are its last words.
-pub record EndsAt (t : Terms) (status : ℕ) (words : Words) : Type 0 where
-  pub past : List (PoolAsk × PoolHappened)
-  pub valid : IsPoolPast t past
-  pub last : (pool_asks t past).words ≡ words
-  pub ends : (pool_asks t past).deed ≡ pool_deed.End status
-
--- A pool with these terms has ended with this status, by its tables alone. Without --keep the error device took the texts of its faults
--- and, where no lines were asked for, the device for lines those of their reasons.
+-- A pool with these terms has ended with this status, by its tables alone, and the error device took the texts of its faults. Where no
+-- lines were asked for, the device for lines took the texts of their reasons.
 pub record EndsTogether (t : Terms) (status : ℕ) (taken taken_new : Option (List ℕ)) (failures failures_new : ℕ) (lines lines_new : Option (List ℕ)) (unwritten unwritten_new : ℕ) : Type 0 where
   pub past : List (PoolAsk × PoolHappened)
   pub valid : IsPoolPast t past
   pub ends : (pool_asks t past).deed ≡ pool_deed.End status
-  pub says : t.goes_on ≡ false → AreSaid taken taken_new failures failures_new (map fault_text (then_said (pool_asks t past).words (pool_faults past)))
-  pub tells : t.goes_on ≡ false → t.is_verbose ≡ false → AreSaid lines lines_new unwritten unwritten_new (map notice_text (then_told false (pool_asks t past).words (pool_notices false past)))
+  pub says : AreSaid taken taken_new failures failures_new (map fault_text (then_said (pool_asks t past).words (pool_faults past)))
+  pub tells : t.is_verbose ≡ false → AreSaid lines lines_new unwritten unwritten_new (map notice_text (then_told false (pool_asks t past).words (pool_notices false past)))
 
 -- an end, or a pool
 abbrev pub EndsSo : (pool : Bool) → Terms → (status : ℕ) → (taken taken_new : Option (List ℕ)) → (failures failures_new : ℕ) → (lines lines_new : Option (List ℕ)) → (unwritten unwritten_new : ℕ) → Type 0

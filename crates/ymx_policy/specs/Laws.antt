@@ -1,5 +1,5 @@
 -- What a user can see of what an end did: words that know nothing of the machine (this project's own).
-use Rattle.std.specs.Prelude.{◌≡◌, ◌⊎◌, ◌^◌, ◌==◌, ◌&&◌, ◌||◌, ℕ, zero, suc, List, [], ◌∷◌, Bool, true, false, not, if◌then◌else◌, min, Option, Some, None, is_some}
+use Rattle.std.specs.Prelude.{◌≡◌, ◌⊎◌, ◌^◌, ◌-◌, ◌==◌, ◌&&◌, ◌||◌, ℕ, zero, suc, List, [], ◌∷◌, Bool, true, false, not, if◌then◌else◌, min, Option, Some, None, is_some}
 use Rattle.std.specs.declared.net.socket_addr.SocketAddrV4.{SocketAddrV4}
 use Rattle.ymx_policy.specs.declared.plan.Role.{Role}
 use Rattle.ymx_policy.specs.declared.plan.Role.TheVariants.{LocalCalls, LocalAwaits}
@@ -42,16 +42,28 @@ is_well AllCame = true
 is_well (SessionEnded how) = is_clean how
 is_well other = false
 
+-- all have come that were to
+abbrev pub is_all_came : Happened → Bool
+is_all_came AllCame = true
+is_all_came other = false
+
 -- so it is of what happened last
+abbrev pub all_came_last : List (Ask × Happened) → Bool
+all_came_last [] = false
+all_came_last (entry ∷ past) = is_all_came entry.1
+
+-- what happened last ends it well
 abbrev pub ends_well : List (Ask × Happened) → Bool
 ends_well [] = false
 ends_well (entry ∷ past) = is_well entry.1
 
 -- ---- pauses
 
--- the tries that failed so far: a call without a peer, or a session of less than a second, is one more; a longer session ends the row
+-- the tries that failed so far: a call without a peer, or a session of less than a second, is one more; a longer session ends the row;
+-- where all have come no call is made
 abbrev pub tries_after : Deed → Happened → ℕ → ℕ
 tries_after (deed.Call peer) PeerCame tries = tries
+tries_after (deed.Call peer) AllCame tries = tries
 tries_after (deed.Call peer) other tries = suc tries
 tries_after (deed.Serve session) (SessionEnded how) tries = if how.has_lasted then 0 else suc tries
 tries_after (deed.Serve session) other tries = suc tries
@@ -71,6 +83,23 @@ pause_of (suc others) = min 30 (2 ^ others)
 abbrev pub last_deed : List (Ask × Happened) → Option Deed
 last_deed [] = None
 last_deed (entry ∷ past) = Some entry.0.deed
+
+-- ---- who is spared
+
+-- Behind a session whose peer had gone away ten calls may fail before users are closed, behind another none; each call that fails is one
+-- fewer.
+abbrev pub spared_after : Deed → Happened → ℕ → ℕ
+spared_after (deed.Serve session) (SessionEnded how) n = if how.is_peer_away then 10 else 0
+spared_after (deed.Serve session) other n = 0
+spared_after (deed.Call peer) PeerCame n = n
+spared_after (deed.Call peer) AllCame n = n
+spared_after (deed.Call peer) other n = n - 1
+spared_after other happened n = n
+
+-- how many calls may fail before users are closed
+abbrev pub spared_calls : List (Ask × Happened) → ℕ
+spared_calls [] = 0
+spared_calls (entry ∷ past) = spared_after entry.0.deed entry.1 (spared_calls past)
 
 -- ---- who is there
 

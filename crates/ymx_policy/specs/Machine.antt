@@ -1,5 +1,5 @@
 -- An end of a tunnel as a machine: at each stage it asks for one thing, and what happened leads to the next (this project's own).
-use Rattle.std.specs.Prelude.{◌||◌, ℕ, Bool, true, false, is_some, if◌then◌else◌, Option, Some, None}
+use Rattle.std.specs.Prelude.{◌-◌, ◌==◌, ◌||◌, ℕ, Bool, true, false, is_some, if◌then◌else◌, Option, Some, None}
 use Rattle.std.specs.declared.net.socket_addr.SocketAddrV4.{SocketAddrV4}
 use Rattle.ymx_policy.specs.declared.plan.Role.{Role}
 use Rattle.ymx_policy.specs.declared.plan.Role.TheVariants.{RemoteCalls}
@@ -19,7 +19,7 @@ use Rattle.ymx_policy.specs.declared.asks.Happened.TheVariants.{Listening, Faile
 use Rattle.ymx_policy.specs.declared.state.Stage.{Stage}
 use Rattle.ymx_policy.specs.declared.state.Stage.TheVariants as stage
 use Rattle.ymx_policy.specs.declared.state.State.{State}
-use Rattle.ymx_policy.specs.Table.{begins, begins_with_users, behind_peers, behind_users, behind_call, behind_session, behind_user, longer, silence, tells, refusal, opened, gone_if, owes_gone, came, parting, serving, cannot_meet, first_fault, first_reason}
+use Rattle.ymx_policy.specs.Table.{begins, begins_with_users, behind_peers, behind_users, behind_call, behind_session, behind_user, longer, spared, silence, tells, refusal, opened, gone_if, owes_gone, came, parting, serving, cannot_meet, first_fault, first_reason}
 
 -- an end that has done nothing yet
 abbrev pub fresh : Terms → State
@@ -29,6 +29,7 @@ fresh t = record {
   has_users = begins_with_users t.role;
   pause = 0;
   peers = t.peer;
+  spares = 0;
   has_faulted = false;
 }
 
@@ -82,16 +83,23 @@ after_opening_users t s LackedMemory = ends s None None fault.OutOfMemory
 after_opening_users t s (Failed why) = no_users t s None why
 after_opening_users t s other = no_users t s None None
 
--- a call that failed ends all but with --keep: there `local` closes its user and all others that wait, and `remote` pauses
+-- it calls again after a second, and users wait, though for one call fewer than before
+abbrev pub calls_again : (peer : SocketAddrV4) → Words → State → State
+calls_again peer words s = record s { stage = stage.Pausing; words = record words { last = Some (notice.Unreached peer) }; pause = 1; spares = s.spares - 1 }
+
+-- A call that failed ends all but with --keep. There `local` closes its user and all others that wait, unless it spares them behind a
+-- peer that had gone away; `remote` pauses.
 abbrev pub after_no_call : Role → (kept : Bool) → (peer : SocketAddrV4) → (refused : Option Notice) → State → State
 after_no_call role false peer refused s = ends s None refused (fault.CannotReach peer)
 after_no_call RemoteCalls true peer refused s =
     record s { stage = stage.Pausing; words = record silence { first = refused; last = Some (notice.Unreached peer) }; pause = longer s.pause }
-after_no_call role true peer refused s = goes s stage.Refusing (record silence { first = refused })
+after_no_call role true peer refused s =
+    if s.spares == 0 then goes s stage.Refusing (record silence { first = refused }) else calls_again peer (record silence { first = refused }) s
 
--- the peer that it called is there, or can't be reached
+-- the peer that it called is there, can't be reached, or is to come no more
 abbrev pub after_calling : Terms → State → Happened → State
 after_calling t s PeerCame = goes s (behind_call t.role s.has_users) (came t.goes_on)
+after_calling t s AllCame = goes s stage.Over silence
 after_calling t s (Failed why) = after_no_call t.role t.goes_on t.peer (refusal (option.Peer t.peer) why) s
 after_calling t s other = after_no_call t.role t.goes_on t.peer None s
 
@@ -117,22 +125,23 @@ after_closing t s AllCame = goes s stage.Over (record silence { first = gone_if 
 after_closing t s (NoUsers why) = no_users t s (gone_if (owes_gone t.role)) why
 after_closing t s other = goes s (behind_user t.role) silence
 
--- behind a session with this fault, for this reason: this pause is due before the next call
-abbrev pub parted : Terms → State → (why : Option Notice) → Option Fault → (pause : ℕ) → State
-parted t s why f pause = record s {
-  stage = behind_session t.role t.goes_on pause;
+-- behind a session with this fault, for this reason, whose peer had gone away or hadn't: this pause is due before the next call
+abbrev pub parted : Terms → State → (why : Option Notice) → Option Fault → (away : Bool) → (pause : ℕ) → State
+parted t s why f away pause = record s {
+  stage = behind_session t.role t.goes_on away pause;
   words = parting t.role t.goes_on why f;
   pause = pause;
+  spares = spared away;
   has_faulted = s.has_faulted || is_some f;
 }
 
 -- the session has ended, or could not begin
 abbrev pub after_serving : Terms → State → Happened → State
 after_serving t s (SessionEnded how) =
-    parted t s (first_reason t.users.address None how) (first_fault t.users.address (cannot_meet t.role s.peers) how) (if how.has_lasted then 0 else longer s.pause)
-after_serving t s LackedMemory = parted t s None (Some fault.OutOfMemory) (longer s.pause)
-after_serving t s (Failed why) = parted t s (refusal (serving t.role t.users.address s.peers) why) (Some (cannot_meet t.role s.peers)) (longer s.pause)
-after_serving t s other = parted t s None (Some (cannot_meet t.role s.peers)) (longer s.pause)
+    parted t s (first_reason t.users.address None how) (first_fault t.users.address (cannot_meet t.role s.peers) how) how.is_peer_away (if how.has_lasted then 0 else longer s.pause)
+after_serving t s LackedMemory = parted t s None (Some fault.OutOfMemory) false (longer s.pause)
+after_serving t s (Failed why) = parted t s (refusal (serving t.role t.users.address s.peers) why) (Some (cannot_meet t.role s.peers)) false (longer s.pause)
+after_serving t s other = parted t s None (Some (cannot_meet t.role s.peers)) false (longer s.pause)
 
 -- what happened at this stage leads here
 abbrev pub after_at : Stage → Terms → State → Happened → State

@@ -1,10 +1,10 @@
 -- What a user can see of what a pool did: words that know nothing of the machine (this project's own).
-use Rattle.std.specs.Prelude.{◌-◌, ◌&&◌, ℕ, suc, List, [], ◌∷◌, Bool, true, false}
+use Rattle.std.specs.Prelude.{◌-◌, ◌&&◌, ◌||◌, ℕ, suc, List, [], ◌∷◌, Bool, true, false}
 use Rattle.ymx_policy.specs.declared.asks.PoolDeed.{PoolDeed}
 use Rattle.ymx_policy.specs.declared.asks.PoolDeed.TheVariants as deed
 use Rattle.ymx_policy.specs.declared.asks.PoolAsk.{PoolAsk}
 use Rattle.ymx_policy.specs.declared.asks.PoolHappened.{PoolHappened}
-use Rattle.ymx_policy.specs.declared.asks.PoolHappened.TheVariants.{Came, Started, Left, Met}
+use Rattle.ymx_policy.specs.declared.asks.PoolHappened.TheVariants.{AllCame, Came, Started, Left, Met}
 use Rattle.ymx_policy.specs.Laws.{is_clean}
 
 -- it waits for what comes
@@ -26,6 +26,23 @@ running_after other happened n = n
 abbrev pub running : List (PoolAsk × PoolHappened) → ℕ
 running [] = 0
 running (entry ∷ past) = running_after entry.0.deed entry.1 (running past)
+
+-- all have come that were to
+abbrev pub is_all_came : PoolHappened → Bool
+is_all_came AllCame = true
+is_all_came other = false
+
+-- while it waited it heard that all have come that were to
+abbrev pub has_all : List (PoolAsk × PoolHappened) → Bool
+has_all [] = false
+has_all (entry ∷ past) = (waits entry.0.deed && is_all_came entry.1) || has_all past
+
+-- it listens for a peer, lets one in, or begins a session
+abbrev pub takes_peers : PoolDeed → Bool
+takes_peers (deed.ListenForPeers peers) = true
+takes_peers deed.Await = true
+takes_peers (deed.Start session) = true
+takes_peers other = false
 
 -- nothing went wrong in this session, nor before
 abbrev pub clean_after : PoolDeed → PoolHappened → Bool → Bool

@@ -31,7 +31,7 @@ has_links role = false
 
 -- a session in which nothing went wrong
 abbrev pub clean : SessionEnd
-clean = record { accept_failed = false; accept_reason = None; broken = None; peer = None; lacked_memory = false; is_unwatched = false; has_lasted = false }
+clean = record { accept_failed = false; accept_reason = None; broken = None; peer = None; lacked_memory = false; is_unwatched = false; has_lasted = false; is_peer_away = false }
 
 -- the first rule that was broken
 abbrev pub first_rule : Option ℕ → Option ℕ → Option ℕ
@@ -53,6 +53,7 @@ both a b = record {
   lacked_memory = a.lacked_memory || b.lacked_memory;
   is_unwatched = a.is_unwatched || b.is_unwatched;
   has_lasted = a.has_lasted || b.has_lasted;
+  is_peer_away = a.is_peer_away || b.is_peer_away;
 }
 
 -- ---- where it goes
@@ -91,17 +92,17 @@ settled false zero true had = stage.Over
 settled false zero false true = stage.Over
 settled false zero false false = stage.Waiting
 
--- What ends it there: of peers that none can come in any more, else the first fault of all sessions.
-abbrev pub ending_at : PoolStage → (links shut : Bool) → (unmet : Fault) → (gathered : Option Fault) → Option Fault
+-- What ends it there: of peers that none can come in any more though some were to, else the first fault of all sessions.
+abbrev pub ending_at : PoolStage → (links lacks : Bool) → (unmet : Fault) → (gathered : Option Fault) → Option Fault
 ending_at stage.Over false true unmet gathered = Some unmet
-ending_at stage.Over links shut unmet gathered = gathered
-ending_at at links shut unmet gathered = None
+ending_at stage.Over links lacks unmet gathered = gathered
+ending_at at links lacks unmet gathered = None
 
--- Why it ends there: why no peers come in any more, else the reason of that fault of all sessions.
-abbrev pub cause_at : PoolStage → (links shut : Bool) → (why gathered : Option Notice) → Option Notice
+-- Why it ends there: why no peers come in any more though some were to, else the reason of that fault of all sessions.
+abbrev pub cause_at : PoolStage → (links lacks : Bool) → (why gathered : Option Notice) → Option Notice
 cause_at stage.Over false true why gathered = why
-cause_at stage.Over links shut why gathered = gathered
-cause_at at links shut why gathered = None
+cause_at stage.Over links lacks why gathered = gathered
+cause_at at links lacks why gathered = None
 
 -- ---- what it asks for
 
@@ -114,6 +115,7 @@ fresh t = record {
   running = 0;
   has_served = false;
   is_shut = false;
+  has_all = false;
   all = clean;
   why = None;
   peers = t.peer;
@@ -158,11 +160,15 @@ goes p next words = record p { stage = next; words = words }
 abbrev pub ends : Pool → (why : Option Notice) → Fault → Pool
 ends p why f = record p { stage = stage.Over; words = record silence { reason = why; fault = Some f }; has_faulted = true }
 
+-- no peers come in any more, though some were to
+abbrev pub lacks_peers : Pool → Bool
+lacks_peers p = p.is_shut && not p.has_all
+
 -- it goes on here, or says what ends it, and ends
 abbrev pub settles_at : PoolStage → Terms → Pool → Pool
 settles_at next t p =
-    let ending = ending_at next (has_links t.role) p.is_shut (cannot_meet t.role p.peers) (first_fault t.users.address (cannot_meet t.role p.peers) p.all) in
-    let cause = cause_at next (has_links t.role) p.is_shut p.why (first_reason t.users.address p.why p.all) in
+    let ending = ending_at next (has_links t.role) (lacks_peers p) (cannot_meet t.role p.peers) (first_fault t.users.address (cannot_meet t.role p.peers) p.all) in
+    let cause = cause_at next (has_links t.role) (lacks_peers p) p.why (first_reason t.users.address p.why p.all) in
     record p { stage = next; words = record p.words { cause = cause; ending = ending }; has_faulted = p.has_faulted || is_some ending }
 
 -- it goes on where it is due
@@ -289,8 +295,9 @@ after_users t p NoLinks = shuts true t (heeds t.goes_on t p silence None (lost_l
 after_users t p (NobodyComes why) = shuts true t (heeds t.goes_on t p silence None (record clean { accept_failed = true; accept_reason = why }))
 after_users t p other = shuts true t (heeds t.goes_on t p silence None (record clean { accept_failed = true }))
 
--- no peers come any more
+-- no peers come any more: all have come that were to, or none can come in
 abbrev pub after_peers : Terms → Pool → PoolHappened → Pool
+after_peers t p AllCame = shuts false t (record p { words = silence; has_all = true })
 after_peers t p (NobodyComes why) = shuts_for t p (refusal (option.Bind p.peers) why)
 after_peers t p other = shuts_for t p None
 

@@ -47,15 +47,20 @@ abbrev pub behind_call : Role → (has_users : Bool) → Stage
 behind_call LocalCalls false = stage.OpeningUsers
 behind_call role has_users = stage.Serving
 
--- Behind a session: without --keep nothing. `local` closes the user that waits. A `remote` that calls does so at once where no pause
--- is due; one that awaits its peer has had its only one.
-abbrev pub behind_session : Role → (kept : Bool) → (pause : ℕ) → Stage
-behind_session role false pause = stage.Over
-behind_session LocalCalls true pause = stage.Closing
-behind_session LocalAwaits true pause = stage.Closing
-behind_session Link true pause = stage.Closing
-behind_session RemoteCalls true pause = if pause == 0 then stage.Calling else stage.Pausing
-behind_session RemoteAwaits true pause = stage.Over
+-- Behind a session: without --keep nothing. `local` closes the user that waits, but where it calls a peer that had gone away: there the
+-- user waits for the next session. A `remote` that calls does so at once where no pause is due; one that awaits its peer has had its only
+-- one.
+abbrev pub behind_session : Role → (kept away : Bool) → (pause : ℕ) → Stage
+behind_session role false away pause = stage.Over
+behind_session LocalCalls true away pause = if away then stage.AwaitingUser else stage.Closing
+behind_session LocalAwaits true away pause = stage.Closing
+behind_session Link true away pause = if away then stage.AwaitingUser else stage.Closing
+behind_session RemoteCalls true away pause = if pause == 0 then stage.Calling else stage.Pausing
+behind_session RemoteAwaits true away pause = stage.Over
+
+-- How many calls may fail behind a session before users are closed: ten where its peer had gone away, as it is to be there again soon.
+abbrev pub spared : (away : Bool) → ℕ
+spared away = if away then 10 else 0
 
 -- once the user that waited is closed: `local` waits for the next one before it calls; a peer that is awaited can call again
 abbrev pub behind_user : Role → Stage

@@ -161,6 +161,8 @@ pub struct SessionEnd {
     pub is_unwatched: bool,
     /// It went on for a second at least.
     pub has_lasted: bool,
+    /// Its peer had said that it takes no more streams.
+    pub is_peer_away: bool,
 }
 
 /// What is to be done.
@@ -213,7 +215,7 @@ pub enum Happened {
     TurnedAway(Option<SocketAddrV4>),
     /// A user waits.
     UserCame,
-    /// All users have come that were to.
+    /// All have come that were to: users or, at a `remote`, peers.
     AllCame,
     /// No user can be accepted any more, for this reason if one is known.
     NoUsers(Option<Reason>),
@@ -276,7 +278,7 @@ pub enum PoolHappened {
     Delayed(Reason),
     /// A peer that called from this address, if it is known, was closed. Of those in a second one is told.
     TurnedAway(Option<SocketAddrV4>),
-    /// All users have come that were to.
+    /// All have come that were to: users, or peers.
     AllCame,
     /// Nobody can come in any more, for this reason if one is known.
     NobodyComes(Option<Reason>),

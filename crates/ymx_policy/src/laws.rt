@@ -4,10 +4,10 @@ ghost use Rattle.std.specs.Prelude.{◌≡◌, ◌≢◌, ◌⊎◌, ◌<◌, �
 ghost use Rattle.std.specs.declared.net.socket_addr.SocketAddrV4.{SocketAddrV4 as Address};
 ghost use Rattle.ymx_policy.specs.Past.{IsPast, asks, faults, notices, then_said, then_told};
 ghost use Rattle.ymx_policy.specs.Plans.{terms_of, address_of, has_pool, is_called, keepalive_of};
-ghost use Rattle.ymx_policy.specs.PoolPast.{IsPast as IsPoolPast, asks as pool_asks, faults as pool_faults, notices as pool_notices};
-ghost use Rattle.ymx_policy.specs.PoolLaws.{all_clean, called, running};
+ghost use Rattle.ymx_policy.specs.PoolPast.{is_end, IsPast as IsPoolPast, asks as pool_asks, faults as pool_faults, notices as pool_notices};
+ghost use Rattle.ymx_policy.specs.PoolLaws.{all_clean, called, has_all, running, takes_peers};
 ghost use Rattle.ymx_policy.specs.PoolTable.{has_links};
-ghost use Rattle.ymx_policy.specs.Laws.{NamesPlace, ends_well, failed_tries, has_opened, has_peer, is_clean, is_explained, is_local, is_port_last, is_told_there, last_deed, pause_of, peers_of, says_fault, status_of, told_by};
+ghost use Rattle.ymx_policy.specs.Laws.{NamesPlace, all_came_last, ends_well, failed_tries, has_opened, has_peer, is_clean, is_explained, is_local, is_port_last, is_told_there, last_deed, pause_of, peers_of, says_fault, spared_calls, status_of, told_by};
 ghost use Rattle.ymx_policy.specs.declared.options.LocalOptions.{LocalOptions as LocalGiven};
 ghost use Rattle.ymx_policy.specs.declared.options.RemoteOptions.{RemoteOptions as RemoteGiven};
 ghost use Rattle.ymx_policy.specs.declared.plan.Terms.{Terms as Told};
@@ -38,9 +38,9 @@ pub fn one_fault()
     ensures { (t : Told) (past : List (Asked × Heard)) → t.goes_on ≡ false → IsPast t past → length (then_said (asks t past).words (faults past)) ≤ 1 }
 {}
 
-/// A `remote` that calls never ends with `--keep`.
+/// A `remote` that calls never ends with `--keep`, but where it is to begin no more sessions.
 pub fn calls_forever()
-    ensures { (t : Told) (past : List (Asked × Heard)) (n : ℕ) → t.role ≡ Role.RemoteCalls → t.goes_on ≡ true → IsPast t past → (asks t past).deed ≢ Deed.End n }
+    ensures { (t : Told) (past : List (Asked × Heard)) (n : ℕ) → t.role ≡ Role.RemoteCalls → t.goes_on ≡ true → all_came_last past ≡ false → IsPast t past → (asks t past).deed ≢ Deed.End n }
 {}
 
 /// Every session is with a peer that has come for it.
@@ -57,9 +57,10 @@ pub fn own_port_first()
     ensures called { (t : Told) (past : List (Asked × Heard)) (users : Awaited) → t.role ≡ Role.LocalCalls → t.goes_on ≡ false → IsPast t past → (asks t past).deed ≡ Deed.ListenForUsers users → has_peer past ≡ true }
 {}
 
-/// With `--keep` an end ends only for what happened where users or peers come in, and never behind a call or a session.
+/// With `--keep` an end ends only where all have come that were to, or for what happened where users or peers come in, and
+/// never behind a call or a session.
 pub fn keeps_on()
-    ensures { (t : Told) (past : List (Asked × Heard)) (n : ℕ) → t.role ≢ Role.RemoteAwaits → t.goes_on ≡ true → IsPast t past → (asks t past).deed ≡ Deed.End n → is_port_last past ≡ true }
+    ensures { (t : Told) (past : List (Asked × Heard)) (n : ℕ) → t.role ≢ Role.RemoteAwaits → t.goes_on ≡ true → all_came_last past ≡ false → IsPast t past → (asks t past).deed ≡ Deed.End n → is_port_last past ≡ true }
 {}
 
 /// Each fault that is said has its reason in what happened just before: the rule that was broken, the place. It names the
@@ -91,13 +92,28 @@ pub fn pauses()
     ensures row { map pause_of (1 ∷ 2 ∷ 3 ∷ 4 ∷ 5 ∷ 6 ∷ 7 ∷ []) ≡ 1 ∷ 2 ∷ 4 ∷ 8 ∷ 16 ∷ 30 ∷ 30 ∷ [] }
 {}
 
+/// An end that is to begin no more sessions, while it calls its peer or awaits it, ends at once: with status 0 where no fault
+/// was said.
+pub fn ends_where_all_came()
+    ensures called { (t : Told) (past : List (Asked × Heard)) (callee : Called) → IsPast t past → (asks t past).deed ≡ Deed.Call callee → (asks t ((asks t past, Happened.AllCame) ∷ past)).deed ≡ Deed.End (status_of (then_said (asks t past).words (faults past))) }
+    ensures awaited { (t : Told) (past : List (Asked × Heard)) → IsPast t past → (asks t past).deed ≡ Deed.AwaitPeer → (asks t ((asks t past, Happened.AllCame) ∷ past)).deed ≡ Deed.End (status_of (then_said (asks t past).words (faults past))) }
+{}
+
+/// With `--keep` a `local` that calls its peer closes no user behind a session whose peer had gone away: users wait for the
+/// next one. Ten calls may fail then before they are closed, with a pause of a second behind each.
+pub fn users_wait_for_the_next_session()
+    ensures waits { (t : Told) (past : List (Asked × Heard)) (session : Served) (how : Ended) → (t.role ≡ Role.LocalCalls) ⊎ (t.role ≡ Role.Link) → t.goes_on ≡ true → IsPast t past → (asks t past).deed ≡ Deed.Serve session → how.is_peer_away ≡ true → (asks t ((asks t past, Happened.SessionEnded how) ∷ past)).deed ≡ Deed.AwaitUser }
+    ensures again { (t : Told) (past : List (Asked × Heard)) (callee : Called) (happened : Heard) → t.role ≢ Role.RemoteCalls → t.goes_on ≡ true → IsPast t past → (asks t past).deed ≡ Deed.Call callee → happened ≢ Happened.PeerCame → happened ≢ Happened.AllCame → 0 < spared_calls past → (asks t ((asks t past, happened) ∷ past)).deed ≡ Deed.Pause 1 }
+    ensures calls { (t : Told) (past : List (Asked × Heard)) (happened : Heard) (n : ℕ) → IsPast t past → (asks t past).deed ≡ Deed.Pause n → (asks t ((asks t past, happened) ∷ past)).deed ≡ Deed.Call (record { address = t.peer; limit = t.limit }) }
+{}
+
 /// Where something went wrong in a session, a fault is said at once. Where the peer can't be reached, for whatever reason,
-/// all users that wait are closed. Behind a session that is lost only the one is that came for it, as the next call may
-/// serve the others.
+/// all users that wait are closed, unless they are spared. Behind a session that is lost only the one is that came for it,
+/// as the next call may serve the others.
 pub fn each_fault_is_said()
     ensures said { (t : Told) (past : List (Asked × Heard)) (session : Served) (how : Ended) → IsPast t past → (asks t past).deed ≡ Deed.Serve session → is_clean how ≡ false → says_fault (asks t ((asks t past, Happened.SessionEnded how) ∷ past)).words ≡ true }
-    ensures unreached { (t : Told) (past : List (Asked × Heard)) (callee : Called) (happened : Heard) → t.role ≢ Role.RemoteCalls → t.goes_on ≡ true → IsPast t past → (asks t past).deed ≡ Deed.Call callee → happened ≢ Happened.PeerCame → (asks t ((asks t past, happened) ∷ past)).deed ≡ Deed.CloseUsers }
-    ensures closed { (t : Told) (past : List (Asked × Heard)) (session : Served) (how : Ended) → is_local t.role ≡ true → t.goes_on ≡ true → IsPast t past → (asks t past).deed ≡ Deed.Serve session → (asks t ((asks t past, Happened.SessionEnded how) ∷ past)).deed ≡ Deed.CloseUser }
+    ensures unreached { (t : Told) (past : List (Asked × Heard)) (callee : Called) (happened : Heard) → t.role ≢ Role.RemoteCalls → t.goes_on ≡ true → IsPast t past → (asks t past).deed ≡ Deed.Call callee → happened ≢ Happened.PeerCame → happened ≢ Happened.AllCame → spared_calls past ≡ 0 → (asks t ((asks t past, happened) ∷ past)).deed ≡ Deed.CloseUsers }
+    ensures closed { (t : Told) (past : List (Asked × Heard)) (session : Served) (how : Ended) → is_local t.role ≡ true → t.goes_on ≡ true → IsPast t past → (asks t past).deed ≡ Deed.Serve session → how.is_peer_away ≡ false → (asks t ((asks t past, Happened.SessionEnded how) ∷ past)).deed ≡ Deed.CloseUser }
 {}
 
 /// What is done is what the plan says: the peer is called at its address, for as long as a call may take, users come to
@@ -185,10 +201,11 @@ pub fn lines()
 
 // ---- pools
 
-/// The exit status is 0 exactly where no fault was said, and else 1. With `--keep` a pool of peers never ends well.
+/// The exit status is 0 exactly where no fault was said, and else 1. With `--keep` a pool of peers ends well only where all
+/// have come that were to.
 pub fn pool_statuses()
     ensures said { (t : Told) (past : List (PoolAsked × PoolHeard)) (n : ℕ) → IsPoolPast t past → (pool_asks t past).deed ≡ PoolDeed.End n → n ≡ status_of (then_said (pool_asks t past).words (pool_faults past)) }
-    ensures kept { (t : Told) (past : List (PoolAsked × PoolHeard)) (n : ℕ) → t.role ≡ Role.RemoteAwaits → t.goes_on ≡ true → IsPoolPast t past → (pool_asks t past).deed ≡ PoolDeed.End n → n ≡ 1 }
+    ensures kept { (t : Told) (past : List (PoolAsked × PoolHeard)) (n : ℕ) → t.role ≡ Role.RemoteAwaits → t.goes_on ≡ true → has_all past ≡ false → IsPoolPast t past → (pool_asks t past).deed ≡ PoolDeed.End n → n ≡ 1 }
 {}
 
 /// Without `--keep` nothing is said before the end.
@@ -214,6 +231,15 @@ pub fn pool_counts_faults()
 pub fn pool_places()
     ensures few { (t : Told) (past : List (PoolAsked × PoolHeard)) → 0 < t.places → IsPoolPast t past → running past ≤ t.places }
     ensures empty { (t : Told) (past : List (PoolAsked × PoolHeard)) (n : ℕ) → 0 < t.places → IsPoolPast t past → (pool_asks t past).deed ≡ PoolDeed.End n → running past ≡ 0 }
+{}
+
+/// A pool of peers that has heard that all have come takes no more: it listens for none, lets none in and begins no session.
+/// It waits for those that run, ends once none does, and ends well where nothing went wrong.
+pub fn pool_takes_no_more()
+    ensures none { (t : Told) (past : List (PoolAsked × PoolHeard)) → has_links t.role ≡ false → IsPoolPast t past → has_all past ≡ true → takes_peers (pool_asks t past).deed ≡ false }
+    ensures waits { (t : Told) (past : List (PoolAsked × PoolHeard)) → 0 < t.places → has_links t.role ≡ false → IsPoolPast t past → has_all past ≡ true → 0 < running past → (pool_asks t past).deed ≡ PoolDeed.AwaitLeaving }
+    ensures ends { (t : Told) (past : List (PoolAsked × PoolHeard)) → 0 < t.places → has_links t.role ≡ false → IsPoolPast t past → has_all past ≡ true → running past ≡ 0 → is_end (pool_asks t past).deed ≡ true }
+    ensures well { (t : Told) (past : List (PoolAsked × PoolHeard)) (n : ℕ) → has_links t.role ≡ false → IsPoolPast t past → has_all past ≡ true → all_clean past ≡ true → (pool_asks t past).deed ≡ PoolDeed.End n → n ≡ 0 }
 {}
 
 /// Without `--keep` users can come only once every link was called.

@@ -32,5 +32,5 @@ pub use plan::{Plan, Role, Terms};
 pub use pool::{Pool, PoolStage};
 pub use reason::Reason;
 pub use state::{Stage, State};
-pub use telling::{Text, fault_text, notice_text};
+pub use telling::{Text, fault_text, notice_text, reason_text, source_text};
 pub use world::{Errors, Lines, PoolWorld, World};

@@ -47,6 +47,8 @@ pub struct Pool {
     pub has_served: bool,
     /// Nobody comes in any more.
     pub is_shut: bool,
+    /// All peers have come that were to.
+    pub has_all: bool,
     /// What went wrong in any session, where that is said at the end.
     pub all: SessionEnd,
     /// Why no thread could be made for a link, or no peers come in any more, if that is known.
@@ -69,6 +71,7 @@ impl Pool {
             running: 0,
             has_served: false,
             is_shut: false,
+            has_all: false,
             all: clean(),
             why: None,
             peers: terms.peer,
@@ -185,9 +188,10 @@ impl Pool {
         let unmet = cannot_meet(terms.role, self.peers);
         let links = has_links(terms.role);
         let gathered = first_fault(terms.users.address, unmet, self.all);
-        let ending = ending_at(next, links, self.is_shut, unmet, gathered);
+        let lacks_peers = self.is_shut && !self.has_all;
+        let ending = ending_at(next, links, lacks_peers, unmet, gathered);
         let reason = first_reason(terms.users.address, self.why, self.all);
-        self.words.cause = cause_at(next, links, self.is_shut, self.why, reason);
+        self.words.cause = cause_at(next, links, lacks_peers, self.why, reason);
         self.stage = next;
         self.words.ending = ending;
         self.has_faulted = self.has_faulted || ending.is_some();
@@ -398,6 +402,11 @@ impl Pool {
         ensures { self.new ≡ after_peers terms.now self.old happened }
     {
         match happened {
+            PoolHappened::AllCame => {
+                self.words = silence();
+                self.has_all = true;
+                self.shut(false, terms);
+            }
             PoolHappened::NobodyComes(why) => {
                 self.shut_for(terms, refusal(Named::Bind(self.peers), why));
             }
@@ -445,6 +454,7 @@ fn clean() -> SessionEnd
         lacked_memory: false,
         is_unwatched: false,
         has_lasted: false,
+        is_peer_away: false,
     }
 }
 
@@ -484,6 +494,7 @@ fn both(a: SessionEnd, b: SessionEnd) -> SessionEnd
         lacked_memory: a.lacked_memory || b.lacked_memory,
         is_unwatched: a.is_unwatched || b.is_unwatched,
         has_lasted: a.has_lasted || b.has_lasted,
+        is_peer_away: a.is_peer_away || b.is_peer_away,
     }
 }
 
@@ -555,31 +566,31 @@ fn settled(links: bool, running: u32, is_shut: bool, had_its_peers: bool) -> Poo
 fn ending_at(
     stage: PoolStage,
     links: bool,
-    is_shut: bool,
+    lacks_peers: bool,
     unmet: Fault,
     gathered: Option<Fault>,
 ) -> Option<Fault>
-    ensures { result ≡ ending_at stage links is_shut unmet gathered }
+    ensures { result ≡ ending_at stage links lacks_peers unmet gathered }
 {
     match stage {
-        PoolStage::Over if !links && is_shut => Some(unmet),
+        PoolStage::Over if !links && lacks_peers => Some(unmet),
         PoolStage::Over => gathered,
         _ => None,
     }
 }
 
-/// Why it ends there, if it ends: why no peers come in any more, or the reason of all.
+/// Why it ends there, if it ends: why no peers come in any more though some were to, or the reason of all.
 fn cause_at(
     stage: PoolStage,
     links: bool,
-    is_shut: bool,
+    lacks_peers: bool,
     why: Option<Notice>,
     gathered: Option<Notice>,
 ) -> Option<Notice>
-    ensures { result ≡ cause_at stage links is_shut why gathered }
+    ensures { result ≡ cause_at stage links lacks_peers why gathered }
 {
     match stage {
-        PoolStage::Over if !links && is_shut => why,
+        PoolStage::Over if !links && lacks_peers => why,
         PoolStage::Over => gathered,
         _ => None,
     }

@@ -1,7 +1,8 @@
 //! Where an end of a tunnel has come to, and where what happens leads it.
 
-ghost use Rattle.std.specs.Prelude.{◌≡◌};
-ghost use Rattle.ymx_policy.specs.Machine.{fresh, deed_at, asked, after, goes, ends, no_users, no_peers, parted, after_opening_peers, after_opening_users, after_no_call, after_calling, after_awaiting_peer, after_awaiting_user, after_closing, after_serving};
+ghost use Rattle.std.specs.Prelude.{◌≡◌, ◌==◌, if◌then◌else◌, false, None, Some};
+ghost use Rattle.ymx_policy.specs.Table.{longer};
+ghost use Rattle.ymx_policy.specs.Machine.{fresh, deed_at, asked, after, goes, ends, no_users, no_peers, parted, after_opening_peers, after_opening_users, calls_again, after_no_call, after_calling, after_awaiting_peer, after_awaiting_user, after_closing, after_serving};
 
 use crate::asks::{Ask, Callee, Deed, Fault, Happened, Named, Notice, Peers, SessionEnd, Words};
 use crate::plan::{Role, Terms};
@@ -9,7 +10,7 @@ use crate::reason::Reason;
 use crate::table::{
     begins, begins_with_users, behind_call, behind_peers, behind_session, behind_user,
     behind_users, came, cannot_meet, first_fault, first_reason, gone_if, longer, opened, owes_gone,
-    parting, refusal, serving, silence, tells,
+    parting, refusal, serving, silence, spared, tells,
 };
 use std::net::SocketAddrV4;
 
@@ -51,6 +52,8 @@ pub struct State {
     pub pause: u64,
     /// Where its peer is called, or calls: at port 0 the port that the system chose.
     pub peers: SocketAddrV4,
+    /// How many calls may fail before users are closed.
+    pub spares: u64,
     /// It has said a fault, or does so now.
     pub has_faulted: bool,
 }
@@ -66,6 +69,7 @@ impl State {
             has_users: begins_with_users(terms.role),
             pause: 0,
             peers: terms.peer,
+            spares: 0,
             has_faulted: false,
         }
     }
@@ -198,7 +202,7 @@ impl State {
         }
     }
 
-    /// The peer that it called is there, or can't be reached.
+    /// The peer that it called is there, can't be reached, or is to come no more.
     fn hear_call(&mut self, terms: &Terms, happened: Happened)
         ensures { self.new ≡ after_calling terms.now self.old happened }
     {
@@ -206,6 +210,7 @@ impl State {
             Happened::PeerCame => {
                 self.go(behind_call(terms.role, self.has_users), came(terms.goes_on));
             }
+            Happened::AllCame => self.go(Stage::Over, silence()),
             Happened::Failed(why) => self.hear_no_call(
                 terms,
                 refusal(Named::Peer(terms.peer), why),
@@ -231,8 +236,24 @@ impl State {
                 self.pause = longer(self.pause);
             }
             Role::LocalCalls | Role::LocalAwaits | Role::Link | Role::RemoteAwaits => {
-                self.go(Stage::Refusing, words);
+                self.refuse_users(terms, words);
             }
+        }
+    }
+
+    /// Closes the users that wait, unless they are spared: then it calls again after a second.
+    fn refuse_users(&mut self, terms: &Terms, words: Words)
+        requires { words.last ≡ None }
+        ensures { self.new ≡ (if self.old.spares == 0 then goes self.old Stage.Refusing words else calls_again terms.now.peer words self.old) }
+    {
+        let mut words = words;
+        if self.spares == 0 {
+            self.go(Stage::Refusing, words);
+        } else {
+            words.last = Some(Notice::Unreached(terms.peer));
+            self.go(Stage::Pausing, words);
+            self.pause = 1;
+            self.spares -= 1;
         }
     }
 
@@ -287,15 +308,21 @@ impl State {
         let unmet = cannot_meet(terms.role, self.peers);
         match happened {
             Happened::SessionEnded(how) => self.hear_end(terms, how),
-            Happened::LackedMemory => {
-                self.part(terms, None, Some(Fault::OutOfMemory), longer(self.pause));
-            }
+            Happened::LackedMemory => self.fail(terms, None, Fault::OutOfMemory),
             Happened::Failed(why) => {
                 let named = serving(terms.role, terms.users.address, self.peers);
-                self.part(terms, refusal(named, why), Some(unmet), longer(self.pause));
+                self.fail(terms, refusal(named, why), unmet);
             }
-            _ => self.part(terms, None, Some(unmet), longer(self.pause)),
+            _ => self.fail(terms, None, unmet),
         }
+    }
+
+    /// The session could not begin, for this reason.
+    fn fail(&mut self, terms: &Terms, reason: Option<Notice>, fault: Fault)
+        ensures { self.new ≡ parted terms.now self.old reason (Some fault) false (longer self.old.pause) }
+    {
+        self.pause = longer(self.pause);
+        self.part(terms, reason, Some(fault), false);
     }
 
     /// The session has ended so.
@@ -305,21 +332,22 @@ impl State {
         let unmet = cannot_meet(terms.role, self.peers);
         let fault = first_fault(terms.users.address, unmet, how);
         let reason = first_reason(terms.users.address, None, how);
-        let pause = if how.has_lasted {
+        self.pause = if how.has_lasted {
             0
         } else {
             longer(self.pause)
         };
-        self.part(terms, reason, fault, pause);
+        self.part(terms, reason, fault, how.is_peer_away);
     }
 
-    /// Goes on behind a session with this fault, for this reason, where this pause is due before the next call.
-    fn part(&mut self, terms: &Terms, reason: Option<Notice>, fault: Option<Fault>, pause: u64)
-        ensures { self.new ≡ parted terms.now self.old reason fault pause }
+    /// Goes on behind a session with this fault, for this reason, whose peer took streams to its end or had gone away. Its pause
+    /// is due before the next call.
+    fn part(&mut self, terms: &Terms, reason: Option<Notice>, fault: Option<Fault>, is_away: bool)
+        ensures { self.new ≡ parted terms.now self.old reason fault is_away self.old.pause }
     {
-        self.stage = behind_session(terms.role, terms.goes_on, pause);
+        self.stage = behind_session(terms.role, terms.goes_on, is_away, self.pause);
         self.words = parting(terms.role, terms.goes_on, reason, fault);
-        self.pause = pause;
+        self.spares = spared(is_away);
         self.has_faulted = self.has_faulted || fault.is_some();
     }
 }

@@ -1,7 +1,7 @@
 //! The tables that an end goes by: where it goes, what it says, and which fault it is.
 
 ghost use Rattle.std.specs.Prelude.{◌≡◌};
-ghost use Rattle.ymx_policy.specs.Table.{begins, begins_with_users, behind_peers, behind_users, behind_call, behind_session, behind_user, longer, silence, tells, refusal, broken_rule, opened, gone_if, owes_gone, came, parting, serving, cannot_meet, first_fault, first_reason};
+ghost use Rattle.ymx_policy.specs.Table.{begins, begins_with_users, behind_peers, behind_users, behind_call, behind_session, behind_user, longer, spared, silence, tells, refusal, broken_rule, opened, gone_if, owes_gone, came, parting, serving, cannot_meet, first_fault, first_reason};
 
 use crate::asks::{Fault, Named, Notice, SessionEnd, Words};
 use crate::plan::Role;
@@ -64,14 +64,15 @@ pub(crate) fn behind_call(role: Role, has_users: bool) -> Stage
     }
 }
 
-/// Where it goes on behind a session.
-pub(crate) fn behind_session(role: Role, is_kept: bool, pause: u64) -> Stage
-    ensures { result ≡ behind_session role is_kept pause }
+/// Where it goes on behind a session, whose peer took streams to its end or had gone away.
+pub(crate) fn behind_session(role: Role, is_kept: bool, is_away: bool, pause: u64) -> Stage
+    ensures { result ≡ behind_session role is_kept is_away pause }
 {
     if !is_kept {
         return Stage::Over;
     }
     match role {
+        Role::LocalCalls | Role::Link if is_away => Stage::AwaitingUser,
         Role::LocalCalls | Role::LocalAwaits | Role::Link => Stage::Closing,
         Role::RemoteCalls if pause == 0 => Stage::Calling,
         Role::RemoteCalls => Stage::Pausing,
@@ -98,6 +99,13 @@ pub(crate) fn longer(seconds: u64) -> u64
         _ if seconds > 15 => 30,
         _ => 2 * seconds,
     }
+}
+
+/// How many calls may fail behind a session before users are closed.
+pub(crate) fn spared(is_away: bool) -> u64
+    ensures { result ≡ spared is_away }
+{
+    if is_away { 10 } else { 0 }
 }
 
 // ---- what it says

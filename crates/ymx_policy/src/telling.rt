@@ -85,6 +85,26 @@ pub fn notice_text(notice: Notice) -> Text
     text
 }
 
+/// From where it came, as it stands behind what came: nothing where that isn't known.
+pub fn source_text(from: Option<SocketAddrV4>) -> Text
+    ensures text { result.bytes ≡ source_text from }
+    ensures short { array_string_len result ≤ 226 }
+{
+    let mut text = Text::new();
+    push_source(&mut text, from);
+    text
+}
+
+/// The words for a reason of the system.
+pub fn reason_text(reason: Reason) -> Text
+    ensures text { result.bytes ≡ reason_text reason }
+    ensures short { array_string_len result ≤ 60 }
+{
+    let mut text = Text::new();
+    push_reason(&mut text, reason);
+    text
+}
+
 /// Adds an option as it is written, with its address.
 fn push_option(text: &mut Text, option: Named)
     requires { array_string_len text.old ≤ 5 }

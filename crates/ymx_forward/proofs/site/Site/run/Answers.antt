@@ -1,0 +1,5 @@
+use Rattle.ymx_forward.specs.Sides.{role_at}
+use Rattle.ymx_forward.proofs.site.Site.run.Goals as goal
+
+pub unbegun-requires : goal.unbegun-requires
+unbegun-requires g c = (role_at c.args.end.now.side, c.in-Err.ensures.refused)

@@ -1,0 +1,7 @@
+pub mod Answers
+pub mod Counts
+pub mod Heard
+pub mod Known
+pub mod Lines
+pub mod Page
+pub mod Requests
