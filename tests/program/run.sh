@@ -179,12 +179,18 @@ holds 'the time before each line' python3 -B "$here/times.py" "$ymx"
 holds 'a thousand users at once' python3 -B "$here/bursts.py" "$ymx" 1000
 
 expect 0 "$here/help" nothing hello --help
+expect 0 "$here/help" nothing hello help
+expect 0 "$here/help" nothing hello help --help
+expect 0 "$here/help" nothing hello help -h
 expect 0 "$here/local_help" nothing hello local --help
 expect 0 "$here/remote_help" nothing hello remote --help
+expect 0 "$here/remote_help" nothing hello help remote
+expect 0 "$here/remote_help" nothing hello help remote --help
 expect 0 "$here/frames_help" nothing hello frames --help
 expect 0 "$here/script_help" nothing hello script --help
 expect 0 "$here/selftest_help" nothing hello selftest --help
 expect 0 "$(says 'ymx 0.3.0')" nothing hello --version
+expect 0 "$(says 'ymx-remote 0.3.0')" nothing hello remote --version
 expect 2 nothing "$here/mistake" hello frames --limit 5
 expect 2 nothing "$(says 'error: a word of the command line is not UTF-8')" hello frames "$(printf '\377')"
 
@@ -265,23 +271,23 @@ refuses "$uncalled" remote --target 127.0.0.1:1 --bind 127.0.0.1:0 --timeout 5
 for peers in 0 257 x +5 -5 ' 5' ''; do
     refuses 'error: ' remote --bind 127.0.0.1:0 --target 127.0.0.1:1 "--peers=$peers"
 done
-refuses "error: invalid value '+5' for '--count': a number is decimal digits alone, from 0 to 4294967295" local --listen 127.0.0.1:0 --peer 127.0.0.1:1 --count +5
-refuses "error: invalid value '+300000' for '--limit': a number is decimal digits alone, from 262144 to 16777216" frames --limit +300000
-refuses "error: invalid value '1M' for '--window': a number is decimal digits alone, from 262144 to 16777216" local --listen 127.0.0.1:0 --peer 127.0.0.1:1 --window 1M
-refuses "error: invalid value '5s' for '--ping': a number is decimal digits alone, from 1 to 3600" remote --bind 127.0.0.1:0 --target 127.0.0.1:1 --ping 5s
+refuses "error: invalid value '+5' for '--count <N>': a number is decimal digits alone, from 0 to 4294967295" local --listen 127.0.0.1:0 --peer 127.0.0.1:1 --count +5
+refuses "error: invalid value '+300000' for '--limit <BYTES>': a number is decimal digits alone, from 262144 to 16777216" frames --limit +300000
+refuses "error: invalid value '1M' for '--window <BYTES>': a number is decimal digits alone, from 262144 to 16777216" local --listen 127.0.0.1:0 --peer 127.0.0.1:1 --window 1M
+refuses "error: invalid value '5s' for '--ping <SECONDS>': a number is decimal digits alone, from 1 to 3600" remote --bind 127.0.0.1:0 --target 127.0.0.1:1 --ping 5s
 for limit in 262143 -1; do
     refuses 'error: ' frames --limit $limit
 done
 # networks, and the address of the status
 for network in 192.0.2.0/33 192.0.2.0/ /24 192.0.2 192.0.2.0/+4 ::1 localhost ''; do
-    refuses "error: invalid value '$network' for '--from': it wants an IPv4 address, or one with '/' and a number from 0 to 32, as 192.0.2.0/24" \
+    refuses "error: invalid value '$network' for '--from <NETWORK>': it wants an IPv4 address, or one with '/' and a number from 0 to 32, as 192.0.2.0/24" \
         remote --bind 127.0.0.1:0 --target 127.0.0.1:1 "--from=$network"
 done
 refuses "error: the argument '--from <NETWORK>' cannot be used with '--peer <ADDRESS>'" \
     local --listen 127.0.0.1:0 --peer 127.0.0.1:1 --from 10.0.0.0/8
 refuses "error: the argument '--from <NETWORK>' can be given 8 times at most" local --listen 127.0.0.1:0 --bind 127.0.0.1:1 \
     --from 1.1.1.1 --from 1.1.1.2 --from 1.1.1.3 --from 1.1.1.4 --from 1.1.1.5 --from 1.1.1.6 --from 1.1.1.7 --from 1.1.1.8 --from 1.1.1.9
-refuses "error: invalid value '192.0.2.7:9100' for '--status': it wants an address of the loopback, as 127.0.0.1:9100, unless '--status-anywhere' is given" \
+refuses "error: invalid value '192.0.2.7:9100' for '--status <ADDRESS>': it wants an address of the loopback, as 127.0.0.1:9100, unless '--status-anywhere' is given" \
     local --listen 127.0.0.1:0 --peer 127.0.0.1:1 --status 192.0.2.7:9100
 refuses "error: the argument '--status-anywhere' is only for '--status <ADDRESS>'" \
     remote --bind 127.0.0.1:0 --target 127.0.0.1:1 --status-anywhere

@@ -1,6 +1,6 @@
 -- What is read of the matches of a command line.
 use Rattle.std.proofs.Common.{◌≡◌, ◌≤◌, ℕ, List, Option, Some, None, option_map, arith, refl, sym, ◌∙◌, ap, subst, codes, decimal, get_or, inl, inr}
-use Rattle.std.specs.Prelude.{◌⊎◌, Result, Ok, Err, MatchResult, IfOk, IfSome, IsSomeAnd, option_and_then, unwrap_or}
+use Rattle.std.specs.Prelude.{◌⊎◌, Result, Ok, Err, MatchResult, IfErr, IfOk, IfSome, IsSomeAnd, option_and_then, unwrap_or}
 use Rattle.std.specs.Str.Parse.{digits_value}
 use Rattle.std.proofs.lemmas.Fmt.{decimal_is_IsNumeral}
 use Rattle.clap.specs.declared.parser.matches.ArgMatches.{ArgMatches}
@@ -10,10 +10,11 @@ use Rattle.clap.specs.Walk.{all_of, first_of}
 use Rattle.clap.proofs.WalkLemmas.{first_value-rows, one_text-rows, raw_values-rows}
 use Rattle.std.proofs.Math.Path.{fun_ext}
 use Rattle.clap.specs.declared.parser.matches.Found.{Found}
+use Rattle.ymx_arguments.specs.declared.arguments.BadOption.{BadOption}
 use Rattle.ymx_arguments.specs.declared.options.TunnelCommand.{TunnelCommand}
 use Rattle.ymx_arguments.specs.declared.options.TunnelCommand.TheVariants as tunnel
 use Rattle.ymx_arguments.specs.declared.reading.Task.TheVariants.{Tunnel as ATunnel}
-use Rattle.ymx_arguments.specs.CommandLine.{AreBothGiven, HasBadOption, HasOptions, HasBadTimes, HasBadWatchRows, IsBad, IsBadEnd, IsLocalOf, IsNotSaid, IsNumberIn, IsRemoteOf, IsToldBy, IsUndecided, ReadsAs, named_words, texts_of}
+use Rattle.ymx_arguments.specs.CommandLine.{AreBothGiven, HasBadOption, HasOptions, HasBadTimes, HasBadWatchRows, IsBad, IsBadEnd, IsBadLocal, IsBadRemote, IsLocalOf, IsMistakeOf, IsMistakeOfMet, IsNotSaid, IsNumberIn, IsRemoteOf, IsToldBy, IsUndecided, ReadsAs, named_words, texts_of}
 
 -- the rows of a subcommand that was met have its limit
 pub named_text : (rows : List Row) (met : Option (Text × List Row)) (name : Text) (text word : Option Text) → Some rows ≡ option_map (λ p. p.1) met →
@@ -188,3 +189,36 @@ told_met rows (Some p) name command n e h =
 pub selftest_told : (met : Option (Text × List Row)) → IsToldBy met (ATunnel tunnel.Selftest)
 selftest_told None = refl
 selftest_told (Some p) = tt
+
+-- ---- mistakes of options
+
+-- what is said of a refusal, and what follows of it
+pub told_err : {T E : Type 0} (r : Result T E) (P : T → Type 0) (R S : E → Type 0) → MatchResult r P R → ((e : E) → R e → S e) → IfErr r S
+told_err (Ok x) P R S h f = tt
+told_err (Err e) P R S h f = f e h
+
+-- what holds of a refusal, and what follows of it
+pub err_follows : {T E : Type 0} (r : Result T E) (P Q : E → Type 0) → IfErr r P → ((e : E) → P e → Q e) → IfErr r Q
+err_follows (Ok x) P Q h f = tt
+err_follows (Err e) P Q h f = f e h
+
+-- a bad limit is a mistake of `frames`
+pub limit_mistake : (found : Found) (mistake : BadOption) → IsBad 262144 16777216 (first_value found (codes "limit")) → IsMistakeOf (codes "frames") (rows_of found) mistake
+limit_mistake found mistake h = inl (refl, subst (IsBad 262144 16777216) (first_value-rows found (codes "limit")) h)
+
+-- what is wrong with the options of `local` is a mistake of its rows
+pub local_mistake : (found : Found) (name : Text) (mistake : BadOption) → name ≡ codes "local" → IsBadLocal (first_value found) (one_text found) (texts_of found) mistake → IsMistakeOf name (rows_of found) mistake
+local_mistake found name mistake is h = inr (inl (is, by_rows found (λ given flag many. IsBadLocal given flag many mistake) h))
+
+-- the same of `remote`
+pub remote_mistake : (found : Found) (name : Text) (mistake : BadOption) → name ≡ codes "remote" → IsBadRemote (first_value found) (one_text found) (texts_of found) mistake → IsMistakeOf name (rows_of found) mistake
+remote_mistake found name mistake is h = inr (inr (is, by_rows found (λ given flag many. IsBadRemote given flag many mistake) h))
+
+-- a mistake of the options of the subcommand that was met is one of its name and its rows
+pub mistake_met : (rows : List Row) (met : Option (Text × List Row)) (name : Text) (mistake : BadOption) → Some name ≡ option_map (λ p. p.0) met → Some rows ≡ option_map (λ p. p.1) met →
+    IsMistakeOf name rows mistake → IsMistakeOfMet met mistake
+mistake_met rows None name mistake n e h = cc
+mistake_met rows (Some p) name mistake n e h =
+    let named : name ≡ p.0 = ap (λ (o : Option Text). unwrap_or o name) n in
+    let has : rows ≡ p.1 = ap (λ (o : Option (List Row)). unwrap_or o rows) e in
+    rw (← named, ← has) h

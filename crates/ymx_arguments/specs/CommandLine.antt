@@ -542,3 +542,28 @@ IsToldBy (Some (name, rows)) (ATunnel command) = HasOptions name rows command
 IsToldBy None (ATunnel command) = command ≡ tunnel.Selftest
 IsToldBy met (Frames limit file) = ⊤
 IsToldBy met (Script file) = ⊤
+
+-- ---- the mistakes of words
+
+-- a mistake of the options of a subcommand of this name, with these rows
+abbrev pub IsMistakeOf : Text → List Row → BadOption → Type 0
+IsMistakeOf name rows mistake =
+    ((name ≡ codes "frames") × IsBad 262144 16777216 (first_of (codes "limit") rows))
+    ⊎ (((name ≡ codes "local") × IsBadLocal (λ n. first_of n rows) (λ n. one_of n rows) (λ n. all_of n rows) mistake)
+    ⊎ ((name ≡ codes "remote") × IsBadRemote (λ n. first_of n rows) (λ n. one_of n rows) (λ n. all_of n rows) mistake))
+
+-- a mistake of the options of the subcommand that was met, if one was
+abbrev pub IsMistakeOfMet : Option (Text × List Row) → BadOption → Type 0
+IsMistakeOfMet (Some (name, rows)) mistake = IsMistakeOf name rows mistake
+IsMistakeOfMet None mistake = ⊥
+
+-- clap finds a fault of this kind at the words
+abbrev pub IsFoundAt : List Text → CommandFault → Type 0
+IsFoundAt words (Clap error) = IsAmong (kind_of error) (fault_of ymx_app words)
+IsFoundAt words (BadAddress option text) = ⊥
+
+-- The fault is one that clap finds at the words, or says a mistake that the options of their subcommand have, or there was no memory.
+abbrev pub IsFaultOf : List Text → CommandFault → Type 0
+IsFaultOf words fault =
+    IsFoundAt words fault
+    ⊎ (LacksMemory fault ⊎ ((mistake : BadOption) × IsMistakeOfMet (subcommand_of ymx_app words) mistake × IsFaultFor mistake fault))

@@ -2,7 +2,7 @@
 
 ghost use Rattle.std.specs.Prelude.{[], ◌≡◌, ◌⊎◌, codes, unwrap_or, IfErr, IfOk, IsErr, MatchResult};
 ghost use Rattle.clap.specs.Words.{first_value, found_of, one_text, rows_of};
-ghost use Rattle.ymx_arguments.specs.CommandLine.{AreBadTimes, AreBothGiven, AreNetworksOf, AreTimesOf, HasBadWatch, HasOptions, IsAddressOf, IsBad, IsBadEnd, IsBadLocal, IsBadNetwork, IsBadPeer, IsBadRemote, IsBadStatus, IsBadWatch, IsClash, IsEnd, IsLocalOf, IsNoAddress, IsNotSaid, IsNotVerbose, IsPeerOf, IsRemoteOf, IsStatusOf, IsUndecided, IsWatchOf, ReadsOr, texts_of};
+ghost use Rattle.ymx_arguments.specs.CommandLine.{AreBadTimes, AreBothGiven, AreNetworksOf, AreTimesOf, HasBadWatch, HasOptions, IsAddressOf, IsBad, IsBadEnd, IsBadLocal, IsBadNetwork, IsBadPeer, IsBadRemote, IsBadStatus, IsBadWatch, IsClash, IsEnd, IsLocalOf, IsMistakeOf, IsNoAddress, IsNotSaid, IsNotVerbose, IsPeerOf, IsRemoteOf, IsStatusOf, IsUndecided, IsWatchOf, ReadsOr, texts_of};
 
 use crate::arguments::{BadOption, number_of};
 use crate::networks::networks_in;
@@ -43,6 +43,7 @@ pub(crate) fn tunnel_command<'a>(
     ensures silent { IsNotSaid (one_text (found_of found.now) (codes "verbose")) → IfOk result IsNotVerbose }
     ensures options { IsBadEnd name.now (rows_of (found_of found.now)) → IsErr result }
     ensures told { IfOk result (HasOptions name.now (rows_of (found_of found.now))) }
+    ensures mistake { IfErr result (IsMistakeOf name.now (rows_of (found_of found.now))) }
 {
     match name {
         "local" => local_options(found),

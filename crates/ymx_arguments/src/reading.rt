@@ -2,7 +2,7 @@
 
 ghost use Rattle.std.specs.Prelude.{ℕ, List, Option, None, Some, ◌≡◌, ◌≤◌, ◌⊎◌, codes, decimal, map, option_and_then, option_map, IfErr, IfOk, IfSome, IsErr, IsSomeAnd, MatchResult};
 ghost use Rattle.clap.specs.Words.{first_value, found_of, kind_of, one_of, subcommand_of, subcommand_rows_of};
-ghost use Rattle.ymx_arguments.specs.CommandLine.{AsksFrames, AsksNoHelp, AsksNoLines, AsksScript, GivesBadOption, HasBadOption, IsClap, IsEndTask, IsFaultFor, IsFrames, IsNotSaid, IsScript, IsSilentTask, IsToldBy, LacksMemory, NamesAnother, SaysMistake, file_of, named_words, ymx_app};
+ghost use Rattle.ymx_arguments.specs.CommandLine.{AsksFrames, AsksNoHelp, AsksNoLines, AsksScript, GivesBadOption, HasBadOption, IsClap, IsEndTask, IsFaultFor, IsFaultOf, IsFrames, IsMistakeOfMet, IsNotSaid, IsScript, IsSilentTask, IsToldBy, LacksMemory, NamesAnother, SaysMistake, file_of, named_words, ymx_app};
 
 use crate::arguments::{BadOption, number_of};
 use crate::command::{command, frames_command};
@@ -95,6 +95,8 @@ pub fn parse<'a, S: AsStr>(alloc: Global, words: &'a [S]) -> Result<Task<'a>, Co
     ensures options { GivesBadOption (map S.text words.entry.now) → IsErr result }
     // Whatever the words, an end of a tunnel has the options that they gave.
     ensures told { IfOk result (IsToldBy (subcommand_of ymx_app (map S.text words.entry.now))) }
+    // A fault is one that the words have.
+    ensures fault { IfErr result (IsFaultOf (map S.text words.entry.now)) }
 {
     let matches = command(alloc)?.try_get_matches_from(words)?;
     match task_of(&matches) {
@@ -128,8 +130,9 @@ fn fault_for<'a>(
             least,
             most,
         } => {
+            let value = value_of(option);
             let message = format!(in alloc;
-                "invalid value '{text}' for '--{option}': a number is decimal digits alone, from {least} to {most}"
+                "invalid value '{text}' for '--{option} <{value}>': a number is decimal digits alone, from {least} to {most}"
             )?;
             clap_fault(alloc, name, ErrorKind::ValueValidation, message.as_str())
         }
@@ -147,13 +150,15 @@ fn fault_for<'a>(
         }
         BadOption::Address { name: option, text } => Ok(CommandFault::BadAddress(option, text)),
         BadOption::Network { text } => {
-            let message = format!(in alloc; "invalid value '{text}' for '--from': {NETWORK_FORM}")?;
+            let message = format!(in alloc;
+                "invalid value '{text}' for '--from <NETWORK>': {NETWORK_FORM}"
+            )?;
             clap_fault(alloc, name, ErrorKind::ValueValidation, message.as_str())
         }
         BadOption::ManyNetworks => clap_fault(alloc, name, ErrorKind::TooManyValues, MANY_NETWORKS),
         BadOption::FarStatus { text } => {
             let message = format!(in alloc;
-                "invalid value '{text}' for '--status': {STATUS_FORM}"
+                "invalid value '{text}' for '--status <ADDRESS>': {STATUS_FORM}"
             )?;
             clap_fault(alloc, name, ErrorKind::ValueValidation, message.as_str())
         }
@@ -163,10 +168,11 @@ fn fault_for<'a>(
     }
 }
 
-/// What is named as the value of this option, which is not for each peer.
+/// What is named as the value of this option.
 fn value_of(option: &str) -> &'static str {
     match option {
-        "timeout" => "SECONDS",
+        "limit" | "window" => "BYTES",
+        "ping" | "keepalive" | "timeout" => "SECONDS",
         "from" => "NETWORK",
         _ => "N",
     }
@@ -207,6 +213,7 @@ fn task_of<'a>(matches: &ArgMatches<'a>) -> Result<Task<'a>, BadOption<'a>>
     ensures silent { IfSome (subcommand_rows_of matches.now) (λ p. IsNotSaid (one_of (codes "verbose") p.1)) → IfOk result IsSilentTask }
     ensures options { IsSomeAnd (subcommand_rows_of matches.now) HasBadOption → IsErr result }
     ensures told { IfOk result (IsToldBy (subcommand_rows_of matches.now)) }
+    ensures mistake { IfErr result (IsMistakeOfMet (subcommand_rows_of matches.now)) }
 {
     match matches.subcommand() {
         Some(("frames", found)) => {

@@ -1,3 +1,4 @@
+pub mod Help
 pub mod Log
 pub mod Messages
 pub mod Outcomes

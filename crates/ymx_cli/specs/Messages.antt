@@ -1,5 +1,6 @@
 -- What the program says on its error device (this project's own).
 use Rattle.std.specs.Prelude.{◌≡◌, ◌≤◌, ◌++◌, ◌↔◌, ⊤, ℕ, List, [], Bool, true, false, Option, IfSome, IsTrue, ◌⊎◌, codes}
+use Rattle.ymx_arguments.specs.CommandLine.{IsFaultOf, SaysMistake}
 use Rattle.ymx_arguments.specs.declared.reading.CommandFault.{CommandFault}
 use Rattle.ymx_arguments.specs.declared.reading.CommandFault.TheVariants.{Clap, BadAddress}
 use Rattle.std.specs.Io.{StartsWith}
@@ -75,10 +76,24 @@ not_text = codes "error: a word of the command line is not UTF-8\n"
 abbrev pub address_wanted : List ℕ → List ℕ
 address_wanted option = codes "ymx: --" ++ (option ++ codes ": it wants an IPv4 address and a port, as 127.0.0.1:8080\n")
 
+-- that an option was given this text, which is no address
+abbrev pub bad_address : List ℕ → List ℕ
+bad_address text = codes "ymx: bad address " ++ (text ++ codes "\n")
+
+-- where words have a bad address, the error device shows it
+abbrev pub SaysBadAddress : CommandFault → (errors : Change) → Type 0
+SaysBadAddress (BadAddress option text) errors = SaysText errors (bad_address text.now)
+SaysBadAddress (Clap error) errors = ⊤
+
 -- where words have a bad address, the device for lines says what its option wants
 abbrev pub TellsWant : CommandFault → (lines : Change) → Type 0
 TellsWant (BadAddress option text) lines = SaysText lines (address_wanted option.now)
 TellsWant (Clap error) lines = ⊤
+
+-- The words have a mistake, and it is said: where it is a bad address, the error device shows that, and the device for lines says what
+-- its option wants.
+abbrev pub SaysMistakeOf : List (List ℕ) → (errors lines : Change) → Type 0
+SaysMistakeOf words errors lines = (fault : CommandFault) × IsFaultOf words fault × SaysMistake fault × SaysBadAddress fault errors × TellsWant fault lines
 
 -- why the printing of frames ended, where a device or memory failed
 abbrev pub reason : FramesEnd → List ℕ

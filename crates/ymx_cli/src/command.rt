@@ -7,7 +7,7 @@ ghost use Rattle.std.specs.Io.KnownBytes.{Keeps};
 ghost use Rattle.clap.specs.Words.{kind_of, subcommand_of};
 ghost use Rattle.clap.specs.declared.error.kind.ErrorKind.TheVariants.{OutOfMemory};
 ghost use Rattle.ymx_arguments.specs.CommandLine.{AsksFrames, AsksNoHelp, AsksNoLines, AsksScript, GivesBadOption, IsMistake, LacksMemory, NamesAnother, SaysMistake, ymx_app};
-ghost use Rattle.ymx_cli.specs.Messages.{IsUntouched, PlaysFile, PlaysScript, PrintsFile, PrintsFrames, SaysNoMemory, SaysText, Shows, TakesText, TakesPart, TellsWant, address_wanted, change_of, fails, frames_lack, not_text, opening_failed, out_of_memory, reason, script_lacks, script_reason, writing_failed};
+ghost use Rattle.ymx_cli.specs.Messages.{IsUntouched, PlaysFile, PlaysScript, PrintsFile, PrintsFrames, SaysBadAddress, SaysMistakeOf, SaysNoMemory, SaysText, Shows, TakesText, TakesPart, TellsWant, address_wanted, bad_address, change_of, fails, frames_lack, not_text, opening_failed, out_of_memory, reason, script_lacks, script_reason, writing_failed};
 ghost use Rattle.ymx_cli.specs.Outcomes.{has_refusal, is_tunnel, status_of};
 ghost use Rattle.ymx_cli.specs.Plans.{ComesByPlan};
 
@@ -132,7 +132,9 @@ pub fn ymx_main<
         (status_of result ≡ 2) ⊎ SaysNoMemory result (change_of W.contents W.failures writer.old writer.new) (change_of E.contents E.failures errors.old errors.new) }
     // Without `-v` a good end says no lines.
     ensures unsaid { AsksNoLines (map S.text words.now) → status_of result ≡ 0 → IsUntouched (change_of L.contents L.failures lines.old lines.new) }
-    // At status 2 nothing is read, and nothing is written to the writer.
+    // At status 2 the words have a mistake, which is said.
+    ensures mistake { status_of result ≡ 2 → SaysMistakeOf (map S.text words.now) (change_of E.contents E.failures errors.old errors.new) (change_of L.contents L.failures lines.old lines.new) }
+    // Nothing is read then, and nothing is written to the writer.
     ensures bad { status_of result ≡ 2 → IsUntouched (change_of R.remaining R.failures reader.old reader.new) × IsUntouched (change_of W.contents W.failures writer.old writer.new) }
 {
     match parse(alloc, words) {
@@ -371,6 +373,7 @@ fn explain<W: Outlet, E: Outlet, L: Outlet>(
         let says = change_of E.contents E.failures errors.old errors.new in
         status_of result ≡ 1 → SaysNoMemory result output says ⊎ ((SaysMistake fault.now → ⊥) × IsTrue (fails output) × SaysText says writing_failed) }
     ensures unsaid { status_of result ≡ 0 → IsUntouched (change_of L.contents L.failures lines.old lines.new) }
+    ensures said { SaysBadAddress fault.now (change_of E.contents E.failures errors.old errors.new) }
     ensures told { TellsWant fault.now (change_of L.contents L.failures lines.old lines.new) }
 {
     match fault {
@@ -387,6 +390,7 @@ fn say_bad_address<E: Outlet, L: Outlet>(
     lines: &mut L,
 ) -> Outcome
     ensures status { status_of result ≡ 2 }
+    ensures said { SaysText (change_of E.contents E.failures errors.old errors.new) (bad_address text.now) }
     ensures told { SaysText (change_of L.contents L.failures lines.old lines.new) (address_wanted option.now) }
 {
     say_three(
@@ -395,9 +399,7 @@ fn say_bad_address<E: Outlet, L: Outlet>(
         option.as_bytes(),
         b": it wants an IPv4 address and a port, as 127.0.0.1:8080\n",
     );
-    let _ = push_all(errors, b"ymx: bad address ");
-    let _ = push_all(errors, text.as_bytes());
-    let _ = push_all(errors, b"\n");
+    say_three(errors, b"ymx: bad address ", text.as_bytes(), b"\n");
     Outcome::BadWords
 }
 

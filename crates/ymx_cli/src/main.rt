@@ -5,6 +5,7 @@
 
 mod command;
 mod disk;
+mod help;
 mod log;
 mod outcome;
 mod standard;
@@ -13,6 +14,7 @@ mod tunnel;
 
 use command::{Unopened, cannot_open, no_words, ymx_main};
 use disk::Disk;
+use help::words_of_help;
 use log::{Log, LogWriter};
 use standard::{StandardError, SystemDescriptors, hold_standard};
 use std::alloc::Global;
@@ -47,7 +49,7 @@ fn main(rt: HostRuntime) -> ExitCode {
         Ok(words) => ymx_main(
             &rt,
             alloc,
-            words.as_slice(),
+            words_of_help(words.as_slice()),
             &Disk { rt: &rt },
             &mut reader,
             &mut writer,

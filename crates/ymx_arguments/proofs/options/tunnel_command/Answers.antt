@@ -2,7 +2,7 @@ use Rattle.std.proofs.Common.{inl, inr, subst, sym, codes}
 use Rattle.clap.specs.Words.{Text, found_of, rows_of}
 use Rattle.clap.proofs.WalkLemmas.{first_value-rows}
 use Rattle.ymx_arguments.specs.CommandLine.{HasBadWatch, IsBad, IsBadEnd}
-use Rattle.ymx_arguments.proofs.Read.{by_matches, local_has, local_mistakes, remote_has, remote_mistakes, told_ok}
+use Rattle.ymx_arguments.proofs.Read.{by_matches, local_has, local_mistake, local_mistakes, remote_has, remote_mistake, remote_mistakes, told_err, told_ok}
 use Rattle.ymx_arguments.proofs.options.tunnel_command.Goals as goal
 
 pub returns-in-local-clause-options : goal.returns-in-local-clause-options
@@ -46,3 +46,11 @@ returns-in-local-clause-told c =
 pub returns-in-remote-clause-told : goal.returns-in-remote-clause-told
 returns-in-remote-clause-told c =
     told_ok _ _ _ _ c.remote_options.ensures.read (λ command h. remote_has (found_of c.args.found.now) c.args.name.now command c.in-remote.is h)
+
+pub returns-in-local-clause-mistake : goal.returns-in-local-clause-mistake
+returns-in-local-clause-mistake c =
+    told_err _ _ _ _ c.local_options.ensures.read (λ mistake h. local_mistake (found_of c.args.found.now) c.args.name.now mistake c.in-local.is h)
+
+pub returns-in-remote-clause-mistake : goal.returns-in-remote-clause-mistake
+returns-in-remote-clause-mistake c =
+    told_err _ _ _ _ c.remote_options.ensures.read (λ mistake h. remote_mistake (found_of c.args.found.now) c.args.name.now mistake c.in-remote.is h)

@@ -1,9 +1,9 @@
-use Rattle.std.proofs.Common.{◌≡◌, Option, Some, ◌∙◌, ap, sym, subst, ℕ, codes, option_map}
+use Rattle.std.proofs.Common.{◌≡◌, Option, Some, ◌∙◌, ap, sym, subst, ℕ, codes, option_map, rules}
 use Rattle.std.specs.Prelude.{option_and_then, unwrap_or}
 use Rattle.clap.specs.Words.{found_of, first_value, rows_of, subcommand_rows_of}
 use Rattle.clap.proofs.WalkLemmas.{first_value-rows, one_text-rows}
-use Rattle.ymx_arguments.specs.CommandLine.{HasBadOption, IsBad, IsNotSaid, file_of}
-use Rattle.ymx_arguments.proofs.Read.{decimal_good, decimal_read, frames_numbers, name_met, named_text, not_said, of_met, read_is_good, selftest_told, told_met}
+use Rattle.ymx_arguments.specs.CommandLine.{HasBadOption, IsBad, IsMistakeOfMet, IsNotSaid, file_of}
+use Rattle.ymx_arguments.proofs.Read.{decimal_good, decimal_read, frames_numbers, limit_mistake, mistake_met, name_met, named_text, not_said, of_met, read_is_good, selftest_told, told_met}
 use Rattle.ymx_arguments.proofs.reading.task_of.Goals as goal
 
 pub returns-in_err-limit-in-Some-frames-default-clause-frames : goal.returns-in_err-limit-in-Some-frames-default-clause-frames
@@ -48,3 +48,21 @@ returns-in_ok-tunnel_command-in-Some-clause-told c =
 
 pub returns-in-None-clause-told : goal.returns-in-None-clause-told
 returns-in-None-clause-told c = selftest_told (subcommand_rows_of c.args.matches.now)
+
+pub returns-in_err-limit-in-Some-frames-default-clause-mistake : goal.returns-in_err-limit-in-Some-frames-default-clause-mistake
+returns-in_err-limit-in-Some-frames-default-clause-mistake c =
+    let found = found_of c.in-Some-frames-default.found.now in
+    let met = subcommand_rows_of c.args.matches.now in
+    let name : Some (codes "frames") ≡ option_map (λ p. p.0) met = ap Some (sym c.in-Some-frames-default.is-frames) ∙ c.in-Some-frames-default.ensures.name ∙ name_met c.args.matches.now in
+    let mistake : IsMistakeOfMet met c.in_err-limit-in-Some-frames-default.field-0.0 =
+    mistake_met (rows_of found) met (codes "frames") c.in_err-limit-in-Some-frames-default.field-0.0 name c.in-Some-frames-default.ensures.rows
+    (limit_mistake found c.in_err-limit-in-Some-frames-default.field-0.0 c.in_err-limit-in-Some-frames-default.ensures) in
+    search rules
+
+pub returns-in_err-tunnel_command-in-Some-clause-mistake : goal.returns-in_err-tunnel_command-in-Some-clause-mistake
+returns-in_err-tunnel_command-in-Some-clause-mistake c =
+    let met = subcommand_rows_of c.args.matches.now in
+    let mistake : IsMistakeOfMet met c.in_err-tunnel_command-in-Some.field-0.0 =
+    mistake_met (rows_of (found_of c.in-Some.found.now)) met c.in-Some.name.now c.in_err-tunnel_command-in-Some.field-0.0
+    (c.in-Some.ensures.name ∙ name_met c.args.matches.now) c.in-Some.ensures.rows c.in_err-tunnel_command-in-Some.ensures.mistake in
+    search rules

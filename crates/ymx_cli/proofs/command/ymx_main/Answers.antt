@@ -222,3 +222,6 @@ pub returns-in-Err-clause-tunnel : goal.returns-in-Err-clause-tunnel
 returns-in-Err-clause-tunnel g c = λ names no_help.
     let mistake : SaysMistake c.in-Err.fault = c.in-Err.ensures.mistake no_help in
     inr (by_status (status_of c.explain.result) _ c.explain.ensures.status (λ e. (c.explain.ensures.help e).0 mistake) (λ e. by_reason _ _ _ _ mistake (c.explain.ensures.failed e)))
+
+pub returns-in-Err-clause-mistake : goal.returns-in-Err-clause-mistake
+returns-in-Err-clause-mistake g c = λ two. (c.in-Err.fault, c.in-Err.ensures.fault, (c.explain.ensures.mistake two).0, c.explain.ensures.said, c.explain.ensures.told)
