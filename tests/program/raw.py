@@ -364,8 +364,8 @@ def an_accept_fails():
     assert has_ended(peer)
     peer.close()
     assert program.end() == (1, f"{FULL}ymx: cannot listen at {ANY}\n")
-    # A fault where peers come in names the port that the system chose.
-    status, said = Program("remote", "--bind", ANY, "--target", ANY, files=4).end()
+    # A fault where peers come in names the port that the system chose. Of `remote` the set of what it waits for is open too.
+    status, said = Program("remote", "--bind", ANY, "--target", ANY, files=5).end()
     place = r"(127\.0\.0\.1:[1-9][0-9]*)"
     assert status == 1 and re.fullmatch(rf"ymx: --bind {place}: no descriptor left\nymx: cannot listen at \1\n", said), (status, said)
 

@@ -1,5 +1,5 @@
-"""Asks `ymx local --status` and `ymx remote --status` what they count, and `local` to take no more users, and looks whether
-what they say is so.
+"""Asks `ymx local --status` and `ymx remote --status` what they count, and each to take no more connections, and looks
+whether what they say is so.
 
 Where Prometheus's promtool stands it reads the page too. It says which tests failed, and nothing where none did. No test
 follows one that hangs.
@@ -8,6 +8,7 @@ usage: status.py YMX
 """
 
 import re
+import select
 import shutil
 import socket
 import subprocess
@@ -15,12 +16,13 @@ import sys
 import time
 
 import raw
-from raw import ANY, Program, accept, call, free_place, free_places, has_ended, is_cut, leave, listen, take
+from raw import (ANY, AWAY, DATA, SYN, Program, accept, call, frame, free_place, free_places, has_ended, is_cut, leave, listen,
+                 next_frame, take)
 
 # How many bytes of a request are read at most.
 REQUEST = 8_192
-# How many seconds one has to ask.
-PATIENCE = 2
+# How often what a loaded machine may hold up is tried.
+ATTEMPTS = 5
 SAMPLE = re.compile(r'([a-z_:]+)(?:\{([a-z_]+)="([a-z_]+)"\})? ([0-9]+)')
 KINDS = {"counter", "gauge"}
 
@@ -229,19 +231,29 @@ def is_closed(connection):
         return True
 
 
+def is_open(connection):
+    """Whether neither a byte nor its end has come."""
+    return not select.select([connection], [], [], 0)[0]
+
+
 def stuck_ones():
-    """Those who ask nothing, or take no answer, hold up no other, nor the tunnel, and are closed after a while."""
+    """Those who ask nothing, or take no answer, hold up no other, nor the tunnel, and are closed after a while: others are
+    served while they are still there. Where this process is held up until all are closed that says nothing; so it is tried
+    again."""
     tunnel = Tunnel()
     user, service = tunnel.join()
-    stuck = [call(tunnel.near) for _ in range(40)]
-    for connection in stuck[::2]:
-        connection.sendall(b"GET /metrics HTTP/1.1")
-    began = time.monotonic()
-    assert get(tunnel.near, "/health")[0] == 200
-    pass_on(user, service, 1_000_000)
-    assert time.monotonic() - began < PATIENCE, "others were held up"
-    assert all(is_closed(connection) for connection in stuck)
-    tunnel.kill()
+    for _ in range(ATTEMPTS):
+        stuck = [call(tunnel.near) for _ in range(40)]
+        for connection in stuck[::2]:
+            connection.sendall(b"GET /metrics HTTP/1.1")
+        assert get(tunnel.near, "/health")[0] == 200
+        pass_on(user, service, 1_000_000)
+        are_there = any(is_open(connection) for connection in stuck)
+        assert all(is_closed(connection) for connection in stuck)
+        if are_there:
+            tunnel.kill()
+            return
+    raise AssertionError("others were held up")
 
 
 def address_in_use():
@@ -352,12 +364,166 @@ def drains_before_its_peer_comes():
     assert program.end() == (0, "")
 
 
-def is_not_drained():
-    """A `remote` is not drained."""
-    tunnel = Tunnel()
-    assert ask(tunnel.far, request("POST", "/drain"))[0] == 404
-    assert get(tunnel.far, "/health")[0] == 200
+# ---- draining a `remote`
+
+
+def finish_all(pairs):
+    """Each of these transfers goes on to its end."""
+    for user, service in pairs:
+        pass_on(user, service, 300_000)
+        pass_on(service, user, 300_000)
+        user.shutdown(socket.SHUT_WR)
+        assert has_ended(service)
+        pass_on(service, user, 50_000)
+        leave(service)
+        assert has_ended(user)
+        user.close()
+
+
+def remote_drains(words=(), remote=(), at_once=8):
+    """Asked to, it takes no more peers and no more streams, finishes those that it has, and ends with 0."""
+    tunnel = Tunnel(*words, remote=remote)
+    pairs = [tunnel.join() for _ in range(at_once)]
+    await_counts(tunnel.far, connections_open=at_once)
+    for user, service in pairs:
+        pass_on(user, service, 10_000)
+    drain(tunnel.far)
+    drain(tunnel.far)
+    assert get(tunnel.far, "/health")[::2] == (503, "draining\n")
+    assert tunnel.remote.process.poll() is None
+    finish_all(pairs)
+    assert tunnel.remote.end() == (0, ""), "the remote ended otherwise"
     tunnel.kill()
+
+
+def remote_drains_while_idle(words=(), remote=()):
+    """With no stream it ends at once."""
+    tunnel = Tunnel(*words, remote=remote)
+    drain(tunnel.far)
+    assert tunnel.remote.end() == (0, "")
+    tunnel.kill()
+
+
+def remote_drains_before_its_peer_comes(*words):
+    """It ends at once too where no peer has come."""
+    page = free_place()
+    program = Program("remote", "--bind", ANY, "--target", ANY, "--status", page, *words)
+    wait_for(page)
+    drain(page)
+    assert program.end() == (0, "")
+
+
+def remote_drains_where_it_calls():
+    """One that calls, and whose peer can't be reached, ends too, within its pause."""
+    page, nobody = free_places(2)
+    program = Program("remote", "--keep", "--peer", nobody, "--target", ANY, "--status", page)
+    wait_for(page)
+    drain(page)
+    assert program.end() == (0, "")
+
+
+def says_go_away(*words):
+    """A peer hears Go Away, behind which its stream goes on, and no other begins. Who calls then isn't let in."""
+    target, address = listen()
+    page, bound = free_places(2)
+    program = Program("remote", "--bind", bound, "--target", address, "--status", page, *words)
+    wait_for(page)
+    peer = call_when_there(bound)
+    peer.sendall(frame(DATA, SYN, 1, 5) + b"hello")
+    service = accept(target)
+    assert take(service, 5) == b"hello"
+    drain(page)
+    while next_frame(peer)[0] != AWAY:
+        pass
+    peer.sendall(frame(DATA, SYN, 3, 0) + frame(DATA, 0, 1, 5) + b"again")
+    assert take(service, 5) == b"again"
+    try:
+        assert is_cut(call(bound))
+    except ConnectionRefusedError:
+        pass
+    assert program.process.poll() is None
+    service.close()
+    peer.sendall(frame(DATA, 4, 1, 0))
+    while peer.recv(65_536):
+        pass
+    peer.close()
+    assert program.end() == (0, "")
+
+
+def remote_restarts(words=()):
+    """Of 200 transfers none is cut that has begun where a drained `remote` is followed by another at the same place: with --keep
+    users who come meanwhile wait for it."""
+    target, address = listen()
+    page, second_page, bound, place, near = free_places(5)
+    far = ("remote", "--keep", "--bind", bound, "--target", address, "--status")
+    first = Program(*far, page)
+    wait_for(bound)
+    local = Program("local", "--keep", "--listen", place, "--peer", bound, "--status", near, *words)
+    wait_for(near)
+    began = [begin(place, target) for _ in range(100)]
+    drain(page)
+    time.sleep(1)
+    waiting = [call_when_there(place) for _ in range(100)]
+    for user in waiting:
+        user.sendall(bytes(1_000))
+    finish_all(began)
+    assert first.end() == (0, "")
+    time.sleep(1.5)
+    second = Program(*far, second_page)
+    later = []
+    for _ in waiting:
+        service = accept(target)
+        assert len(take(service, 1_000)) == 1_000
+        service.sendall(bytes(50_000))
+        service.shutdown(socket.SHUT_WR)
+        later.append(service)
+    for user in waiting:
+        assert len(take(user, 50_000)) == 50_000
+        assert has_ended(user)
+        user.close()
+    for service in later:
+        assert has_ended(service)
+        service.close()
+    assert counts(second_page)["ymx_connections_begun_total"] == 100
+    for program in (local, second):
+        program.process.kill()
+        program.process.communicate()
+
+
+def begin(place, target):
+    """A user's connection, and that at the target, through which bytes have come."""
+    user = call_when_there(place)
+    user.sendall(bytes(1_000))
+    service = accept(target)
+    assert len(take(service, 1_000)) == 1_000
+    return user, service
+
+
+def users_wait_behind_go_away():
+    """With --keep a user who comes where the peer has gone away waits for the next session, with another peer of yamux too."""
+    peers, address = listen()
+    program = Program("local", "-v", "--keep", "--listen", ANY, "--peer", address)
+    users = program.place()
+    first = call(users)
+    first.sendall(b"one")
+    peer = accept(peers)
+    assert next_frame(peer)[1] == SYN
+    peer.sendall(frame(AWAY, 0, 0, 0))
+    time.sleep(0.5)
+    second = call(users)
+    second.sendall(b"two")
+    time.sleep(0.5)
+    first.close()
+    peer.sendall(frame(DATA, 4, 1, 0))
+    while peer.recv(65_536):
+        pass
+    peer.close()
+    peer = accept(peers)
+    assert next_frame(peer)[1] == SYN
+    second.close()
+    peer.close()
+    program.process.kill()
+    program.process.communicate()
 
 
 TESTS = (
@@ -377,7 +543,20 @@ TESTS = (
     ("drains while idle with --keep", drains_while_idle, (("--keep",), ("--keep",))),
     ("drains while idle with --links", drains_while_idle, (("--links", "3"), ("--keep",))),
     ("drains before its peer comes", drains_before_its_peer_comes, ()),
-    ("a remote is not drained", is_not_drained, ()),
+    ("a remote drains", remote_drains, ()),
+    ("a remote drains with --keep", remote_drains, (("--keep",), ("--keep",))),
+    ("a remote drains with --peers", remote_drains, ((), ("--peers", "2"))),
+    ("a remote drains with --links", remote_drains, (("--links", "3"), ("--keep",))),
+    ("a remote drains while idle", remote_drains_while_idle, ()),
+    ("a remote drains while idle with --keep", remote_drains_while_idle, (("--keep",), ("--keep",))),
+    ("a remote drains before its peer comes", remote_drains_before_its_peer_comes, ()),
+    ("a remote drains before its peer comes with --keep", remote_drains_before_its_peer_comes, ("--keep",)),
+    ("a remote drains where it calls", remote_drains_where_it_calls, ()),
+    ("says go away", says_go_away, ()),
+    ("says go away with --keep", says_go_away, ("--keep",)),
+    ("a restart of remote", remote_restarts, ()),
+    ("a restart of remote with --links", remote_restarts, (("--links", "3"),)),
+    ("users wait behind go away", users_wait_behind_go_away, ()),
 )
 
 
