@@ -131,7 +131,7 @@ printf 'one\n\nthree\n' > "$scratch/input"
 pair echo/server echo/client ymx_connect
 cmp "$scratch/input" "$scratch/client.out" || fail 'the echo is another text' "$scratch/client.out"
 
-prove history/main ymx_joined ymx_pumps ymx_hub ymx_session ymx_seats ymx_model
+prove history/main ymx_joined ymx_connect ymx_hub ymx_session ymx_seats ymx_model
 build
 "$program" > "$scratch/history.out"
 printf 'the word has come: true\nboth histories are one run: true\n' | cmp - "$scratch/history.out" || fail 'the history is another' "$scratch/history.out"

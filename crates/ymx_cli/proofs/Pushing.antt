@@ -1,7 +1,7 @@
 -- What a device for lines has taken, which was asked before each write.
 use Rattle.std.proofs.Common.{◌≡◌, ℕ, ◌+◌, ◌-◌, List, Option, length, take, drop, subst, sym}
 use Rattle.std.specs.Io.KnownBytes.{Appends}
-use Rattle.ymx_devices.proofs.Pushed.{pushed_more}
+use Rattle.ymx_model.proofs.Pushed.{pushed_more}
 
 -- of these bytes the first so many were taken, and behind a question that took none some more
 pub asked_and_pushed : (bytes : List ℕ) (taken count : ℕ) (before mid asked after : Option (List ℕ)) → asked ≡ mid →

@@ -6,7 +6,7 @@ use crate::command::{FileOpener, Unopened};
 use std::fs::File;
 use std::io::{self, ErrorKind};
 use std::rt::Files;
-use ymx_devices::ReaderInlet;
+use ymx_model::ReaderInlet;
 
 /// The files of the system. No contract says what they hold, nor which there are.
 #[derive(Drop)]

@@ -22,7 +22,7 @@ use std::process::ExitCode;
 use std::rt::Env;
 use std::sync::Mutex;
 use std::{env, io};
-use ymx_devices::{ReaderInlet, WriterOutlet};
+use ymx_model::{ReaderInlet, WriterOutlet};
 
 fn main(rt: HostRuntime) -> ExitCode {
     let mut reader = ReaderInlet {

@@ -11,8 +11,7 @@ use std::fs::File;
 use std::io::Write;
 use std::os::fd::IntoRawFd;
 use std::rt::Files;
-use ymx_devices::WriterOutlet;
-use ymx_model::{DeviceFault, Outlet};
+use ymx_model::{DeviceFault, Outlet, WriterOutlet};
 
 /// The descriptor of standard error.
 const ERRORS: i32 = 2;

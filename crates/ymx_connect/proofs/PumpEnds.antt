@@ -6,15 +6,15 @@ use Rattle.ymx_model.specs.devices.Devices.{has_failed}
 use Rattle.ymx_model.specs.declared.types.Entry.{Entry}
 use Rattle.ymx_session.specs.Replies.{done_or}
 use Rattle.ymx_seats.specs.Views.{SeatView, IsNewcomer, IsWitnessed}
-use Rattle.ymx_booked.specs.Books.{Books, Asks, to_close}
+use Rattle.ymx_hub.specs.Books.{Books, Asks, to_close}
 use Rattle.ymx_hub.specs.Pumped.{EmitsNoMore}
 use Rattle.ymx_hub.specs.Shown.{IsShown, BooksShown}
 use Rattle.ymx_hub.specs.declared.undrained.Undrained.{Undrained}
 use Rattle.ymx_hub.proofs.Shown.{shown_none, shown_on}
-use Rattle.ymx_pumps.specs.declared.pump_end.PumpWhy.{PumpWhy}
-use Rattle.ymx_pumps.specs.declared.pump_end.PumpWhy.TheVariants.{End, Broken, Memory, Gate, NoThread}
-use Rattle.ymx_pumps.specs.Ends.{ReadEnd, WriteEnd}
-use Rattle.ymx_pumps.specs.Pumps.{PumpRead, PumpWrote, ReadAdds, WriteAdds}
+use Rattle.ymx_connect.specs.declared.pump_end.PumpWhy.{PumpWhy}
+use Rattle.ymx_connect.specs.declared.pump_end.PumpWhy.TheVariants.{End, Broken, Memory, Gate, NoThread}
+use Rattle.ymx_connect.specs.Ends.{ReadEnd, WriteEnd}
+use Rattle.ymx_connect.specs.Pumps.{PumpRead, PumpWrote, ReadAdds, WriteAdds}
 use Rattle.ymx_connect.specs.declared.ended.Ended.{Ended}
 use Rattle.ymx_connect.specs.Connecting.{may_end, may_end_writing, IsSpared}
 use Rattle.ymx_connect.specs.Pumping.{HasRead, HasWritten, HasClosed, HasWorked, HasBeenClosed, HaveMet, InOneHistory, InOneHistoryOverTcp}

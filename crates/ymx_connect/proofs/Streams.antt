@@ -10,9 +10,9 @@ use Rattle.ymx_machine.specs.shared.Events.{Reply}
 use Rattle.ymx_machine.specs.declared.types.Reply.TheVariants as reply
 use Rattle.ymx_model.specs.declared.types.Entry.{Entry}
 use Rattle.ymx_seats.specs.Views.{SeatView}
-use Rattle.ymx_booked.specs.declared.faults.HubFault.{HubFault}
-use Rattle.ymx_booked.specs.declared.faults.HubFault.TheVariants.{Memory}
-use Rattle.ymx_booked.specs.Books.{Books, One, to_read}
+use Rattle.ymx_hub.specs.declared.faults.HubFault.{HubFault}
+use Rattle.ymx_hub.specs.declared.faults.HubFault.TheVariants.{Memory}
+use Rattle.ymx_hub.specs.Books.{Books, One, to_read}
 use Rattle.ymx_hub.specs.declared.write_fault.WriteFault.{WriteFault}
 use Rattle.ymx_hub.specs.Halves.{HalfView}
 use Rattle.ymx_hub.specs.Turns.{took_of, AreWaits, AreWrites, EndsIn, HasTaken, IsWrote, IsUnrefused, ReadTurns, WriteTurns}

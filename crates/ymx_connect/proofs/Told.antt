@@ -6,7 +6,7 @@ use Rattle.ymx_model.specs.declared.types.Config.{Config}
 use Rattle.ymx_model.specs.declared.types.Entry.{Entry}
 use Rattle.ymx_session.specs.NewSessions.{new_fault}
 use Rattle.ymx_seats.specs.Views.{SeatView, IsWitnessed}
-use Rattle.ymx_booked.specs.Books.{Books}
+use Rattle.ymx_hub.specs.Books.{Books}
 use Rattle.ymx_hub.specs.Halves.{HalfView, OpensHalves}
 use Rattle.ymx_hub.specs.Shown.{HasGrown, IsShown}
 use Rattle.ymx_hub.specs.Turns.{WriteTurns}

@@ -5,8 +5,8 @@ use Rattle.std.specs.Fn.{Once, FnOnceReturnsAt}
 use Rattle.ymx_model.specs.declared.types.Role.{Role}
 use Rattle.ymx_model.specs.declared.types.Config.{Config}
 use Rattle.ymx_session.specs.NewSessions.{new_fault, IsNewFault}
-use Rattle.ymx_pumps.specs.declared.pump_end.PumpWhy.{PumpWhy}
-use Rattle.ymx_pumps.specs.declared.pump_end.PumpWhy.TheVariants as why
+use Rattle.ymx_connect.specs.declared.pump_end.PumpWhy.{PumpWhy}
+use Rattle.ymx_connect.specs.declared.pump_end.PumpWhy.TheVariants as why
 use Rattle.ymx_connect.specs.declared.connect_fault.ConnectFault.{ConnectFault}
 use Rattle.ymx_connect.specs.declared.connect_fault.ConnectFault.TheVariants.{Session, Memory, NoThread, NoSeat}
 use Rattle.ymx_connect.specs.declared.ended.Ended.{Ended}

@@ -10,17 +10,17 @@ use Rattle.ymx_session.specs.Replies.{done_or}
 use Rattle.ymx_seats.specs.Journals.{no_config}
 use Rattle.ymx_model.specs.declared.types.Entry.{Entry}
 use Rattle.ymx_seats.specs.Views.{SeatView, IsNewcomer, IsWitnessed}
-use Rattle.ymx_booked.specs.Answers.{IsNotMemory}
-use Rattle.ymx_booked.specs.Books.{Books, Asks, to_close}
-use Rattle.ymx_booked.specs.Shown.{IsHistoryOf}
-use Rattle.ymx_booked.specs.declared.faults.HubFault.{HubFault}
+use Rattle.ymx_hub.specs.Answers.{IsNotMemory}
+use Rattle.ymx_hub.specs.Books.{Books, Asks, to_close}
+use Rattle.ymx_hub.specs.WholeHistories.{IsHistoryOf}
+use Rattle.ymx_hub.specs.declared.faults.HubFault.{HubFault}
 use Rattle.ymx_hub.specs.Pumped.{EmitsNoMore}
 use Rattle.ymx_hub.specs.Shown.{IsShown}
 use Rattle.ymx_hub.specs.declared.undrained.Undrained.{Undrained}
-use Rattle.ymx_pumps.specs.declared.pump_end.PumpWhy.{PumpWhy}
-use Rattle.ymx_pumps.specs.declared.pump_end.PumpWhy.TheVariants.{End}
-use Rattle.ymx_pumps.specs.Ends.{ReadEnd, WriteEnd}
-use Rattle.ymx_pumps.specs.Pumps.{PumpRead, PumpWrote}
+use Rattle.ymx_connect.specs.declared.pump_end.PumpWhy.{PumpWhy}
+use Rattle.ymx_connect.specs.declared.pump_end.PumpWhy.TheVariants.{End}
+use Rattle.ymx_connect.specs.Ends.{ReadEnd, WriteEnd}
+use Rattle.ymx_connect.specs.Pumps.{PumpRead, PumpWrote}
 use Rattle.ymx_connect.specs.declared.ended.Ended.{Ended}
 use Rattle.ymx_connect.specs.Connecting.{may_end, may_end_writing}
 

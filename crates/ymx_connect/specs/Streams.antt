@@ -7,10 +7,10 @@ use Rattle.ymx_machine.specs.shared.Events.{Reply}
 use Rattle.ymx_machine.specs.declared.types.Reply.TheVariants as reply
 use Rattle.ymx_model.specs.declared.types.Entry.{Entry}
 use Rattle.ymx_seats.specs.Views.{SeatView}
-use Rattle.ymx_booked.specs.declared.faults.HubFault.{HubFault}
-use Rattle.ymx_booked.specs.declared.faults.HubFault.TheVariants.{Memory}
-use Rattle.ymx_booked.specs.Answers.{hub_fault_of}
-use Rattle.ymx_booked.specs.Books.{Books, One, to_read, to_write}
+use Rattle.ymx_hub.specs.declared.faults.HubFault.{HubFault}
+use Rattle.ymx_hub.specs.declared.faults.HubFault.TheVariants.{Memory}
+use Rattle.ymx_hub.specs.Answers.{hub_fault_of}
+use Rattle.ymx_hub.specs.Books.{Books, One, to_read, to_write}
 use Rattle.ymx_hub.specs.Turns.{EndsIn, IsUnrefused}
 use Rattle.ymx_hub.specs.Carried.{read_bytes, bytes_written}
 use Rattle.ymx_hub.specs.Halves.{HalfView}

@@ -3,7 +3,7 @@
 ghost use Rattle.std.specs.Prelude.{◌≡◌};
 
 use ymx_hub::Undrained;
-use ymx_pumps::PumpWhy;
+use crate::pump_end::PumpWhy;
 
 /// How both pumps ended, and whether all had gone out before.
 #[derive(Clone, Copy, Debug, PartialEq, Eq)]

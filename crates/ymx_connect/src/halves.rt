@@ -7,8 +7,8 @@
 ghost use Rattle.std.specs.Prelude.{◌≡◌, ◌<◌, ◌≤◌, List, ℕ, length, drop, false, IfOk, IfErr, MatchResult};
 ghost use Rattle.ymx_machine.specs.declared.types.Reply.TheVariants as reply;
 ghost use Rattle.ymx_seats.specs.Views.{IsWitnessed};
-ghost use Rattle.ymx_booked.specs.Answers.{IsNotMemory};
-ghost use Rattle.ymx_booked.specs.Books.{Books, Spends, Closes, to_finish, to_reset};
+ghost use Rattle.ymx_hub.specs.Answers.{IsNotMemory};
+ghost use Rattle.ymx_hub.specs.Books.{Books, Spends, Closes, to_finish, to_reset};
 ghost use Rattle.ymx_hub.specs.Releasing.{Tends};
 ghost use Rattle.ymx_hub.specs.Shown.{IsShown};
 ghost use Rattle.ymx_hub.specs.Turns.{ReadTurns, WriteTurns};

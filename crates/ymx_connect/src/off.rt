@@ -5,7 +5,7 @@
 //! to be read. What those calls do is proved for every recorder, by bodies that are the same for all.
 
 ghost use Rattle.std.specs.Prelude.{◌≡◌, IfSome, IfOk};
-ghost use Rattle.ymx_booked.specs.Answers.{IsNotMemory};
+ghost use Rattle.ymx_hub.specs.Answers.{IsNotMemory};
 
 use crate::halves::{Reader, Writer};
 use crate::handle::Handle;

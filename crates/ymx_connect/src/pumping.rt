@@ -13,7 +13,10 @@ use std::thread::Promise;
 use ymx_hub::{Hub, Recorder, Seat};
 use ymx_memory::RefusedAllocation;
 use ymx_model::{Inlet, Outlet};
-use ymx_pumps::{Gate, PumpEnd, PumpWhy, SettlerEnd, read_pump, write_pump};
+use crate::gate::Gate;
+use crate::pump_end::{PumpEnd, PumpWhy, SettlerEnd};
+use crate::reading::read_pump;
+use crate::writing::write_pump;
 use ymx_seats::Sight;
 
 /// Bytes that the read pump reads at once.

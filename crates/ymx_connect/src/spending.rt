@@ -1,8 +1,8 @@
 //! How the halves of a stream are spent, of a session whose history stands in proofs.
 
 ghost use Rattle.std.specs.Prelude.{◌≡◌, true, false};
-ghost use Rattle.ymx_booked.specs.Answers.{IsNotMemory};
-ghost use Rattle.ymx_booked.specs.Books.{Spends, Closes, to_finish, to_reset};
+ghost use Rattle.ymx_hub.specs.Answers.{IsNotMemory};
+ghost use Rattle.ymx_hub.specs.Books.{Spends, Closes, to_finish, to_reset};
 ghost use Rattle.ymx_hub.specs.Releasing.{Tends};
 ghost use Rattle.ymx_connect.specs.Told.{BooksLast};
 

@@ -4,8 +4,7 @@
 ghost use Rattle.std.specs.Prelude.{◌≡◌, None};
 
 use std::net::{Shutdown, TcpStream};
-use ymx_devices::{ReaderInlet, WriterOutlet};
-use ymx_model::{DeviceFault, Inlet, Outlet};
+use ymx_model::{DeviceFault, Inlet, Outlet, ReaderInlet, WriterOutlet};
 
 /// What comes from a connection.
 #[derive(Drop)]

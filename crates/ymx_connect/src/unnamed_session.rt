@@ -31,7 +31,7 @@ pub struct UnnamedSession {
 }
 
 impl Model for UnnamedSession {
-    ghost use Rattle.ymx_booked.specs.Booked.{config_of};
+    ghost use Rattle.ymx_hub.specs.Booked.{config_of};
     ghost use Rattle.ymx_seats.specs.Transcripts.{IsNew};
     ghost use Rattle.ymx_connect.specs.Settings.{UnnamedSessionView};
 

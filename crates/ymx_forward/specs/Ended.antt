@@ -5,10 +5,10 @@ use Rattle.ymx_engine.specs.declared.ways.Flow.TheVariants as flow
 use Rattle.ymx_engine.specs.declared.joining.NotJoined.{NotJoined}
 use Rattle.ymx_engine.specs.declared.joining.NotJoined.TheVariants as not_joined
 use Rattle.ymx_machine.specs.declared.types.CallFault.TheVariants as call
-use Rattle.ymx_status.specs.declared.connections.Declined.{Declined}
-use Rattle.ymx_status.specs.declared.connections.Declined.TheVariants as declined
-use Rattle.ymx_status.specs.declared.connections.Ending.{Ending}
-use Rattle.ymx_status.specs.declared.connections.Ending.TheVariants as ending
+use Rattle.ymx_page.specs.declared.connections.Declined.{Declined}
+use Rattle.ymx_page.specs.declared.connections.Declined.TheVariants as declined
+use Rattle.ymx_page.specs.declared.connections.Ending.{Ending}
+use Rattle.ymx_page.specs.declared.connections.Ending.TheVariants as ending
 use Rattle.ymx_forward.specs.declared.socket.SocketFault.{SocketFault}
 use Rattle.ymx_forward.specs.declared.socket.SocketFault.TheVariants as fault
 

@@ -1,7 +1,7 @@
 //! Who counts what happens to an end, and shows it to those who ask.
 
 ghost use Rattle.std.specs.Prelude.{Some};
-ghost use Rattle.ymx_status.specs.Known.{counts_of};
+ghost use Rattle.ymx_page.specs.Known.{counts_of};
 
 use crate::notices::ProgramWatcher;
 use crate::system::TcpConnection;
@@ -9,7 +9,7 @@ use crate::watching::{Declined, EndedConnection, Origin, Watcher};
 use std::sync::{Mutex, Wait};
 use std::time::{Clock, Instant};
 use ymx_policy::{Named, Notice, Reason};
-use ymx_status::{Counts, Known, Shown};
+use ymx_page::{Counts, Known, Shown};
 
 /// What is counted of an end, where those who ask see it.
 #[derive(Drop)]

@@ -5,10 +5,9 @@ ghost use Rattle.std.specs.Prelude.{None};
 use crate::stream::Stream;
 use crate::system::TcpConnection;
 use crate::watching::{Declined, EndedConnection, Origin, Watcher};
-use ymx_devices::push_all;
-use ymx_model::Outlet;
+use ymx_model::{Outlet, push_all};
 use ymx_policy::{Named, Notice, Reason, notice_text};
-use ymx_status::{end_line, refusal_line};
+use ymx_page::{end_line, refusal_line};
 
 /// What is said where the peer has gone.
 const GONE: &str = "ymx: the peer has gone\n";

@@ -28,8 +28,7 @@ use std::net::{Ipv4Addr, Net, SocketAddr, SocketAddrV4, TcpListener, TcpStream};
 use std::sync::Wait;
 use std::thread;
 use std::thread::{Threads, join_mut};
-use ymx_devices::push_all;
-use ymx_model::Outlet;
+use ymx_model::{Outlet, push_all};
 use ymx_policy::{Fault, Session, Side, fault_text};
 
 /// How many connections there are.

@@ -18,7 +18,7 @@ use std::net::SocketAddrV4;
 use std::sync::atomic::{AtomicBool, Ordering};
 use std::sync::{Arc, Wait};
 use std::time::{Clock, Duration, Instant};
-use ymx_status::{Drainable, Known, RequestLine, Seen, heed};
+use ymx_page::{Drainable, Known, RequestLine, Seen, heed};
 
 /// The token of the listener.
 const CALLERS: usize = 0;

@@ -25,7 +25,7 @@ use std::net::{Net, Shutdown, SocketAddr, TcpListener, TcpStream};
 use std::os::fd::AsRawFd;
 use std::time::Duration;
 use std::{io, net};
-use ymx_devices::{read, write};
+use ymx_model::{read, write};
 use ymx_policy::Keepalive;
 
 /// How often a write of several pieces that a signal interrupted is made again before it counts as failed.

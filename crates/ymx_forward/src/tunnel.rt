@@ -24,7 +24,7 @@ ghost use Rattle.ymx_law_session.specs.Limits.{IsWithin};
 ghost use Rattle.ymx_forward.specs.Sides.{role_at};
 ghost use Rattle.ymx_model.specs.session.Sessions.{is_running, new_session};
 ghost use Rattle.ymx_session.specs.NewSessions.{IsNewFault, first_id};
-ghost use Rattle.ymx_status.specs.Counts.{with_declined};
+ghost use Rattle.ymx_page.specs.Counts.{with_declined};
 
 use crate::dialing::Dialer;
 use crate::inbox::Places;

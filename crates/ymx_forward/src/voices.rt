@@ -6,8 +6,7 @@ use crate::notices::{Notices, ProgramWatcher};
 use crate::shared::Shared;
 use crate::watching::Unwatched;
 use std::sync::Wait;
-use ymx_devices::push_all;
-use ymx_model::Outlet;
+use ymx_model::{Outlet, push_all};
 use ymx_policy::{
     Deed, Errors, Fault, Happened, Lines, Notice, PoolDeed, PoolHappened, PoolWorld, World,
     fault_text, notice_text,

@@ -2,14 +2,14 @@
 
 ghost use Rattle.std.specs.Prelude.{◌≡◌, None, Option, option_map, IfSome};
 ghost use Rattle.ymx_forward.specs.Ended.{broken_from_peer, broken_to_peer, ending_of, stream_ending};
-ghost use Rattle.ymx_status.specs.Counts.{with_begun, with_declined, with_ended, with_peer, with_system_refusal};
-ghost use Rattle.ymx_status.specs.declared.counts.Counts.{Counts};
+ghost use Rattle.ymx_page.specs.Counts.{with_begun, with_declined, with_ended, with_peer, with_system_refusal};
+ghost use Rattle.ymx_page.specs.declared.counts.Counts.{Counts};
 
 use crate::socket::{Socket, SocketFault};
 use crate::system::TcpConnection;
 use ymx_engine::{Flow, Ways};
 use ymx_policy::{Named, Reason};
-pub(crate) use ymx_status::{Declined, EndedConnection, Ending, Origin, Passed};
+pub(crate) use ymx_page::{Declined, EndedConnection, Ending, Origin, Passed};
 
 /// Who is told of connections that have ended, and numbers them. Of each that begins it is told once more, by one of the
 /// other two calls.

@@ -2,7 +2,7 @@
 use Rattle.std.proofs.Common.{◌≡◌, ℕ, ◌+◌, ◌-◌, ◌^◌, ◌==◌, nat_lt, min, List, [], ◌∷◌, ◌++◌, length, take, drop, Bool, true, false, Option, None, Some, IfNone, IfSome, IsSomeAnd, MatchOption, Result, Ok, Err, IfOk, OnErr, arith, refl, sym, ◌∙◌, ap, subst, append_assoc, append-nil, decimal, inl, inr, codes}
 use Rattle.std.proofs.lemmas.Grind.{common_steps}
 use Rattle.std.proofs.lemmas.List.{take-append-drop}
-use Rattle.ymx_devices.proofs.Pushed.{whole_end}
+use Rattle.ymx_model.proofs.Pushed.{whole_end}
 use Rattle.std.proofs.lemmas.Bool.Decides.{nat_tests}
 use Rattle.std.specs.Io.{StartsWith}
 use Rattle.std.specs.Result.{result_unwrap_or}

@@ -8,7 +8,7 @@ use Rattle.ymx_machine.specs.declared.types.Call.TheVariants.{Open, Accept, Writ
 use Rattle.ymx_machine.specs.declared.types.CallFault.TheVariants as fault
 use Rattle.ymx_machine.specs.declared.types.Answer.{Answer}
 use Rattle.ymx_machine.specs.declared.types.Answer.TheVariants as answer
-use Rattle.ymx_examples.specs.Words.{a, b, took, fed, hello}
+use Rattle.ymx_headline.specs.worked.Words.{a, b, took, fed, hello}
 
 -- the calls, emissions and deliveries
 abbrev pub example_steps : List Step

@@ -6,10 +6,10 @@ use Rattle.ymx_machine.specs.declared.types.CallFault.{CallFault}
 use Rattle.ymx_machine.specs.declared.types.CallFault.TheVariants.{NoStream, Finished, Reset, Lost, Closed, PeerAway, OpensPending, TooMany, Exhausted, PingsPending, OutOfMemory}
 use Rattle.ymx_machine.specs.declared.types.Reply.TheVariants.{Accepted, Refused}
 use Rattle.ymx_seats.specs.Views.{SeatView}
-use Rattle.ymx_booked.specs.declared.faults.HubFault.{HubFault}
-use Rattle.ymx_booked.specs.declared.faults.HubFault.TheVariants.{Call}
-use Rattle.ymx_booked.specs.Answers.{hub_fault_of}
-use Rattle.ymx_booked.specs.Books.{Books, One, IsRefused, AcceptsOnce, to_accept}
+use Rattle.ymx_hub.specs.declared.faults.HubFault.{HubFault}
+use Rattle.ymx_hub.specs.declared.faults.HubFault.TheVariants.{Call}
+use Rattle.ymx_hub.specs.Answers.{hub_fault_of}
+use Rattle.ymx_hub.specs.Books.{Books, One, IsRefused, AcceptsOnce, to_accept}
 use Rattle.ymx_hub.specs.Turns.{AreWaits, IsOver, AcceptsLast, AcceptsInTurns}
 use Rattle.ymx_hub.proofs.Booked.{books_weaker}
 use Rattle.ymx_hub.proofs.Waits.{turns_end}

@@ -2,9 +2,9 @@
 use Rattle.std.proofs.Common.{ℕ, List, [], ◌++◌, Bool, true, false, refl, sym, append-nil, subst}
 use Rattle.ymx_model.specs.declared.types.Entry.{Entry}
 use Rattle.ymx_seats.specs.Views.{SeatView}
-use Rattle.ymx_booked.specs.Books.{Gains, Books}
-use Rattle.ymx_booked.proofs.Books.{books_both}
-use Rattle.ymx_booked.proofs.Extends.{extends_none, extends_weaker}
+use Rattle.ymx_hub.specs.Books.{Gains, Books}
+use Rattle.ymx_hub.proofs.Books.{books_both}
+use Rattle.ymx_hub.proofs.Extends.{extends_none, extends_weaker}
 
 gains_none : (keeps : Bool) (before : List Entry) (Such : List Entry → Type 0) → Such [] → Gains keeps before before Such
 gains_none true before Such p = ([], sym (append-nil before), p)

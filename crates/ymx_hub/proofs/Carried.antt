@@ -6,7 +6,7 @@ use Rattle.ymx_model.specs.session.Events.{Event}
 use Rattle.ymx_model.specs.declared.types.Entry.{Entry}
 use Rattle.ymx_machine.specs.shared.Events.{Reply}
 use Rattle.ymx_machine.specs.declared.types.Reply.TheVariants as reply
-use Rattle.ymx_booked.specs.Books.{One}
+use Rattle.ymx_hub.specs.Books.{One}
 use Rattle.ymx_hub.specs.declared.write_fault.WriteFault.{WriteFault}
 use Rattle.ymx_hub.specs.Turns.{took_of, total, AreWrites, AreWaits, WriteTurns}
 use Rattle.ymx_hub.specs.Carried.{offered, bytes_written, read_of, read_bytes}

@@ -5,9 +5,9 @@ use Rattle.ymx_model.specs.declared.types.Got.TheVariants as got
 use Rattle.ymx_machine.specs.declared.types.Reply.TheVariants.{ReadWait, ReadEnd}
 use Rattle.ymx_session.specs.Replies.{read_or}
 use Rattle.ymx_seats.specs.Views.{SeatView, entry}
-use Rattle.ymx_booked.specs.Books.{Books, One, Asks, to_read}
+use Rattle.ymx_hub.specs.Books.{Books, One, Asks, to_read}
 use Rattle.ymx_hub.specs.Turns.{AreWaits, EndsIn}
-use Rattle.ymx_booked.proofs.Books.{books_both}
+use Rattle.ymx_hub.proofs.Books.{books_both}
 use Rattle.ymx_hub.proofs.Written.{ends_more}
 
 ended_by : (seat id size : ℕ) (es ds : List Entry) → One seat (to_read id size) ReadEnd ds → EndsIn (λ told. told ≡ ReadEnd) (es ++ ds)

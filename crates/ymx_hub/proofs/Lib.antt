@@ -1,3 +1,13 @@
+pub mod History
+pub mod Journals
+pub mod Extends
+pub mod Books
+pub mod Spares
+pub mod Given
+pub mod Steps
+pub mod WholeHistories
+pub mod Gained
+pub mod Alone
 pub mod Booked
 pub mod Waits
 pub mod Written

@@ -15,13 +15,13 @@ use Rattle.ymx_model.specs.declared.types.Got.{Got}
 use Rattle.ymx_model.specs.declared.types.Got.TheVariants as got
 use Rattle.ymx_session.specs.Replies.{read_or, done_or}
 use Rattle.ymx_seats.specs.Views.{SeatView}
-use Rattle.ymx_booked.specs.declared.faults.HubFault.{HubFault}
-use Rattle.ymx_booked.specs.declared.faults.HubFault.TheVariants.{Memory}
+use Rattle.ymx_hub.specs.declared.faults.HubFault.{HubFault}
+use Rattle.ymx_hub.specs.declared.faults.HubFault.TheVariants.{Memory}
 use Rattle.ymx_model.specs.session.Events.{Event}
 use Rattle.ymx_machine.specs.declared.types.CallFault.{CallFault}
-use Rattle.ymx_booked.specs.Booked.{BookedView, without, is_half_spent, spent}
-use Rattle.ymx_booked.specs.Books.{Books, One, Asks, Closes, Forgets, to_read, to_forget}
-use Rattle.ymx_booked.specs.Steps.{Steps, StepsAsked, StepsClosed}
+use Rattle.ymx_hub.specs.Booked.{BookedView, without, is_half_spent, spent}
+use Rattle.ymx_hub.specs.Books.{Books, One, Asks, Closes, Forgets, to_read, to_forget}
+use Rattle.ymx_hub.specs.Steps.{Steps, StepsAsked, StepsClosed}
 use Rattle.ymx_hub.specs.Turns.{EndsIn}
 use Rattle.ymx_hub.specs.Releasing.{AreReads, FindsEnd, ReadsUp, Tends, joined, AllTend, Settles, Waits, AllWait, SpentAlike, all_without, all_spent, Leaves, LeavesOne, LeavesSome}
 use Rattle.ymx_hub.proofs.Booked.{books_same, books_at, books_weaker}

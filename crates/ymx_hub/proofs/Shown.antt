@@ -5,7 +5,7 @@ use Rattle.ymx_model.specs.declared.types.Entry.{Entry}
 use Rattle.ymx_seats.specs.Journals.{JournalView, part}
 use Rattle.ymx_seats.specs.Views.{SeatView, whole_of, IsBehind}
 use Rattle.ymx_seats.proofs.Moves.{part-append}
-use Rattle.ymx_booked.specs.Books.{Grows, Extends, Books}
+use Rattle.ymx_hub.specs.Books.{Grows, Extends, Books}
 use Rattle.ymx_hub.specs.Shown.{HasGrown, IsShown, BooksShown}
 use Rattle.ymx_hub.proofs.Booked.{books_same, books_at, books_weaker}
 

@@ -8,8 +8,8 @@ use Rattle.ymx_model.specs.declared.types.Got.{Got}
 use Rattle.ymx_model.specs.declared.types.Got.TheVariants as got
 use Rattle.ymx_session.specs.Replies.{pinged_or, ponged_or, read_or}
 use Rattle.ymx_seats.specs.Views.{SeatView}
-use Rattle.ymx_booked.specs.declared.faults.HubFault.{HubFault}
-use Rattle.ymx_booked.specs.Books.{Books, One, Asks, to_ping, to_collect, to_read}
+use Rattle.ymx_hub.specs.declared.faults.HubFault.{HubFault}
+use Rattle.ymx_hub.specs.Books.{Books, One, Asks, to_ping, to_collect, to_read}
 use Rattle.ymx_hub.specs.Turns.{AreWaits, Turns, PongsLast, IsPinged, PingTurns, ReadTurns, ReadsLast}
 use Rattle.ymx_hub.proofs.Booked.{books_same, books_at, books_weaker}
 

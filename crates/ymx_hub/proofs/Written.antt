@@ -8,9 +8,9 @@ use Rattle.ymx_machine.specs.shared.Events.{Reply}
 use Rattle.ymx_machine.specs.declared.types.Reply.TheVariants as reply
 use Rattle.ymx_session.specs.Replies.{wrote_or}
 use Rattle.ymx_seats.specs.Views.{SeatView, entry}
-use Rattle.ymx_booked.specs.declared.faults.HubFault.{HubFault}
-use Rattle.ymx_booked.specs.Answers.{took_count}
-use Rattle.ymx_booked.specs.Books.{Books, One, Asks, to_write}
+use Rattle.ymx_hub.specs.declared.faults.HubFault.{HubFault}
+use Rattle.ymx_hub.specs.Answers.{took_count}
+use Rattle.ymx_hub.specs.Books.{Books, One, Asks, to_write}
 use Rattle.ymx_hub.specs.Turns.{took_of, total, AreWrites, EndsIn, HasTaken, IsWrote, IsUnrefused, WriteTurns}
 use Rattle.ymx_hub.proofs.Booked.{books_same, books_at}
 

@@ -2,8 +2,8 @@
 use Rattle.std.specs.Prelude.{◌≡◌, ℕ, List, Option, Some, None, Result, Ok, Err}
 use Rattle.ymx_model.specs.declared.types.Entry.{Entry}
 use Rattle.ymx_seats.specs.Views.{SeatView}
-use Rattle.ymx_booked.specs.declared.faults.HubFault.{HubFault}
-use Rattle.ymx_booked.specs.Books.{Opens, OpensWith, IsRefused, to_open, to_open_with}
+use Rattle.ymx_hub.specs.declared.faults.HubFault.{HubFault}
+use Rattle.ymx_hub.specs.Books.{Opens, OpensWith, IsRefused, to_open, to_open_with}
 use Rattle.ymx_hub.specs.Turns.{AcceptsInTurns}
 
 -- a half: the id of its stream, and its seat

@@ -1,3 +1,10 @@
+pub mod Answers
+pub mod Booked
+pub mod Books
+pub mod Steps
+pub mod WholeHistories
+pub mod Gained
+pub mod Alone
 pub mod Turns
 pub mod Halves
 pub mod Pumped

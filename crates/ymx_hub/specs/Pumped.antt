@@ -9,8 +9,8 @@ use Rattle.ymx_model.specs.declared.types.Entry.{Entry}
 use Rattle.ymx_model.specs.session.Sessions.{Session, is_running}
 use Rattle.ymx_model.specs.session.Emissions.{is_ready}
 use Rattle.ymx_seats.specs.Views.{SeatView}
-use Rattle.ymx_booked.specs.Books.{Books, One}
-use Rattle.ymx_booked.specs.Shown.{IsHistoryOf}
+use Rattle.ymx_hub.specs.Books.{Books, One}
+use Rattle.ymx_hub.specs.WholeHistories.{IsHistoryOf}
 use Rattle.ymx_hub.specs.Shown.{IsShown}
 use Rattle.ymx_hub.specs.declared.moving.Turn.{Turn}
 use Rattle.ymx_hub.specs.declared.moving.Turn.TheVariants.{Emitted, Idle, Over}

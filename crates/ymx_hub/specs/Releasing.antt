@@ -7,8 +7,8 @@ use Rattle.ymx_machine.specs.declared.types.Reply.TheVariants as reply
 use Rattle.ymx_model.specs.declared.types.Entry.{Entry}
 use Rattle.ymx_model.specs.session.Sessions.{Session}
 use Rattle.ymx_model.specs.session.Calls.{read_from}
-use Rattle.ymx_booked.specs.Booked.{BookedView, without, spent}
-use Rattle.ymx_booked.specs.Books.{Forgets, to_read}
+use Rattle.ymx_hub.specs.Booked.{BookedView, without, spent}
+use Rattle.ymx_hub.specs.Books.{Forgets, to_read}
 use Rattle.ymx_hub.specs.Turns.{EndsIn}
 
 -- each entry names this seat, and is a read of this stream

@@ -11,10 +11,10 @@ use Rattle.ymx_machine.specs.declared.types.Reply.TheVariants as reply
 use Rattle.ymx_model.specs.declared.types.Entry.{Entry}
 use Rattle.ymx_session.specs.Replies.{pinged_or}
 use Rattle.ymx_seats.specs.Views.{SeatView}
-use Rattle.ymx_booked.specs.declared.faults.HubFault.{HubFault}
-use Rattle.ymx_booked.specs.declared.faults.HubFault.TheVariants.{Memory}
-use Rattle.ymx_booked.specs.Answers.{hub_fault_of}
-use Rattle.ymx_booked.specs.Books.{One, Asks, IsGiven, IsRefused, to_accept, to_write, to_read, to_ping, to_collect}
+use Rattle.ymx_hub.specs.declared.faults.HubFault.{HubFault}
+use Rattle.ymx_hub.specs.declared.faults.HubFault.TheVariants.{Memory}
+use Rattle.ymx_hub.specs.Answers.{hub_fault_of}
+use Rattle.ymx_hub.specs.Books.{One, Asks, IsGiven, IsRefused, to_accept, to_write, to_read, to_ping, to_collect}
 use Rattle.ymx_hub.specs.declared.write_fault.WriteFault.{WriteFault}
 
 -- each entry names this seat, has this event, and was told to wait by this reply

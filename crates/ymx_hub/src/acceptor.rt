@@ -1,7 +1,7 @@
 //! Who accepts streams.
 
 ghost use Rattle.std.specs.Prelude.{◌≡◌, IfSome, IfOk};
-ghost use Rattle.ymx_booked.specs.Books.{Books};
+ghost use Rattle.ymx_hub.specs.Books.{Books};
 ghost use Rattle.ymx_hub.specs.Halves.{AcceptsHalves};
 
 use crate::halves::{ReadHalf, WriteHalf, both_halves, hub_twice};
@@ -9,7 +9,7 @@ use crate::hub::Hub;
 use std::alloc::Global;
 use std::marker::Model;
 use std::sync::{Arc, Wait};
-use ymx_booked::HubFault;
+use crate::faults::HubFault;
 use ymx_seats::{Recorder, Seat};
 
 /// Accepts streams of a hub. A contract sees its seat.

@@ -3,8 +3,8 @@
 ghost use Rattle.std.specs.Prelude.{◌≡◌, ◌<◌, ◌≤◌, length, drop, false, IfOk, IfErr, MatchResult};
 ghost use Rattle.ymx_machine.specs.declared.types.Reply.TheVariants as reply;
 ghost use Rattle.ymx_seats.specs.Views.{IsWitnessed};
-ghost use Rattle.ymx_booked.specs.Answers.{IsNotMemory};
-ghost use Rattle.ymx_booked.specs.Books.{Books, Spends, Closes, to_finish, to_reset};
+ghost use Rattle.ymx_hub.specs.Answers.{IsNotMemory};
+ghost use Rattle.ymx_hub.specs.Books.{Books, Spends, Closes, to_finish, to_reset};
 ghost use Rattle.ymx_hub.specs.Releasing.{Tends};
 ghost use Rattle.ymx_hub.specs.Shown.{IsShown};
 ghost use Rattle.ymx_hub.specs.Turns.{ReadTurns, EndsIn, WriteTurns};
@@ -14,7 +14,7 @@ use crate::write_fault::WriteFault;
 use std::alloc::Global;
 use std::marker::Model;
 use std::sync::{Arc, Wait};
-use ymx_booked::HubFault;
+use crate::faults::HubFault;
 use ymx_memory::RefusedAllocation;
 use ymx_seats::{Recorder, Seat};
 

@@ -7,31 +7,47 @@
 //! `ReadHalf`; an `Opener` and an `Acceptor` do so with a seat of their own. Each caller has a seat, in which its calls are
 //! booked. `moving` has the turns of the pumps; `wakeups`
 //! and `shared` say who waits and who is woken, and `awaiting` how a thread waits.
+//!
+//! What stands under the lock uses no threads: `Booked` is a session, the log of its events, and which streams are half
+//! spent. `book` is the door that each event goes through, which adds its entry. Its calls stand in `opening` (a stream is
+//! handed out), `stream_calls` (bytes, and halves that are spent), `session_calls` and `wire_calls` (what comes and goes).
 #![tactic(auto)]
 
 mod acceptor;
 mod awaiting;
+mod book;
+mod booked;
+mod end_fault;
+mod faults;
 mod halves;
 mod hub;
 mod moving;
+mod one_caller;
 mod opener;
+mod opening;
+mod refused_seat;
 mod releasing;
+mod session_calls;
 mod settled;
 mod shared;
 mod slot_set;
 mod status;
+mod stream_calls;
 mod undrained;
 mod waiting_calls;
 mod wakeups;
+mod wire_calls;
 mod write_fault;
 
 pub use acceptor::{Acceptor, accept_at_seat};
+pub use end_fault::{EndFault, EndWhy};
+pub use faults::HubFault;
 pub use halves::{ReadHalf, WriteHalf};
 pub use hub::{FirstSeats, Hub};
 pub use moving::{FedAndSettled, Turn};
 pub use opener::{Opener, open_at_seat, open_with_at_seat};
+pub use refused_seat::RefusedSeat;
 pub use settled::Settled;
 pub use undrained::Undrained;
 pub use write_fault::WriteFault;
-pub use ymx_booked::{EndFault, EndWhy, HubFault, RefusedSeat};
 pub use ymx_seats::{Full, Off, Recorder, Seat, Transcript};

@@ -2,8 +2,8 @@
 //! credit back, and its reading half is spent once nothing more can come.
 
 ghost use Rattle.std.specs.Prelude.{◌≡◌, ◌⊎◌, [], ◌∷◌, false, IfOk, IsOk};
-ghost use Rattle.ymx_booked.specs.Answers.{IsNotMemory};
-ghost use Rattle.ymx_booked.specs.Books.{Books};
+ghost use Rattle.ymx_hub.specs.Answers.{IsNotMemory};
+ghost use Rattle.ymx_hub.specs.Books.{Books};
 ghost use Rattle.ymx_hub.specs.Releasing.{ReadsUp, Tends, Settles, Waits, AllWait, SpentAlike, Leaves, LeavesOne, LeavesSome};
 
 use crate::awaiting::take_lock;
@@ -11,7 +11,7 @@ use crate::hub::Hub;
 use crate::settled::Settled;
 use crate::shared::Shared;
 use std::sync::Wait;
-use ymx_booked::HubFault;
+use crate::faults::HubFault;
 use ymx_memory::RefusedAllocation;
 use ymx_model::{CallFault, Got};
 use ymx_seats::{Recorder, Seat};

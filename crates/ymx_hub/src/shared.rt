@@ -4,12 +4,13 @@ ghost use Rattle.std.specs.Prelude.{◌≡◌, ◌<◌, ◌≤◌, length, drop,
 ghost use Rattle.ymx_model.specs.declared.types.Event.TheVariants as event;
 ghost use Rattle.ymx_machine.specs.declared.types.Reply.TheVariants as reply;
 ghost use Rattle.ymx_session.specs.Replies.{wrote_or, read_or, got_count};
-ghost use Rattle.ymx_booked.specs.Answers.{IsNotMemory, GivesSome, took_count};
-ghost use Rattle.ymx_booked.specs.Books.{Books, Asks, Does, to_write, to_read};
+ghost use Rattle.ymx_hub.specs.Answers.{IsNotMemory, GivesSome, took_count};
+ghost use Rattle.ymx_hub.specs.Books.{Books, Asks, Does, to_write, to_read};
 
 use crate::wakeups::Waiters;
 use indexmap::IndexSet;
-use ymx_booked::{Booked, HubFault};
+use crate::booked::Booked;
+use crate::faults::HubFault;
 use ymx_memory::RefusedAllocation;
 use ymx_model::{Fed, Got, Wrote};
 use ymx_seats::{Recorder, Seat};

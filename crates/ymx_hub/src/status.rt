@@ -2,7 +2,7 @@
 
 ghost use Rattle.std.specs.Prelude.{◌≡◌};
 ghost use Rattle.ymx_model.specs.session.Sessions.{Session, is_running};
-ghost use Rattle.ymx_booked.specs.Shown.{IsHistoryOf};
+ghost use Rattle.ymx_hub.specs.WholeHistories.{IsHistoryOf};
 ghost use Rattle.ymx_hub.specs.Shown.{IsShown};
 
 use crate::awaiting::take_lock;

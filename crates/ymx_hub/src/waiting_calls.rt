@@ -1,12 +1,12 @@
 //! Calls that wait. Each turn is one event, and so one entry.
 
 ghost use Rattle.std.specs.Prelude.{◌≡◌, ◌⊎◌, ◌<◌, ◌≤◌, length, drop, true, false, IfOk, IfErr, MatchResult};
-ghost use Rattle.ymx_booked.specs.Answers.{IsNotMemory};
-ghost use Rattle.ymx_booked.specs.Books.{Books};
+ghost use Rattle.ymx_hub.specs.Answers.{IsNotMemory};
+ghost use Rattle.ymx_hub.specs.Books.{Books};
 ghost use Rattle.ymx_machine.specs.declared.types.Reply.TheVariants as reply;
 ghost use Rattle.ymx_model.specs.session.Sessions.{Session};
 ghost use Rattle.ymx_model.specs.session.Emissions.{is_ready};
-ghost use Rattle.ymx_booked.specs.Shown.{IsHistoryOf};
+ghost use Rattle.ymx_hub.specs.WholeHistories.{IsHistoryOf};
 ghost use Rattle.ymx_hub.specs.Shown.{IsShown};
 ghost use Rattle.ymx_hub.specs.Turns.{AcceptsInTurns, ReadTurns, EndsIn, PingTurns, WriteTurns};
 
@@ -15,7 +15,7 @@ use crate::hub::Hub;
 use crate::undrained::Undrained;
 use crate::write_fault::WriteFault;
 use std::sync::Wait;
-use ymx_booked::HubFault;
+use crate::faults::HubFault;
 use ymx_model::{CallFault, Got, Wrote};
 use ymx_seats::{Recorder, Seat};
 

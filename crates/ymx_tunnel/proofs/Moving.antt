@@ -13,8 +13,8 @@ use Rattle.ymx_tunnel.specs.declared.copied.CopyWhy.TheVariants.{End, Source, Si
 use Rattle.ymx_tunnel.specs.Copies.{CopiesIn, CopiesOut, EndsWell, StopsAt, StopsFor, copy_reason}
 use Rattle.ymx_memory.specs.declared.refused.RefusedAllocation.{RefusedAllocation}
 use Rattle.ymx_machine.specs.declared.types.CallFault.TheVariants as refusal
-use Rattle.ymx_booked.specs.declared.faults.HubFault.{HubFault}
-use Rattle.ymx_booked.specs.declared.faults.HubFault.TheVariants.{Call, Memory, Seats}
+use Rattle.ymx_hub.specs.declared.faults.HubFault.{HubFault}
+use Rattle.ymx_hub.specs.declared.faults.HubFault.TheVariants.{Call, Memory, Seats}
 
 -- a call that fails is counted
 pub counted : (first old new : ℕ) → new ≡ min (old + 1) most_failures → old ≡ first → IsTrue (has_failed first new)

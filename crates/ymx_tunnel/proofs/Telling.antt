@@ -11,9 +11,9 @@ use Rattle.ymx_model.specs.declared.types.Entry.{Entry}
 use Rattle.ymx_seats.specs.Journals.{part}
 use Rattle.ymx_seats.specs.Views.{SeatView, entry}
 use Rattle.ymx_seats.proofs.Moves.{part-append}
-use Rattle.ymx_booked.specs.declared.faults.HubFault.{HubFault}
-use Rattle.ymx_booked.specs.Answers.{hub_fault_of}
-use Rattle.ymx_booked.specs.Books.{Books, Gains, Grows, Extends, One, Forgets, SpendsWith, Spends, Closes, to_read, to_finish, to_reset, to_forget}
+use Rattle.ymx_hub.specs.declared.faults.HubFault.{HubFault}
+use Rattle.ymx_hub.specs.Answers.{hub_fault_of}
+use Rattle.ymx_hub.specs.Books.{Books, Gains, Grows, Extends, One, Forgets, SpendsWith, Spends, Closes, to_read, to_finish, to_reset, to_forget}
 use Rattle.ymx_hub.specs.declared.write_fault.WriteFault.{WriteFault}
 use Rattle.ymx_hub.specs.Turns.{took_of, EndsIn, AreWaits, AreWrites, WriteTurns, ReadTurns, ReadsLast}
 use Rattle.ymx_hub.specs.Carried.{offered, bytes_written, read_bytes}

@@ -6,9 +6,9 @@ use Rattle.ymx_model.specs.declared.types.Entry.{Entry}
 use Rattle.ymx_machine.specs.declared.types.CallFault.{CallFault}
 use Rattle.ymx_seats.specs.Journals.{part}
 use Rattle.ymx_seats.specs.Views.{SeatView}
-use Rattle.ymx_booked.specs.declared.faults.HubFault.{HubFault}
-use Rattle.ymx_booked.specs.declared.faults.HubFault.TheVariants.{Memory}
-use Rattle.ymx_booked.specs.Answers.{hub_fault_of}
+use Rattle.ymx_hub.specs.declared.faults.HubFault.{HubFault}
+use Rattle.ymx_hub.specs.declared.faults.HubFault.TheVariants.{Memory}
+use Rattle.ymx_hub.specs.Answers.{hub_fault_of}
 
 -- the entries of this caller in the history that it has seen, where there is a journal
 abbrev pub part_seen : ℕ → Option (List Entry) → Option (List Entry)

@@ -2,14 +2,13 @@
 
 ghost use Rattle.std.specs.Prelude.{Result, Ok, Err, ◌≡◌, ◌⊎◌, ◌<◌, length, IsTrue};
 ghost use Rattle.ymx_model.specs.devices.Devices.{has_failed};
-ghost use Rattle.ymx_booked.specs.declared.faults.HubFault.{HubFault as Fault};
+ghost use Rattle.ymx_hub.specs.declared.faults.HubFault.{HubFault as Fault};
 ghost use Rattle.ymx_tunnel.specs.Copies.{CopiesIn, CopiesOut, EndsWell, StopsAt, StopsFor};
 
 use crate::copied::{Copied, CopyWhy, Stop, why_of_fault, why_of_finish};
 use crate::ends::{Sink, Source};
 use std::sync::Wait;
-use ymx_devices::push_all;
-use ymx_model::{Inlet, Outlet};
+use ymx_model::{Inlet, Outlet, push_all};
 
 /// Copies what the reader gives into the sink, up to the reader's end; then it finishes the sink. At a fault it
 /// resets it. It reads into the buffer, which isn't empty, and takes no memory.

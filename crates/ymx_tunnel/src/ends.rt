@@ -2,7 +2,7 @@
 
 ghost use Rattle.std.specs.Prelude.{ℕ, List, Option, Result, ◌≡◌, ◌<◌, ◌≤◌, length, take, IfErr, IfOk, MatchResult};
 ghost use Rattle.std.specs.Io.KnownBytes.{Appends, Keeps, WriteAppends};
-ghost use Rattle.ymx_booked.specs.declared.faults.HubFault.{HubFault as Fault};
+ghost use Rattle.ymx_hub.specs.declared.faults.HubFault.{HubFault as Fault};
 
 use std::sync::Wait;
 use ymx_hub::{HubFault, WriteFault};

@@ -1,7 +1,7 @@
 //! The halves of a stream as the ends of a copy. Their seats tell the bytes: with the recorder `Full` by their entries, with
 //! `Witnessed` by their own in the history that they have seen. With `Off` they tell none.
 
-ghost use Rattle.ymx_booked.specs.Books.{Books, Spends, to_finish, to_reset};
+ghost use Rattle.ymx_hub.specs.Books.{Books, Spends, to_finish, to_reset};
 ghost use Rattle.ymx_hub.specs.Carried.{bytes_written, read_bytes};
 ghost use Rattle.ymx_tunnel.specs.Told.{own_entries, carried, SaidEnd, ToldRefusal};
 

@@ -1,6 +1,6 @@
 -- The steps of the worked example are those that its ends tell of, whichever seats they sat on.
 use Rattle.std.proofs.Common.{◌∷◌, [], ℕ, List, true, false, Some, refl, arith}
-use Rattle.ymx_examples.specs.Words.{window_frame}
+use Rattle.ymx_headline.specs.worked.Words.{window_frame}
 use Rattle.ymx_machine.specs.declared.types.Call.TheVariants.{Open, Accept}
 use Rattle.ymx_machine.specs.declared.types.Reply.TheVariants as reply
 use Rattle.ymx_model.specs.declared.types.Entry.{Entry}

@@ -12,7 +12,7 @@ use Rattle.ymx_model.specs.declared.types.Event.TheVariants as event
 use Rattle.ymx_model.specs.declared.types.Entry.{Entry}
 use Rattle.ymx_machine.specs.declared.types.Fed.{Fed}
 use Rattle.ymx_machine.specs.declared.types.Why.TheVariants.{All}
-use Rattle.ymx_examples.specs.Words.{window_frame}
+use Rattle.ymx_headline.specs.worked.Words.{window_frame}
 
 -- the frame that opens stream 1, fed as a whole
 abbrev pub fed_whole : Fed

@@ -1,7 +1,7 @@
 use Rattle.std.proofs.Common.{◌+◌, ◌<◌, ◌≤◌, [], min, arith, length, ◌∙◌, ap, inr, rules}
 use Rattle.std.proofs.KnownBytes.{Appends-nil, Consumes-nil}
 use Rattle.ymx_model.specs.devices.Devices.{most_failures}
-use Rattle.ymx_devices.proofs.Pushed.{counted}
+use Rattle.ymx_model.proofs.Pushed.{counted}
 use Rattle.ymx_frames.proofs.Rounds.{nothing_printed_of_nothing, run_begins, read_fails, write_fails, run_ends, run_goes_on, if_failed, if_not_failed}
 use Rattle.ymx_frames.proofs.print.frames.Goals as goal
 

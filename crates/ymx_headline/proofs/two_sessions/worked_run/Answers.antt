@@ -3,9 +3,9 @@ use Rattle.ymx_machine.specs.declared.types.Answer.{Answer}
 use Rattle.ymx_model.specs.declared.types.Role.TheVariants.{Client, Server}
 use Rattle.ymx_model.specs.session.Emissions.{in_turn}
 use Rattle.ymx_model.specs.world.Worlds.{Runs, is_quiet}
-use Rattle.ymx_examples.specs.Plays.{play}
-use Rattle.ymx_examples.specs.Words.{start}
-use Rattle.ymx_examples.proofs.Played.{plays, new-within}
+use Rattle.ymx_headline.specs.worked.Plays.{play}
+use Rattle.ymx_headline.specs.worked.Words.{start}
+use Rattle.ymx_headline.proofs.worked.Played.{plays, new-within}
 use Rattle.ymx_headline.specs.Example.{example_steps, example_answers}
 use Rattle.ymx_headline.specs.Laws.{AreGood}
 use Rattle.ymx_headline.proofs.two_sessions.worked_run.Goals as goal

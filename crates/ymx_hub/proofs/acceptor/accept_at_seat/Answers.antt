@@ -1,6 +1,6 @@
 use Rattle.std.proofs.Common.{ℕ, Option, None, Ok, subst}
 use Rattle.ymx_seats.specs.Views.{SeatView}
-use Rattle.ymx_booked.specs.Books.{Books}
+use Rattle.ymx_hub.specs.Books.{Books}
 use Rattle.ymx_hub.specs.Halves.{AcceptsHalves}
 use Rattle.ymx_hub.specs.Turns.{AcceptsInTurns}
 use Rattle.ymx_hub.proofs.Booked.{books_weaker}

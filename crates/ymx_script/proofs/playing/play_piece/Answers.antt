@@ -1,5 +1,5 @@
 use Rattle.std.proofs.Common.{◌<◌, ◌≤◌, arith, length}
-use Rattle.ymx_devices.proofs.Pushed.{counted}
+use Rattle.ymx_model.proofs.Pushed.{counted}
 use Rattle.ymx_frames.proofs.Rounds.{if_failed, if_not_failed}
 use Rattle.ymx_script.proofs.Rounds.{ended_reading, ended_writing, ended_itself, run_goes_on}
 use Rattle.ymx_script.proofs.playing.play_piece.Goals as goal

@@ -1,5 +1,5 @@
 use Rattle.std.proofs.Common.{◌<◌, List, ℕ, ◌++◌, ◌∙◌, take, sym, subst, arith}
-use Rattle.ymx_booked.specs.Books.{Books}
+use Rattle.ymx_hub.specs.Books.{Books}
 use Rattle.ymx_connect.specs.Streams.{ReadsOn}
 use Rattle.ymx_connect.proofs.Streams.{reads_more, reads_end, reads_stop, reads_lack}
 use Rattle.ymx_connect.proofs.halves.Reader.read_up.Goals as goal

@@ -1,5 +1,5 @@
 use Rattle.std.proofs.Common.{◌≡◌}
-use Rattle.ymx_booked.specs.Books.{Books}
+use Rattle.ymx_hub.specs.Books.{Books}
 use Rattle.ymx_connect.specs.Streams.{ReadsOn}
 use Rattle.ymx_connect.proofs.halves.Reader.read_up.Given as goal
 

@@ -1,5 +1,5 @@
 use Rattle.std.proofs.Common.{refl}
-use Rattle.ymx_devices.proofs.Pushed.{on_err}
+use Rattle.ymx_model.proofs.Pushed.{on_err}
 use Rattle.ymx_frames.proofs.Ends.{gone_further, gone_through, gone_to_fault, gone_short, gone_short_of_fault, if_none, tested_empty}
 use Rattle.ymx_frames.proofs.printer.Printer.print_bytes.Goals as goal
 

@@ -1,5 +1,5 @@
 use Rattle.std.proofs.Common.{subst}
-use Rattle.ymx_booked.specs.Books.{Books, Closes}
+use Rattle.ymx_hub.specs.Books.{Books, Closes}
 use Rattle.ymx_hub.specs.Halves.{HalfView}
 use Rattle.ymx_hub.proofs.halves.ReadHalf.close.Goals as goal
 

@@ -1,7 +1,7 @@
 use Rattle.std.proofs.Common.{ℕ, Option, None, Ok, subst}
 use Rattle.ymx_machine.specs.declared.types.Reply.TheVariants.{Accepted}
 use Rattle.ymx_seats.specs.Views.{SeatView}
-use Rattle.ymx_booked.specs.Books.{Books, AcceptsOnce, to_accept}
+use Rattle.ymx_hub.specs.Books.{Books, AcceptsOnce, to_accept}
 use Rattle.ymx_hub.proofs.Waits.{waits_on}
 use Rattle.ymx_hub.proofs.Accepts.{accept_given, accept_refused}
 use Rattle.ymx_hub.proofs.hub.Hub.accept.Goals as goal

@@ -1,6 +1,6 @@
 use Rattle.std.proofs.Common.{None}
 use Rattle.ymx_machine.specs.declared.types.Reply.TheVariants.{Accepted}
-use Rattle.ymx_booked.specs.Books.{Books, to_accept}
+use Rattle.ymx_hub.specs.Books.{Books, to_accept}
 use Rattle.ymx_hub.specs.Turns.{AreWaits}
 use Rattle.ymx_hub.proofs.hub.Hub.accept.Given as goal
 

@@ -1,7 +1,7 @@
 use Rattle.std.proofs.Common.{Bool, false, Ok, subst, rules}
 use Rattle.ymx_machine.specs.declared.types.Reply.TheVariants.{Ponged}
 use Rattle.ymx_session.specs.Replies.{ponged_or}
-use Rattle.ymx_booked.specs.Books.{Books, Asks, to_collect}
+use Rattle.ymx_hub.specs.Books.{Books, Asks, to_collect}
 use Rattle.ymx_hub.proofs.Waits.{waits_on, pong_back, pong_refused, ping_refused}
 use Rattle.ymx_hub.proofs.hub.Hub.ping.Goals as goal
 

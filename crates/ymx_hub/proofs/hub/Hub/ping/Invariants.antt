@@ -1,6 +1,6 @@
 use Rattle.std.proofs.Common.{false}
 use Rattle.ymx_machine.specs.declared.types.Reply.TheVariants.{Ponged}
-use Rattle.ymx_booked.specs.Books.{Books, to_collect}
+use Rattle.ymx_hub.specs.Books.{Books, to_collect}
 use Rattle.ymx_hub.specs.Turns.{AreWaits}
 use Rattle.ymx_hub.proofs.hub.Hub.ping.Given as goal
 

@@ -1,8 +1,8 @@
 use Rattle.std.proofs.Common.{◌<◌, length, Ok, ap, subst, arith, rules}
 use Rattle.ymx_model.specs.declared.types.Got.{Got}
 use Rattle.ymx_session.specs.Replies.{read_or}
-use Rattle.ymx_booked.specs.Answers.{GivesSome}
-use Rattle.ymx_booked.specs.Books.{Books, Asks, to_read}
+use Rattle.ymx_hub.specs.Answers.{GivesSome}
+use Rattle.ymx_hub.specs.Books.{Books, Asks, to_read}
 use Rattle.ymx_hub.proofs.Waits.{read_waits, read_bytes, read_end, read_refused}
 use Rattle.ymx_hub.proofs.Ended.{read_ends}
 use Rattle.ymx_hub.proofs.hub.Hub.read.Goals as goal

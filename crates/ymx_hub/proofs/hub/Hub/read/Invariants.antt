@@ -1,6 +1,6 @@
 use Rattle.std.proofs.Common.{◌≡◌, length}
 use Rattle.ymx_machine.specs.declared.types.Reply.TheVariants.{ReadWait}
-use Rattle.ymx_booked.specs.Books.{Books, to_read}
+use Rattle.ymx_hub.specs.Books.{Books, to_read}
 use Rattle.ymx_hub.specs.Turns.{AreWaits}
 use Rattle.ymx_hub.proofs.hub.Hub.read.Given as goal
 

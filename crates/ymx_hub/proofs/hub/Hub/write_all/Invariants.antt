@@ -1,5 +1,5 @@
 use Rattle.std.proofs.Common.{◌≤◌, length}
-use Rattle.ymx_booked.specs.Books.{Books}
+use Rattle.ymx_hub.specs.Books.{Books}
 use Rattle.ymx_hub.proofs.Written.{Written}
 use Rattle.ymx_hub.proofs.hub.Hub.write_all.Given as goal
 

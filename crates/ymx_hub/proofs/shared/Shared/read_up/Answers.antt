@@ -3,8 +3,8 @@ use Rattle.std.proofs.Common.{◌≡◌, length, subst, Ok, Err}
 use Rattle.ymx_machine.specs.shared.Evidence.{evidence}
 use Rattle.ymx_model.specs.declared.types.Got.{Got}
 use Rattle.ymx_session.specs.Replies.{read_or}
-use Rattle.ymx_booked.specs.declared.faults.HubFault.TheVariants.{Memory}
-use Rattle.ymx_booked.specs.Books.{Books, Asks, to_read}
+use Rattle.ymx_hub.specs.declared.faults.HubFault.TheVariants.{Memory}
+use Rattle.ymx_hub.specs.Books.{Books, Asks, to_read}
 use Rattle.ymx_hub.proofs.Released.{reads_on, reads_end, reads_refused, reads_lack, alike_on}
 use Rattle.ymx_hub.proofs.shared.Shared.read_up.Goals as goal
 

@@ -1,5 +1,5 @@
 use Rattle.std.proofs.Common.{◌≡◌}
-use Rattle.ymx_booked.specs.Books.{Books}
+use Rattle.ymx_hub.specs.Books.{Books}
 use Rattle.ymx_hub.specs.Releasing.{AreReads, SpentAlike}
 use Rattle.ymx_hub.proofs.shared.Shared.read_up.Given as goal
 

@@ -1,4 +1,4 @@
-use Rattle.ymx_booked.specs.Books.{Books}
+use Rattle.ymx_hub.specs.Books.{Books}
 use Rattle.ymx_hub.specs.Releasing.{Settles, LeavesSome}
 use Rattle.ymx_hub.proofs.shared.Shared.settle.Given as goal
 

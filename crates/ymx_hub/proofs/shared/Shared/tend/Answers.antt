@@ -1,6 +1,6 @@
 -- Nothing more comes, and the half is spent.
 use Rattle.std.proofs.Common.{Bool, Ok, subst}
-use Rattle.ymx_booked.specs.Books.{Books}
+use Rattle.ymx_hub.specs.Books.{Books}
 use Rattle.ymx_hub.specs.Releasing.{ReadsUp}
 use Rattle.ymx_hub.proofs.Released.{tends_end}
 use Rattle.ymx_hub.proofs.shared.Shared.tend.Goals as goal

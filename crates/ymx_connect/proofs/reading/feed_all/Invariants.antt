@@ -1,0 +1,12 @@
+use Rattle.std.proofs.Common.{None}
+use Rattle.ymx_hub.specs.Books.{Books}
+use Rattle.ymx_hub.specs.Releasing.{Settles}
+use Rattle.ymx_connect.specs.Turns.{FeedsFirst}
+use Rattle.ymx_connect.proofs.reading.feed_all.Given as goal
+
+abbrev pub invariant-loop : goal.invariant-loop
+invariant-loop g l = record {
+  next : (goal.iterator-loop g).can_next l.iterator' × (goal.iterator-loop g).is_finite l.iterator';
+  fed : FeedsFirst g.R.Recorder.KEEPS l.initial.seat l.seat l.bytes l.at None;
+  tended : Books g.R.Recorder.KEEPS l.initial.settler l.settler (Settles l.initial.settler.number);
+}

@@ -1,0 +1,137 @@
+//! The write pump.
+
+ghost use Rattle.std.specs.Prelude.{◌≡◌, ◌<◌, ◌⊎◌, length, Bool, true, IfOk, IfErr};
+ghost use Rattle.std.specs.Io.KnownBytes.{Keeps};
+ghost use Rattle.ymx_model.specs.devices.Devices.{has_failed};
+ghost use Rattle.ymx_hub.specs.Books.{Books};
+ghost use Rattle.ymx_hub.specs.Pumped.{EmitsNoMore};
+ghost use Rattle.ymx_machine.specs.shared.Evidence.{evidence};
+ghost use Rattle.ymx_connect.specs.Ends.{WriteEnd};
+ghost use Rattle.ymx_connect.specs.Pumps.{PumpWrote, EndsWrite};
+ghost use Rattle.ymx_connect.specs.Turns.{SaysEnd, TurnWrote, EmitsOrWakes};
+
+use crate::gate::Gate;
+use crate::pump_end::{PumpEnd, PumpWhy, Stop};
+use crate::reading::end_input;
+use std::sync::Wait;
+use ymx_model::{Outlet, push_all};
+use ymx_hub::{Hub, Turn};
+use ymx_seats::{Recorder, Seat};
+
+/// The writer failed: the session is lost, and nothing goes out any more.
+fn lose_writer<R: Recorder, W: Wait>(rt: &W, hub: &Hub<R>, seat: &mut Seat<R>) -> PumpWhy
+    ensures ended { Books R.KEEPS seat.old seat.new (SaysEnd seat.old.number PumpWhy.Device result) }
+    ensures reason { (result ≡ PumpWhy.Device) ⊎ ((R.KEEPS ≡ true) × (result ≡ PumpWhy.Memory evidence)) }
+{
+    let why = end_input(rt, hub, seat, PumpWhy::Device);
+    hub.mute(rt);
+    why
+}
+
+/// Nothing more will be due: ends the writer.
+fn end_writer<R: Recorder, W: Wait, O: Outlet>(
+    rt: &W,
+    hub: &Hub<R>,
+    seat: &mut Seat<R>,
+    writer: &mut O,
+) -> PumpWhy
+    ensures kept { Keeps (O.contents writer.old) (O.contents writer.new) }
+    ensures ended { Books R.KEEPS seat.old seat.new (EndsWrite seat.old.number result) }
+    ensures unseen { result ≡ PumpWhy.End → seat.new ≡ seat.old }
+    ensures reason { (has_refused : Bool) → WriteEnd R.KEEPS (O.failures writer.old) (O.failures writer.new) (O.is_ended writer.new) has_refused result }
+{
+    match writer.end() {
+        Ok(()) => PumpWhy::End,
+        Err(_) => lose_writer(rt, hub, seat),
+    }
+}
+
+/// One turn: emits, and writes all of it; or waits until something is due, or nothing will be. At the pump's end it says
+/// how many bytes were written.
+fn write_turn<R: Recorder, W: Wait, O: Outlet, G: Gate>(
+    rt: &W,
+    hub: &Hub<R>,
+    seat: &mut Seat<R>,
+    writer: &mut O,
+    gate: &mut G,
+    buffer: &mut [u8],
+) -> Result<usize, Stop>
+    ensures length { length buffer.new ≡ length buffer.old }
+    ensures turned { TurnWrote R.KEEPS (length buffer.old) (O.failures writer.old) (O.failures writer.new) (O.contents writer.old) (O.contents writer.new) seat.old seat.new result }
+    ensures ended { IfErr result (λ stop. WriteEnd R.KEEPS (O.failures writer.old) (O.failures writer.new) (O.is_ended writer.new) (G.has_refused gate.new) stop.why) }
+    ensures out { IfErr result (λ stop. stop.why ≡ PumpWhy.End → EmitsNoMore R.WITNESSED R.role R.config seat.new.seen) }
+    ensures awake { IfOk result (λ count. EmitsOrWakes R.KEEPS R.WITNESSED R.role R.config (length buffer.old) buffer.new seat.old seat.new count) }
+{
+    match hub.emit_turn(rt, seat, buffer) {
+        Ok(Turn::Emitted(count)) => {
+            if let Err(moved) = push_all(writer, &buffer[..count]) {
+                let why = lose_writer(rt, hub, seat);
+                return Err(Stop {
+                    moved: moved as u64,
+                    why,
+                });
+            }
+            gate.after_write(count);
+            Ok(count)
+        }
+        Ok(Turn::Idle) => {
+            if !gate.before_wait() {
+                return Err(Stop::at_once(PumpWhy::Gate));
+            }
+            hub.wait_until_due(rt, seat);
+            Ok(0)
+        }
+        Ok(Turn::Over) => Err(Stop::at_once(end_writer(rt, hub, seat, writer))),
+        Err(refused) => {
+            hub.mute(rt);
+            Err(Stop::at_once(PumpWhy::Memory(refused)))
+        }
+    }
+}
+
+/// The write pump, while its seat is lent.
+pub(crate) fn write_on<R: Recorder, W: Wait, O: Outlet, G: Gate>(
+    rt: &W,
+    hub: &Hub<R>,
+    seat: &mut Seat<R>,
+    writer: &mut O,
+    gate: &mut G,
+    buffer: &mut [u8],
+) -> Stop
+    ensures wrote { PumpWrote R.KEEPS (length buffer.old) (has_failed (O.failures writer.old) (O.failures writer.new)) (O.contents writer.old) (O.contents writer.new) seat.old seat.new result.moved result.why }
+    ensures ended { WriteEnd R.KEEPS (O.failures writer.old) (O.failures writer.new) (O.is_ended writer.new) (G.has_refused gate.new) result.why }
+    ensures out { result.why ≡ PumpWhy.End → EmitsNoMore R.WITNESSED R.role R.config seat.new.seen }
+{
+    let mut count = 0u64;
+    for _ in rt.forever() {
+        match write_turn(rt, hub, seat, writer, gate, buffer) {
+            Ok(written) => count = count.saturating_add(written as u64),
+            Err(stop) => return stop.behind(count),
+        }
+    }
+    unreachable!()
+}
+
+/// Emits and writes until nothing more will be due, with no lock held while it writes, and then ends the writer.
+///
+/// It ends with `End` once the session is closed, or lost or broken with nothing due; with `Device` where the
+/// writer failed in this call, which also ends the session's input; with `Gate` before a wait; and with `Memory`
+/// where there is none for the entry of an event, which was not done.
+pub fn write_pump<R: Recorder, W: Wait, O: Outlet, G: Gate>(
+    rt: &W,
+    hub: &Hub<R>,
+    seat: Seat<R>,
+    writer: &mut O,
+    gate: &mut G,
+    buffer: &mut [u8],
+) -> PumpEnd<R>
+    requires { 0 < length buffer.old }
+    ensures wrote { PumpWrote R.KEEPS (length buffer.old) (has_failed (O.failures writer.old) (O.failures writer.new)) (O.contents writer.old) (O.contents writer.new) seat result.seat result.moved result.why }
+    ensures ended { WriteEnd R.KEEPS (O.failures writer.old) (O.failures writer.new) (O.is_ended writer.new) (G.has_refused gate.new) result.why }
+    // It says End only where nothing is due and nothing will be, of the session that the history in the sight of its seat leads to.
+    ensures out { result.why ≡ PumpWhy.End → EmitsNoMore R.WITNESSED R.role R.config result.seat.seen }
+{
+    let mut seat = seat;
+    let Stop { moved, why } = write_on(rt, hub, &mut seat, writer, gate, buffer);
+    PumpEnd { seat, moved, why }
+}

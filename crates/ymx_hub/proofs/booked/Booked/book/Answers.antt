@@ -1,0 +1,15 @@
+use Rattle.std.proofs.Common.{◌∙◌, ℕ, length, refl, ap}
+use Rattle.ymx_machine.specs.declared.types.Reply.{Reply as ReplyOf}
+use Rattle.ymx_session.specs.Applied.{in_buffer}
+use Rattle.ymx_seats.specs.Views.{whole_of}
+use Rattle.ymx_hub.proofs.Books.{does_one}
+use Rattle.ymx_hub.proofs.Extends.{behind_at, journal_at, entries_at}
+use Rattle.ymx_hub.proofs.booked.Booked.book.Goals as goal
+
+pub returns-clause-booked : goal.returns-clause-booked
+returns-clause-booked g c =
+    does_one {A = ReplyOf ℕ} g.R.Recorder.KEEPS c.args.seat.now c.carry_out-told.new.seat c.args.event.now (in_buffer c.carry_out-told.new.buffer) (length c.prepare.new.self.entries) c.self.inside.log.journal c.carry_out-told.result
+    (c.carry_out-told.ensures.number ∙ c.prepare.ensures.number) (c.carry_out-told.ensures.start ∙ c.prepare.ensures.start)
+    (entries_at g.R.Recorder.KEEPS _ _ _ _ c.args.event.now _ (in_buffer c.carry_out-told.new.buffer c.carry_out-told.result) _ _ _ c.carry_out-told.ensures.seat_entries c.prepare.ensures.number refl refl c.prepare.ensures.seat_entries)
+    (c.carry_out-told.ensures.seen ∙ ap whole_of (journal_at _ c.args.seat.now.number _ c.args.event.now _ (in_buffer c.carry_out-told.new.buffer c.carry_out-told.result) _ c.self.inside.log.journal _ c.carry_out-told.ensures.journal c.prepare.ensures.number refl refl c.prepare.ensures.journal))
+    (behind_at _ _ _ _ _ _ c.prepare.ensures.number c.prepare.ensures.seen c.prepare.ensures.journal c.carry_out-told.ensures.behind)

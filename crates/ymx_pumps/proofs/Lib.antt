@@ -1,4 +1,0 @@
-pub mod Counts
-pub mod Emits
-pub mod Ends
-pub mod Feeds
