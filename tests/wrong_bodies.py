@@ -19,7 +19,7 @@ def edits_of(folder):
     return [f"{wrong}/{it}" for it in names if it.endswith(".edit")]
 
 
-# ---- edits that can be tried together: each in the body of another function
+# ---- edits that can be tried together: each in the body of another function, none of which calls another
 
 HEAD = re.compile(r'^([ \t]*)(?:pub(?:\([a-z]+\))? )?(?:const )?(?:unsafe )?(?:extern "C" )?fn (\w+)', re.M)
 NAMES = re.compile(r"(?:note: )?(?:\./)?proofs/.*(has no field|is not in scope|has no `|was not admitted)")
@@ -42,20 +42,20 @@ class Change:
         self.function = function_at(old, self.at, self.end)
 
 
-def function_at(text, at, end):
-    """The name of the function in whose body this part of a source lies, or None."""
+def functions_of(text):
+    """The functions of a source that have a body: the name, and where the body begins and ends."""
     for head in HEAD.finditer(text):
         opens = re.compile(r"\{$", re.M).search(text, head.end())
         closes = opens and re.compile(rf"^{head[1]}\}}$", re.M).search(text, opens.end())
-        if not closes:
-            continue
         following = HEAD.search(text, head.end())
-        if following and following.start() < opens.start():
-            # a declaration, which has no body
-            continue
-        if opens.end() <= at and end <= closes.start():
-            return head[2]
-    return None
+        # one that begins before is the sign of a declaration, which has no body
+        if closes and not (following and following.start() < opens.start()):
+            yield head[2], opens.end(), closes.start()
+
+
+def function_at(text, at, end):
+    """The name of the function in whose body this part of a source lies, or None."""
+    return next((name for name, opens, closes in functions_of(text) if opens <= at and end <= closes), None)
 
 
 def together(crate, changes):
@@ -69,11 +69,39 @@ def together(crate, changes):
     return texts
 
 
-def batches_of(changes):
-    """The changes in as few batches as may be: in a batch each is in a function of another name."""
+def bodies_of(crate):
+    """The text of the functions of each name in the crate's sources."""
+    bodies = {}
+    for folder, _, files in os.walk(f"{crate.folder}/src"):
+        for file in (it for it in files if it.endswith(".rt")):
+            with open(f"{folder}/{file}", encoding="utf-8") as it:
+                text = it.read()
+            for name, start, end in functions_of(text):
+                bodies[name] = bodies.get(name, "") + text[start:end]
+    return bodies
+
+
+def called_by(crate):
+    """For each name of a function the names of those that it calls, and that these call, as far as a text tells."""
+    bodies = bodies_of(crate)
+    calls = {name: {it for it in re.findall(r"\b(\w+)\s*(?:::<[^>]*>)?\(", body) if it in bodies} for name, body in bodies.items()}
+    found = {}
+    for name in bodies:
+        found[name], left = set(), [name]
+        while left:
+            new = calls[left.pop()] - found[name]
+            found[name] |= new
+            left += new
+    return found
+
+
+def batches_of(changes, called):
+    """The changes in as few batches as may be: in a batch each is in a function of another name, and none calls another, since
+    a function that calls a refused one is not tried."""
     batches = []
     for it in changes:
-        batch = next((batch for batch in batches if all(other.function != it.function for other in batch)), None)
+        reached = called.get(it.function, set()) | {it.function}
+        batch = next((batch for batch in batches if not any(other.function in reached or it.function in called.get(other.function, ()) for other in batch)), None)
         if batch is None:
             batches.append([it])
         else:
@@ -131,14 +159,11 @@ def try_crate(crate):
         return 0
     try:
         refused, left = 0, edits_of(crate.folder)
-        changes = [it for it in (Change(crate, edit) for edit in left) if it.function]
-        # twice, as a function that calls a refused one is not tried beside it
-        for _ in range(2):
-            for batch in batches_of([it for it in changes if it.edit in left]):
-                for it, words in judged(crate, batch, kept):
-                    tell(f"{crate.name}/{os.path.basename(it.edit)}: refused, as it must be: {words[:160]}")
-                    left.remove(it.edit)
-                    refused += 1
+        for batch in batches_of([it for it in (Change(crate, edit) for edit in left) if it.function], called_by(crate)):
+            for it, words in judged(crate, batch, kept):
+                tell(f"{crate.name}/{os.path.basename(it.edit)}: refused, as it must be: {words[:160]}")
+                left.remove(it.edit)
+                refused += 1
         # what was not refused so is tried by itself
         for edit in left:
             outcome, text = rt.must_fail(crate, edit, ["--jobs", "1"], kept)
