@@ -212,15 +212,14 @@ impl Receiving {
         }
     }
 
-    /// The first unread bytes, as they lie in the ring.
-    pub(crate) fn unread(&self) -> &[u8]
-        ensures first { result.now ≡ take (length result.now) (reader_of self.now).unread }
-        ensures some { 0 < length (reader_of self.now).unread → 0 < length result.now }
+    /// The unread bytes, as they lie in the ring.
+    pub(crate) fn unread(&self) -> (&[u8], &[u8])
+        ensures all { result.0.now ++ result.1.now ≡ (reader_of self.now).unread }
     {
         match self {
             Receiving::Open(half) => half.unread(),
             Receiving::Ended(half) => half.unread(),
-            Receiving::Dead(_) => &[],
+            Receiving::Dead(_) => (&[], &[]),
         }
     }
 

@@ -127,12 +127,12 @@ impl<K: Kind> ReceivingHalf<K> {
         count
     }
 
-    /// The first unread bytes, as they lie in the ring: some, if any is unread. None is taken out.
-    pub fn unread(&self) -> &[u8]
-        ensures first { result.now ≡ take (length result.now) self.now.unread }
-        ensures some { 0 < length self.now.unread → 0 < length result.now }
+    /// The unread bytes, as they lie in the ring: those up to the end of its block, and those that wrap round it. None is
+    /// taken out.
+    pub fn unread(&self) -> (&[u8], &[u8])
+        ensures all { result.0.now ++ result.1.now ≡ self.now.unread }
     {
-        self.unread.front()
+        self.unread.slices()
     }
 
     /// Drops the first `count` unread bytes, or as many as are there, as a read of them would take them out, and

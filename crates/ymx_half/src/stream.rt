@@ -249,11 +249,10 @@ impl StreamRec {
         self.reader.unread_len()
     }
 
-    /// The first unread bytes, as they lie in the stream's ring: some, if any is unread. None is taken out. Bytes
-    /// that wrap round the end of the ring come once those before them were consumed.
-    pub fn unread(&self) -> &[u8]
-        ensures first { result.now ≡ take (length result.now) self.now.reader.unread }
-        ensures some { 0 < length self.now.reader.unread → 0 < length result.now }
+    /// The unread bytes, as they lie in the stream's ring: those up to the end of its block, and those that wrap round it.
+    /// None is taken out.
+    pub fn unread(&self) -> (&[u8], &[u8])
+        ensures all { result.0.now ++ result.1.now ≡ self.now.reader.unread }
     {
         self.reader.unread()
     }

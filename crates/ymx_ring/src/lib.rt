@@ -157,18 +157,14 @@ impl Ring {
         warm.keep(self);
     }
 
-    /// Returns the first bytes, as they lie in the ring's block. None is taken out.
+    /// Returns all bytes, as they lie in the ring's block: those up to its end, and behind them those that wrap round
+    /// it. None is taken out.
     ///
-    /// They are a beginning of the ring's bytes, and there are some if there is any in the ring. Bytes that wrap
-    /// round the end of the block come once those before them were skipped.
-    ///
-    /// Example: `abc` for a ring that holds `abc`, none of which wraps.
-    pub fn front(&self) -> &[u8]
-        ensures first { result.now ≡ take (length result.now) self.now.items }
-        ensures some { 0 < length self.now.items → 0 < length result.now }
+    /// Example: `abc` and nothing for a ring that holds `abc`, none of which wraps.
+    pub fn slices(&self) -> (&[u8], &[u8])
+        ensures all { result.0.now ++ result.1.now ≡ self.now.items }
     {
-        let (first, wrapped) = self.bytes.as_slices();
-        if first.is_empty() { wrapped } else { first }
+        self.bytes.as_slices()
     }
 
     /// Drops the first `count` bytes, of which there have to be so many, and keeps those behind them. The ring

@@ -40,18 +40,18 @@ use Rattle.ymx_session.proofs.Frames.{straight-flows}
 -- ---- whose bytes go through
 
 -- a stream to which bytes may be written
-record HasRoom (id : ℕ) (s : Session) : Type 0 where
-  running : s.status ≡ Running
-  stream : End
-  there : look id s.table.entries ≡ Some stream
-  live : stream.phase ≡ Live
-  unfinished : stream.writer.finished ≡ false
-  room : room_of id s ≡ stream.writer.credit
+pub record HasRoom (id : ℕ) (s : Session) : Type 0 where
+  pub running : s.status ≡ Running
+  pub stream : End
+  pub there : look id s.table.entries ≡ Some stream
+  pub live : stream.phase ≡ Live
+  pub unfinished : stream.writer.finished ≡ false
+  pub room : room_of id s ≡ stream.writer.credit
 
 none-room : (n : ℕ) → n ≡ 0 → 0 < n → ⊥
 none-room n e h = absurd (omega arith)
 
-has-room : (id : ℕ) (s : Session) → 0 < room_of id s → HasRoom id s
+pub has-room : (id : ℕ) (s : Session) → 0 < room_of id s → HasRoom id s
 has-room id s h = of s.status refl
   where
     by-finished : s.status ≡ Running → (e : End) → look id s.table.entries ≡ Some e → e.phase ≡ Live → (b : Bool) → e.writer.finished ≡ b → HasRoom id s

@@ -84,14 +84,13 @@ impl State {
         Ok(Got::Wait)
     }
 
-    /// The first unread bytes, as they lie in the stream's ring.
-    pub(crate) fn unread(&self, id: u32) -> &[u8]
-        ensures first { result.now ≡ take (length result.now) (waiting id self.now) }
-        ensures some { 0 < length (waiting id self.now) → 0 < length result.now }
+    /// The unread bytes, as they lie in the stream's ring.
+    pub(crate) fn unread(&self, id: u32) -> (&[u8], &[u8])
+        ensures all { result.0.now ++ result.1.now ≡ waiting id self.now }
     {
         match self.stream(id) {
             Ok(stream) => stream.unread(),
-            Err(_) => &[],
+            Err(_) => (&[], &[]),
         }
     }
 
