@@ -1,11 +1,12 @@
 -- How a tunnel goes on: who is served, and whose turn comes.
-use Rattle.std.proofs.Common.{◌≡◌, ◌⊎◌, inl, inr, ◌++◌, ℕ, ◌+◌, ◌<◌, ◌≤◌, List, [], ◌∷◌, Bool, true, false, ◌||◌, Some, refl, sym, ap, ◌∙◌, subst, arith}
+use Rattle.std.proofs.Common.{◌≡◌, ◌⊎◌, inl, inr, ◌++◌, ℕ, ◌+◌, ◌<◌, ◌≤◌, List, [], ◌∷◌, Bool, true, false, ◌||◌, Some, length, refl, sym, ap, ◌∙◌, subst, arith, length-append}
 use Rattle.std.specs.Prelude.{nat_eq}
 use Rattle.std.specs.List.{list_all}
 use Rattle.std.proofs.lemmas.List.Folds.{list_all-append}
 use Rattle.ymx_machine.specs.shared.Events.{Reply}
 use Rattle.ymx_model.specs.session.Events.{Event}
 use Rattle.ymx_model.specs.session.Sessions.{is_running}
+use Rattle.ymx_engine.specs.Devices.{Seen}
 use Rattle.ymx_engine.specs.Exchanges.{has_bytes}
 use Rattle.ymx_engine.specs.Joins.{Leaves}
 use Rattle.ymx_engine.specs.Moves.{Moves}
@@ -187,6 +188,11 @@ reads_then a b c x m own wire over memory =
       moves = both.0;
       own = all_then is_of_reading x.moves.events m.events both.0.events both.3 x.own own;
       asks = λ fed may. by both.1 (x.asks fed may);
+      fills = λ fed may on near.
+          let whole = x.fills fed may (sym (same_may b c wire over) ∙ on) (ap (λ (s : Seen). s.marks.is_closing) (sym wire) ∙ near) in
+          let all = ap length both.1 in
+          let long = length-append x.moves.came m.came in
+          omega (arith, whole, all, long);
       memory = memory_then a.has_lacked_memory b.has_lacked_memory c.has_lacked_memory x.moves.events m.events both.0.events both.3 x.memory memory;
     }
   where

@@ -55,5 +55,8 @@ part_is done count xs h =
 pub part_length : (done count : ℕ) (xs : List ℕ) → done + count ≤ length xs → length (take (done + count - done) (drop done xs)) ≡ count
 part_length done count xs h = grind (arith, common_steps)
 
+pub rest_length : (count : ℕ) (xs : List ℕ) → count ≤ length xs → length (take (length xs - count) (drop count xs)) + count ≡ length xs
+rest_length count xs h = grind (arith, common_steps)
+
 pub rest_is : (count : ℕ) (xs : List ℕ) → take (length xs - count) (drop count xs) ≡ drop count xs
 rest_is count xs = grind (arith, common_steps)

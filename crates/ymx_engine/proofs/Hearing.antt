@@ -1,6 +1,5 @@
 -- What a device hears in a turn of its stream's end, and of writes.
-use Rattle.std.proofs.Common.{◌≡◌, inl, inr, ℕ, ◌<◌, length, List, [], Bool, true, false, not, ◌&&◌, refl, sym, ap, ◌∙◌, subst, arith, take, ◌∷◌}
-use Rattle.std.proofs.lemmas.Grind.{common_steps}
+use Rattle.std.proofs.Common.{◌≡◌, inl, inr, ℕ, ◌<◌, length, List, [], Bool, true, false, not, ◌&&◌, refl, sym, ap, ◌∙◌, subst}
 use Rattle.ymx_machine.specs.declared.types.Call.TheVariants as call
 use Rattle.ymx_machine.specs.shared.Events.{Reply}
 use Rattle.ymx_model.specs.declared.types.Event.TheVariants as event
@@ -40,13 +39,6 @@ heard_push id s t now m heard may gains = heard_wait id s t now heard (both m.ma
 -- where bytes waited and some were taken out, the stream takes some still
 pub took_goes : (id n : ℕ) (told : Reply) (s t : Session) → Gives in_turn s (event.Call (call.Read id n)) told t → 0 < length (waiting id s) → is_running s.status ≡ true → is_stopped id t ≡ false
 took_goes id n told s t g some runs = not_true (is_stopped id t) (λ h. never (is_stopped id s) (read_goes id n told s t g h) (waiting_goes id s some runs))
-
--- bytes that are the front of what waits
-pub waits_some : (bytes ring : List ℕ) → bytes ≡ take (length bytes) ring → 0 < length bytes → 0 < length ring
-waits_some bytes [] first some =
-    let z : length (take {A = ℕ} (length bytes) []) ≡ 0 = grind (arith, common_steps) in
-    absurd (omega (arith, ap length first, z, some))
-waits_some bytes (x ∷ ring) first some = omega arith
 
 -- a session that runs behind a read ran
 pub status_was : (id n : ℕ) (told : Reply) (s t : Session) → Gives in_turn s (event.Call (call.Read id n)) told t → is_running t.status ≡ true → is_running s.status ≡ true

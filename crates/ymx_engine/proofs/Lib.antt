@@ -26,6 +26,7 @@ pub mod Beside
 pub mod Feeding
 pub mod Filling
 pub mod Rows
+pub mod Rooms
 pub mod Running
 pub mod Attending
 pub mod Readings

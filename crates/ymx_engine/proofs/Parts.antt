@@ -1,9 +1,11 @@
 -- Parts of a turn: how they go on, and what one call is.
-use Rattle.std.proofs.Common.{◌≡◌, ◌⊎◌, inl, inr, ℕ, zero, suc, ◌+◌, ◌*◌, ◌≤◌, ◌<◌, List, [], ◌∷◌, ◌++◌, length, take, drop, Bool, true, false, ◌||◌, ◌&&◌, Option, refl, sym, ap, ◌∙◌, subst, arith, append-nil, take-append-drop, length-append}
+use Rattle.std.proofs.Common.{◌≡◌, ◌⊎◌, inl, inr, ℕ, zero, suc, ◌+◌, ◌*◌, ◌≤◌, ◌<◌, ◌==◌, List, [], ◌∷◌, ◌++◌, length, take, drop, Bool, true, false, ◌||◌, ◌&&◌, nat_le, Option, refl, sym, ap, ◌∙◌, subst, arith, append-nil, take-append-drop, length-append}
 use Rattle.std.specs.Prelude.{option_map, IfSome}
 use Rattle.std.specs.List.{list_all}
 use Rattle.std.specs.Io.KnownBytes.{Appends, Consumes}
 use Rattle.std.proofs.lemmas.Grind.{common_steps}
+use Rattle.std.proofs.lemmas.Bool.Decides.{nat_tests}
+use Rattle.std.proofs.lemmas.List.{length-take-le}
 use Rattle.std.proofs.lemmas.List.Folds.{list_all-append}
 use Rattle.ymx_model.specs.session.Events.{Event}
 use Rattle.ymx_model.specs.declared.types.Event.TheVariants as event
@@ -27,13 +29,13 @@ use Rattle.ymx_engine.specs.Devices.{Seen, Marks, may_have_more, may_take_more, 
 use Rattle.ymx_engine.specs.Events.{is_on, took_count, taken_at, taken, bytes_of, given_at, given, is_read_end, ends_at, has_end, finishes_at, has_finish, resets_at, has_reset, is_refusal, is_stop, stops_at, has_stop, is_memory_refusal, lacks_memory_at, lacks_memory}
 use Rattle.ymx_engine.specs.Exchanges.{has_bytes}
 use Rattle.ymx_engine.specs.Lives.{all_of}
-use Rattle.ymx_engine.specs.Serves.{is_of_turn, is_emission, is_silent, is_stopped, Exchanges, Turn, Part, Delivers, Sends, PutsDue}
+use Rattle.ymx_engine.specs.Serves.{is_of_turn, is_emission, is_silent, is_stopped, Exchanges, GivesWhole, Turn, Part, Delivers, Sends, PutsDue}
 use Rattle.ymx_engine.specs.Ways.{is_open, break_if, broken_off, ways_at, ways_after, may_push, may_pull}
 use Rattle.ymx_engine.specs.Wires.{emitted}
 use Rattle.ymx_engine.proofs.Quiet.{both, quiet}
 use Rattle.ymx_engine.proofs.Asking.{empty_never_lacks}
 use Rattle.ymx_engine.proofs.Coming.{IsCalm, turn_is_calm}
-use Rattle.ymx_engine.proofs.Exchanging.{happen_then, taken_then, given_then, end_then, finish_then, reset_then, stop_then, lacks_then, or_second, or_none, or_same, same_id, or_off, or_on, refused_goes, same_consumes, same_appends, at_end, still, none_pulled, none_pushed, take_both, end_granted, some_bytes}
+use Rattle.ymx_engine.proofs.Exchanging.{happen_then, taken_then, given_then, end_then, finish_then, reset_then, stop_then, lacks_then, or_second, or_none, or_same, same_id, or_off, or_on, refused_goes, same_consumes, same_appends, at_end, still, none_pulled, none_pushed, end_granted, some_bytes}
 use Rattle.ymx_engine.proofs.Hearing.{never}
 use Rattle.ymx_engine.proofs.Serving.{puts_then}
 use Rattle.ymx_engine.proofs.Steady.{steady_all, turn_steady}
@@ -260,18 +262,17 @@ part_calm {id} {s} {t} {out} {new} {a} {b} {w} {x} {m} {g} p within = turn_is_ca
 
 -- bytes that went to the device
 
-some_append : (xs ys : List ℕ) → (has_bytes xs ≡ true) ⊎ (has_bytes ys ≡ true) → has_bytes (xs ++ ys) ≡ true
-some_append (x ∷ xs) ys h = refl
-some_append [] ys (inl h) = cc
-some_append [] ys (inr h) = h
+long_append : (n : ℕ) (xs ys all : List ℕ) → all ≡ xs ++ ys → (n ≤ length xs) ⊎ (n ≤ length ys) → n ≤ length all
+long_append n xs ys all e (inl h) = omega (arith, ap length e, length-append xs ys, h)
+long_append n xs ys all e (inr h) = omega (arith, ap length e, length-append xs ys, h)
 
-pub went_first : {id : ℕ} {s t u : Session} {out mid new : List ℕ} {a b c : Seen} {w x y : Ways} {m n g h : ℕ} → (p : Part id s t out mid a b w x m g) → (q : Part id t u mid new b c x y n h) → has_bytes (given id p.moved.events) ≡ true → has_bytes (given id (part_then p q).moved.events) ≡ true
+pub went_first : {id : ℕ} {s t u : Session} {out mid new : List ℕ} {a b c : Seen} {w x y : Ways} {m n g h : ℕ} → (k : ℕ) → (p : Part id s t out mid a b w x m g) → (q : Part id t u mid new b c x y n h) → k ≤ length (given id p.moved.events) → k ≤ length (given id (part_then p q).moved.events)
 unfolding part_then exchanges_then
-went_first {id} p q some = ap has_bytes (given_then id p.moved.events q.moved.events) ∙ some_append (given id p.moved.events) (given id q.moved.events) (inl some)
+went_first {id} k p q some = long_append k (given id p.moved.events) (given id q.moved.events) _ (given_then id p.moved.events q.moved.events) (inl some)
 
-pub went_second : {id : ℕ} {s t u : Session} {out mid new : List ℕ} {a b c : Seen} {w x y : Ways} {m n g h : ℕ} → (p : Part id s t out mid a b w x m g) → (q : Part id t u mid new b c x y n h) → has_bytes (given id q.moved.events) ≡ true → has_bytes (given id (part_then p q).moved.events) ≡ true
+pub went_second : {id : ℕ} {s t u : Session} {out mid new : List ℕ} {a b c : Seen} {w x y : Ways} {m n g h : ℕ} → (k : ℕ) → (p : Part id s t out mid a b w x m g) → (q : Part id t u mid new b c x y n h) → k ≤ length (given id q.moved.events) → k ≤ length (given id (part_then p q).moved.events)
 unfolding part_then exchanges_then
-went_second {id} p q some = ap has_bytes (given_then id p.moved.events q.moved.events) ∙ some_append (given id p.moved.events) (given id q.moved.events) (inr some)
+went_second {id} k p q some = long_append k (given id p.moved.events) (given id q.moved.events) _ (given_then id p.moved.events q.moved.events) (inr some)
 
 -- ---- one call
 
@@ -353,27 +354,36 @@ pull_failed {id} {s} {t} {a} {b} {c} {w} {x} {buffer} told p g q e =
     shut_beside (call.Reset id) told true g i refl refl refl refl i i refl
     (none_pulled pulled.Failed buffer a b p refl) (same_appends a.had b.had p.had) (still false a.over b.over p.over refl) p.ended p.failed p.shut q e (let f = p.counted in let k = q.counted in omega arith)
 
+and_none : (b : Bool) → (b && false) ≡ false
+and_none true = refl
+and_none false = refl
+
+-- a device that was offered all that waits took all, or may take none now
+took_all : (w : Ways) (n offered waits went : ℕ) (a b : Marks) → b.may_push ≡ (a.may_push && nat_le offered n) → waits ≤ offered → n ≡ went → (waits ≤ went) ⊎ (may_push w b ≡ false)
+took_all w n offered waits went a b e fits same = by (nat_le offered n) refl
+  where
+    by : (all : Bool) → nat_le offered n ≡ all → (waits ≤ went) ⊎ (may_push w b ≡ false)
+    by true all = let le : offered ≤ n = grind (arith, nat_tests) in inl (omega (arith, le, fits, same))
+    by false few = inr (rw (e, few, and_none a.may_push) refl)
+
 -- bytes that waited were pushed, and are taken out
-pub pushed_some : {id : ℕ} {s t : Session} {a b : Seen} {w : Ways} {bytes : List ℕ} → (n : ℕ) (told : Reply) → IsPushed (pushed.Took n) bytes a b → bytes ≡ take (length bytes) (waiting id s) → 0 < length bytes →
+pub pushed_some : {id : ℕ} {s t : Session} {a b : Seen} {w : Ways} {bytes : List ℕ} → (n : ℕ) (told : Reply) → IsPushed (pushed.Took n) bytes a b → bytes ≡ waiting id s →
     Gives in_turn s (event.Call (call.Read id n)) told t → bytes_of told ≡ take n (waiting id s) → is_read_end told ≡ false → is_refusal told ≡ false → Delivers id s t a b w w 2
 unfolding part_one
-pushed_some {id} {s} {t} {a} {b} {w} {bytes} n told p first some g gave going granted =
+pushed_some {id} {s} {t} {a} {b} {w} {bytes} n told p all g gave going granted =
     let i = same_id id in
-    let same : take n bytes ≡ bytes_of told = ap (take n) first ∙ take_both n (length bytes) (waiting id s) p.within ∙ sym gave in
+    let same : take n bytes ≡ bytes_of told = ap (take n) all ∙ sym gave in
     let ends : ends_at id (event.Call (call.Read id n)) told ≡ false = rw (i, going) refl in
     let stops : stops_at id (event.Call (call.Read id n)) told ≡ false = rw (i, granted) refl in
     let marks = push_after a.marks b.marks (pushed.Took n) (length bytes) p.marks in
     let given_is : given_at id (event.Call (call.Read id n)) told ≡ take n bytes = rw i (sym same) in
-    let within : n ≤ length bytes = p.within in
-    let more : 0 < n = p.some refl some in
-    let long : 0 < length (take n bytes) = grind (arith, common_steps) in
     record {
       part = part_one (call.Read id n) told false g i refl
           (same_consumes a.left b.left p.left) (subst (Appends a.had b.had) (sym given_is) p.took) (λ h. cc)
           (p.over ∙ or_same a.over) (p.ended ∙ or_off _ a.ended ends) p.failed refl (p.shut ∙ or_off _ a.shut stops)
           (sym (ways_same id (event.Call (call.Read id n)) told w refl ends stops)) (let f = p.counted in omega arith)
           (only_same a.marks.may_pull b.marks.may_pull _ marks.0) (only_and a.marks.may_push _ b.marks.may_push _ marks.1);
-      delivers = λ may waits. inl (ap has_bytes (append-nil (given_at id (event.Call (call.Read id n)) told) ∙ given_is) ∙ some_bytes (take n bytes) long);
+      delivers = λ may. took_all w n (length bytes) (length (waiting id s)) _ a.marks b.marks marks.1 (omega (arith, ap length all)) (sym (length-take-le n bytes p.within) ∙ sym (ap length (append-nil (given_at id (event.Call (call.Read id n)) told) ∙ given_is)));
     }
 
 -- none were taken, and it may take none now
@@ -383,12 +393,8 @@ pushed_none {id} {s} {a} {b} {w} {bytes} p =
     record {
       part = part_none (same_consumes a.left b.left p.left) (none_pushed pushed.NotNow bytes a b p refl) p.over p.ended (still false a.failed b.failed p.failed refl) p.shut (let f = p.counted in omega arith)
           (only_same a.marks.may_pull b.marks.may_pull false marks.0) (only_and a.marks.may_push false b.marks.may_push false marks.1);
-      delivers = λ may some. inr (rw (marks.1 ∙ and_off a.marks.may_push) refl);
+      delivers = λ may. inr (rw (marks.1 ∙ and_none a.marks.may_push) refl);
     }
-  where
-    and_off : (b : Bool) → (b && false) ≡ false
-    and_off true = refl
-    and_off false = refl
 
 -- one that was shut takes none
 broken_push : (w x : Ways) (m : Marks) → x ≡ broken_off w → may_push x m ≡ false
@@ -402,7 +408,7 @@ broken_push w x m e = ap (λ (v : Ways). may_push v m) e ∙ by m.may_push w.fro
 
 -- it failed as bytes were pushed
 pub pushed_failed : {id : ℕ} {s t : Session} {a b c : Seen} {w x : Ways} {bytes : List ℕ} → (told : Reply) → IsPushed pushed.Failed bytes a b → Gives in_turn s (event.Call (call.Reset id)) told t → IsShut b c → x ≡ broken_off w → Delivers id s t a c w x 2
-pushed_failed {id} {s} {t} {a} {b} {c} {w} {x} {bytes} told p g q e = record { part = push_failed told p g q e; delivers = λ may some. inr (broken_push w x c.marks e) }
+pushed_failed {id} {s} {t} {a} {b} {c} {w} {x} {bytes} told p g q e = record { part = push_failed told p g q e; delivers = λ may. inr (broken_push w x c.marks e) }
 
 -- nothing came
 pub pulled_none : {id : ℕ} {s : Session} {a b : Seen} {w : Ways} {buffer : List ℕ} → IsPulled pulled.NotNow buffer a b → Part id s s [] [] a b w w 2 0
@@ -509,48 +515,44 @@ due_then {id} {s} {t} {u} {out} {mid} {new} {a} {b} {w} {x} {m} {g} due p =
 
 -- ---- one write after the other
 
--- a further one was made, and may be again
-pub delivers_more : {id : ℕ} {r s t : Session} {a b c : Seen} {w x y : Ways} → (k : ℕ) → (p : Part id r s [] [] a b w x (2 * k) 0) → (d : Delivers id s t b c x y 2) → may_push x b.marks ≡ true → 0 < length (waiting id s) → may_push y c.marks ≡ true →
-    (q : Part id r t [] [] a c w y (2 * (k + 1)) 0) × (0 < k + 1 → has_bytes (given id q.moved.events) ≡ true) × (k + 1 ≡ 0 → t ≡ r)
-unfolding part_within
-delivers_more {id} {r} {s} {t} {a} {b} {c} {w} {x} {y} k p d may some on =
-    let le : 2 * k + 2 ≤ 2 * (k + 1) = omega arith in
-    (part_within le (part_then p d.part), λ h. went_second p d.part (by (d.delivers may some)), λ h. absurd (omega (arith, h)))
-  where
-    by : (has_bytes (given id d.part.moved.events) ≡ true) ⊎ (may_push y c.marks ≡ false) → has_bytes (given id d.part.moved.events) ≡ true
-    by (inl went) = went
-    by (inr off) = let no : true ≡ false = sym on ∙ off in cc
-
--- none more can be made
-pub delivers_off : {id k : ℕ} {r s : Session} {a b : Seen} {w x : Ways} → k ≤ 8 → Part id r s [] [] a b w x k 0 → may_push x b.marks ≡ false → Delivers id r s a b w x 8
-delivers_off {id} {k} {r} {s} {a} {b} {w} {x} le p off = record { part = part_within le p; delivers = λ may some. inr off }
-
--- as many were made as may be
-pub delivers_all : {id k : ℕ} {r s : Session} {a b : Seen} {w x : Ways} → k ≤ 8 → (p : Part id r s [] [] a b w x k 0) → has_bytes (given id p.moved.events) ≡ true → Delivers id r s a b w x 8
-unfolding part_within
-delivers_all {id} {k} {r} {s} {a} {b} {w} {x} le p went = record { part = part_within le p; delivers = λ may some. inl went }
-
--- one more was made, and none may be behind it
-pub delivers_last : {id : ℕ} {r s t : Session} {a b c : Seen} {w x y : Ways} → (k : ℕ) → 2 * k + 2 ≤ 8 → (p : Part id r s [] [] a b w x (2 * k) 0) → (0 < k → has_bytes (given id p.moved.events) ≡ true) → (k ≡ 0 → s ≡ r) →
-    Delivers id s t b c x y 2 → may_push x b.marks ≡ true → Delivers id r t a c w y 8
-unfolding part_within
-delivers_last {id} {r} {s} {t} {a} {b} {c} {w} {x} {y} zero le p went same d may = record {
-  part = part_within le (part_then p d.part);
-  delivers = λ was some. by (d.delivers may (subst (λ (v : Session). 0 < length (waiting id v)) (sym (same refl)) some));
-}
-  where
-    by : (has_bytes (given id d.part.moved.events) ≡ true) ⊎ (may_push y c.marks ≡ false) → (has_bytes (given id (part_then p d.part).moved.events) ≡ true) ⊎ (may_push y c.marks ≡ false)
-    by (inl more) = inl (went_second p d.part more)
-    by (inr off) = inr off
-delivers_last {id} {r} {s} {t} {a} {b} {c} {w} {x} {y} (suc k) le p went same d may = record {
-  part = part_within le (part_then p d.part);
-  delivers = λ was some. inl (went_first p d.part (went (omega arith)));
-}
-
 -- the first one, or a further one
 pub first_or_more : {A : Type 0} → (k : ℕ) → (k ≡ 0 → A) → (0 < k → A) → A
 first_or_more zero f g = f refl
 first_or_more (suc k) f g = g (omega arith)
+
+-- a further one was made, and may be again
+pub delivers_more : {id : ℕ} {r s t : Session} {a b c : Seen} {w x y : Ways} → (k : ℕ) → (p : Part id r s [] [] a b w x (2 * k) 0) → (0 < k → length (waiting id r) ≤ length (given id p.moved.events)) → (k ≡ 0 → s ≡ r) → (d : Delivers id s t b c x y 2) → may_push x b.marks ≡ true → may_push y c.marks ≡ true →
+    (q : Part id r t [] [] a c w y (2 * (k + 1)) 0) × (0 < k + 1 → length (waiting id r) ≤ length (given id q.moved.events)) × (k + 1 ≡ 0 → t ≡ r)
+unfolding part_within
+delivers_more {id} {r} {s} {t} {a} {b} {c} {w} {x} {y} k p went same d may on =
+    let le : 2 * k + 2 ≤ 2 * (k + 1) = omega arith in
+    (part_within le (part_then p d.part), λ h. first_or_more k (λ z. went_second (length (waiting id r)) p d.part (by (same z) (d.delivers may))) (λ z. went_first (length (waiting id r)) p d.part (went z)), λ h. absurd (omega (arith, h)))
+  where
+    by : s ≡ r → (length (waiting id s) ≤ length (given id d.part.moved.events)) ⊎ (may_push y c.marks ≡ false) → length (waiting id r) ≤ length (given id d.part.moved.events)
+    by e (inl all) = let l = ap (λ (v : Session). length (waiting id v)) e in omega (arith, l, all)
+    by e (inr off) = let no : true ≡ false = sym on ∙ off in cc
+
+-- none more can be made
+pub delivers_off : {id k : ℕ} {r s : Session} {a b : Seen} {w x : Ways} → k ≤ 8 → Part id r s [] [] a b w x k 0 → may_push x b.marks ≡ false → Delivers id r s a b w x 8
+delivers_off {id} {k} {r} {s} {a} {b} {w} {x} le p off = record { part = part_within le p; delivers = λ may. inr off }
+
+-- as many were made as may be
+pub delivers_all : {id k : ℕ} {r s : Session} {a b : Seen} {w x : Ways} → k ≤ 8 → (p : Part id r s [] [] a b w x k 0) → length (waiting id r) ≤ length (given id p.moved.events) → Delivers id r s a b w x 8
+unfolding part_within
+delivers_all {id} {k} {r} {s} {a} {b} {w} {x} le p went = record { part = part_within le p; delivers = λ may. inl went }
+
+-- one more was made, and none may be behind it
+pub delivers_last : {id : ℕ} {r s t : Session} {a b c : Seen} {w x y : Ways} → (k : ℕ) → 2 * k + 2 ≤ 8 → (p : Part id r s [] [] a b w x (2 * k) 0) → (0 < k → length (waiting id r) ≤ length (given id p.moved.events)) → (k ≡ 0 → s ≡ r) →
+    Delivers id s t b c x y 2 → may_push x b.marks ≡ true → Delivers id r t a c w y 8
+unfolding part_within
+delivers_last {id} {r} {s} {t} {a} {b} {c} {w} {x} {y} k le p went same d may = record {
+  part = part_within le (part_then p d.part);
+  delivers = λ was. first_or_more k (λ z. by (same z) (d.delivers may)) (λ z. inl (went_first (length (waiting id r)) p d.part (went z)));
+}
+  where
+    by : s ≡ r → (length (waiting id s) ≤ length (given id d.part.moved.events)) ⊎ (may_push y c.marks ≡ false) → (length (waiting id r) ≤ length (given id (part_then p d.part).moved.events)) ⊎ (may_push y c.marks ≡ false)
+    by e (inl all) = let l = ap (λ (v : Session). length (waiting id v)) e in inl (went_second (length (waiting id r)) p d.part (omega (arith, l, all)))
+    by e (inr off) = inr off
 
 pub may_before : {a b : Seen} {w x : Ways} → x ≡ w → b ≡ a → may_push x b.marks ≡ true → may_push w a.marks ≡ true
 may_before {a} {b} {w} {x} e f on = ap (λ (v : Ways). may_push v a.marks) (sym e) ∙ ap (λ (v : Seen). may_push x v.marks) (sym f) ∙ on
@@ -577,11 +579,22 @@ broken_to w x e = ap (λ (v : Ways). is_open v.to_peer) e ∙ by w.to_peer
     by flow.Ended = refl
     by flow.Broken = refl
 
-pub none_first : {A : Type 0} (bytes ring : List ℕ) → bytes ≡ take (length bytes) ring → ring ≡ [] → 0 < length bytes → A
-none_first bytes ring first none some =
-    let e : bytes ≡ take {A = ℕ} (length bytes) [] = first ∙ ap (take (length bytes)) none in
-    let z : length (take {A = ℕ} (length bytes) []) ≡ 0 = grind (arith, common_steps) in
-    absurd (omega (arith, ap length e, z))
+no_byte : (xs : List ℕ) → (length xs == 0) ≡ true → length xs ≡ 0
+no_byte xs h = grind (arith, nat_tests)
+
+a_byte : (xs : List ℕ) → (length xs == 0) ≡ false → 0 < length xs
+a_byte xs h = grind (arith, nat_tests)
+
+-- two pieces of which neither has a byte
+pub none_of_two : (xs ys all : List ℕ) → xs ++ ys ≡ all → (length xs == 0) ≡ true → (length ys == 0) ≡ true → all ≡ []
+none_of_two [] [] all e h k = sym e
+none_of_two [] (y ∷ ys) all e h k = let n = no_byte (y ∷ ys) k in absurd (omega (arith, n))
+none_of_two (x ∷ xs) ys all e h k = let n = no_byte (x ∷ xs) h in absurd (omega (arith, n))
+
+-- two pieces of which one has
+pub some_of_two : (xs ys all : List ℕ) → xs ++ ys ≡ all → ((length xs == 0) ≡ false) ⊎ ((length ys == 0) ≡ false) → 0 < length all
+some_of_two xs ys all e (inl h) = let n = a_byte xs h in omega (arith, n, ap length e, length-append xs ys)
+some_of_two xs ys all e (inr h) = let n = a_byte ys h in omega (arith, n, ap length e, length-append xs ys)
 
 pub waits_not : {A : Type 0} (ring : List ℕ) → ring ≡ [] → 0 < length ring → A
 waits_not ring none some = absurd (omega (arith, ap length none))
@@ -632,12 +645,12 @@ pub turn_of : {id g : ℕ} {reads : Bool} {r s t u : Session} {out new : List �
     (reads ≡ true → may_pull y c.marks ≡ true → (0 < g) ⊎ ((may_pull z d.marks ≡ false) ⊎ (room_of id u ≡ 0))) →
     (reads ≡ true → may_pull z d.marks ≡ true → 0 < room_of id u → pulls ≡ true) →
     (pushes ≡ true → may_push z d.marks ≡ true → more ≡ true) → (pulls ≡ true → more ≡ true) → (is_running u.status ≡ false → is_open z.to_peer ≡ true → more ≡ true) →
-    (reads ≡ false → g ≡ 0) → TellsEnd id s t u b x z pushes → TellsStop id s t u b x y z →
+    (reads ≡ false → g ≡ 0) → (reads ≡ true → GivesWhole g (room_of id u) z d.marks) → TellsEnd id s t u b x z pushes → TellsStop id s t u b x y z →
     (pushes ≡ true → (may_push w a.marks ≡ true) × (0 < length (waiting id r)) × (may_push x b.marks ≡ true)) →
     (more ≡ true → ((pushes ≡ true) × (may_push z d.marks ≡ true)) ⊎ (((may_pull z d.marks ≡ true) × (0 < g)) ⊎ ((is_running u.status ≡ false) × (is_open z.to_peer ≡ true)))) →
     Turn id reads r u out new a d w z more g
 unfolding part_beside
-turn_of {id} {g} {reads} {r} {s} {t} {u} {out} {new} {a} {b} {c} {d} {w} {x} {y} {z} pushes pulls more p q same v stays collects asks_on by-pushes by-pulls hears unread tells stops went rests =
+turn_of {id} {g} {reads} {r} {s} {t} {u} {out} {new} {a} {b} {c} {d} {w} {x} {y} {z} pushes pulls more p q same v stays collects asks_on by-pushes by-pulls hears unread fills tells stops went rests =
     let first = part_beside out (part_then p.part q) in
     let all = part_then first v in
     let silent : may_push z d.marks ≡ true → is_silent id u ≡ true → pushes ≡ true = λ may h.
@@ -649,10 +662,11 @@ turn_of {id} {g} {reads} {r} {s} {t} {u} {out} {new} {a} {b} {c} {d} {w} {x} {y}
       ways = all.ways;
       gives = let e = all.gives in omega arith;
       unread = unread;
-      delivers = λ may some. elim (p.delivers may some) [
-        | inl went ↦ inl (went_first first v (went_first p.part q went))
+      delivers = λ may. elim (p.delivers may) [
+        | inl all ↦ inl (went_first (length (waiting id r)) first v (went_first (length (waiting id r)) p.part q all))
         | inr off ↦ inr (push_off v (push_off q off))
       ];
+      fills = fills;
       collects = λ on may. by (may_pull y c.marks) refl (collects on);
       pull_on = all.pull_on;
       push_on = all.push_on;
@@ -666,7 +680,13 @@ turn_of {id} {g} {reads} {r} {s} {t} {u} {out} {new} {a} {b} {c} {d} {w} {x} {y}
       ends_on = λ may h. by-pushes (silent may h) may;
       stops_on = λ open_ h. by-status (is_running u.status) refl open_ h;
       rests = λ h. elim (rests h) [
-        | inl x ↦ let k = went x.0 in inl (x.1, elim (p.delivers k.0 k.1) [ inl gone ↦ went_first first v (went_first p.part q gone) | inr off ↦ absurd (let may = k.2 in cc) ])
+        | inl x ↦ let k = went x.0 in inl (
+          x.1,
+          elim (p.delivers k.0) [
+            | inl all ↦ some_bytes (given id (part_then first v).moved.events) (let long = went_first (length (waiting id r)) first v (went_first (length (waiting id r)) p.part q all) in omega (arith, long, k.1))
+            | inr off ↦ absurd (let may = k.2 in cc)
+          ],
+        )
         | inr x ↦ inr x
       ];
     }

@@ -1,5 +1,5 @@
 -- What a tunnel does with what its wire gives.
-use Rattle.std.proofs.Common.{◌≡◌, ◌⊎◌, inl, inr, ℕ, ◌<◌, List, [], ◌∷◌, length, take, drop, Bool, true, false, not, ◌||◌, ◌&&◌, Option, None, Some, refl, sym, ap, ◌∙◌, subst, cond, arith}
+use Rattle.std.proofs.Common.{◌≡◌, ◌⊎◌, inl, inr, ℕ, ◌<◌, ◌≤◌, List, [], ◌∷◌, length, take, drop, Bool, true, false, not, ◌||◌, ◌&&◌, Option, None, Some, refl, sym, ap, ◌∙◌, subst, cond, arith}
 use Rattle.std.specs.Prelude.{nat_eq, nat_lt, IsSome, is_some, Contains, option_map}
 use Rattle.std.specs.Option.{option_map_or}
 use Rattle.std.specs.List.{list_all}
@@ -20,7 +20,7 @@ use Rattle.ymx_session.specs.Touched.{Noted, is_noted, NotesChanges}
 use Rattle.ymx_engine.specs.declared.device.Pulled.{Pulled}
 use Rattle.ymx_engine.specs.declared.device.Pulled.TheVariants as pulled
 use Rattle.ymx_engine.specs.declared.ways.Ways.{Ways}
-use Rattle.ymx_engine.specs.Devices.{Seen, Marks, IsPulled, pulled_count, gives, is_end, is_pull_failure}
+use Rattle.ymx_engine.specs.Devices.{Seen, Marks, IsPulled, pulled_count, gives, is_end, is_pull_failure, one_read}
 use Rattle.ymx_engine.specs.Engines.{Engine, KeepsWire}
 use Rattle.ymx_engine.specs.Events.{has_stop}
 use Rattle.ymx_engine.specs.Exchanges.{has_bytes}
@@ -38,6 +38,7 @@ use Rattle.ymx_engine.proofs.Attending.{attends_on, runs_on}
 use Rattle.ymx_engine.proofs.Carrying.{pulled_so, handles_none_so, loses_in_so, memory_same}
 use Rattle.ymx_engine.proofs.Coming.{happen_within}
 use Rattle.ymx_engine.proofs.Entries.{eq_ids, some_is}
+use Rattle.ymx_engine.proofs.Filling.{filled_room}
 use Rattle.ymx_engine.proofs.Queueing.{adds_behind_same, line_put_there, puts_then_same, extends_same, extends_added, keeps_then, others_put}
 use Rattle.ymx_engine.proofs.Listing.{reads_reading}
 use Rattle.ymx_engine.proofs.Quiet.{both}
@@ -97,18 +98,26 @@ some_given r buffer d e x room given =
     let all : length (take (pulled_count r) buffer) ≡ pulled_count r = length-take-le (pulled_count r) buffer x.within in
     some_there (take (pulled_count r) buffer) (omega arith)
 
+-- one that may have more still gave a whole read, unless its end is near
+whole_given : (r : Pulled) (buffer : List ℕ) (a b : Tunnel) → IsPulled r buffer a.wire b.wire → one_read ≤ length buffer → may_have_bytes b ≡ true → b.wire.marks.is_closing ≡ false → one_read ≤ length (take (pulled_count r) buffer)
+whole_given r buffer a b x room may near =
+    let on : b.wire.marks.may_pull ≡ true = (both b.wire.marks.may_pull (not b.is_wire_over) may).0 in
+    let all = filled_room r buffer a.wire b.wire x on near in
+    let l : length (take (pulled_count r) buffer) ≡ pulled_count r = length-take-le (pulled_count r) buffer x.within in
+    omega (arith, all, l, room)
+
 -- the wire was called for bytes, and what it said was heard
-reads_pulled : (r : Pulled) (buffer : List ℕ) (a m b : Tunnel) → a.engine.incoming ≡ [] → IsPulled r buffer a.wire m.wire → 0 < length buffer → m.engine.session ≡ a.engine.session → m.engine.outgoing ≡ a.engine.outgoing →
+reads_pulled : (r : Pulled) (buffer : List ℕ) (a m b : Tunnel) → a.engine.incoming ≡ [] → IsPulled r buffer a.wire m.wire → one_read ≤ length buffer → m.engine.session ≡ a.engine.session → m.engine.outgoing ≡ a.engine.outgoing →
     m.engine.incoming ≡ take (pulled_count r) buffer → (h : HandlesIn (is_end r || is_pull_failure r) m.engine b.engine) × (has_starved h.events ≡ false) → b.has_lacked_memory ≡ a.has_lacked_memory → b.wire ≡ m.wire → SameSeen a b → (gives r ≡ false → may_have_bytes b ≡ false) → Reads a b
 reads_pulled r buffer a m b none x room session outgoing incoming heard memory wire same off =
     let y : IsPulled r buffer a.wire b.wire = subst (IsPulled r buffer a.wire) (sym wire) x in
     let t : TakesIn r a.engine m.engine a.wire b.wire = record { buffer = buffer; pulled = y; incoming = incoming; outgoing = outgoing; session = session } in
     let moved = pulled_so r a.engine m.engine b.engine a.wire b.wire none t heard.0 in
     let moves = moves_read_so a b 1 moved.0 same in
-    record { moves = moves.0; own = ap (list_all (λ (e : Event × Reply). is_of_reading e.0)) moves.2 ∙ reads_reading (moved.0).events (moved.0).own; asks = λ fed may. by (moves.0).came (moves.1 ∙ moved.1) (gives r) refl; memory = memory_same a.has_lacked_memory b.has_lacked_memory (moves.0).events memory (ap has_starved (moves.2 ∙ moved.2) ∙ heard.1) }
+    record { moves = moves.0; own = ap (list_all (λ (e : Event × Reply). is_of_reading e.0)) moves.2 ∙ reads_reading (moved.0).events (moved.0).own; asks = λ fed may. by (moves.0).came (moves.1 ∙ moved.1) (gives r) refl; fills = λ fed may on near. let whole = whole_given r buffer a b y room on near in let came = ap length (moves.1 ∙ moved.1) in omega (arith, whole, came); memory = memory_same a.has_lacked_memory b.has_lacked_memory (moves.0).events memory (ap has_starved (moves.2 ∙ moved.2) ∙ heard.1) }
   where
     by : (came : List ℕ) → came ≡ take (pulled_count r) buffer → (g : Bool) → gives r ≡ g → (has_bytes came ≡ true) ⊎ (may_have_bytes b ≡ false)
-    by came is true g = inl (ap has_bytes is ∙ some_given r buffer a.wire m.wire x room g)
+    by came is true g = inl (ap has_bytes is ∙ some_given r buffer a.wire m.wire x (omega (arith, room)) g)
     by came is false g = inr (off g)
 
 and_off : (x : Bool) → (x && false) ≡ false
@@ -148,14 +157,14 @@ rests_pulled r buffer a b x same = record {
 }
 
 -- it gave some, or has none yet
-pub reads_gave : (r : Pulled) (buffer : List ℕ) (a b : Tunnel) → a.engine.incoming ≡ [] → IsPulled r buffer a.wire b.wire → 0 < length buffer → b.engine.session ≡ a.engine.session → b.engine.outgoing ≡ a.engine.outgoing →
+pub reads_gave : (r : Pulled) (buffer : List ℕ) (a b : Tunnel) → a.engine.incoming ≡ [] → IsPulled r buffer a.wire b.wire → one_read ≤ length buffer → b.engine.session ≡ a.engine.session → b.engine.outgoing ≡ a.engine.outgoing →
     b.engine.incoming ≡ take (pulled_count r) buffer → ((n : ℕ) × (r ≡ pulled.Gave n)) ⊎ (r ≡ pulled.NotNow) → b.lines ≡ a.lines → b.has_lacked_memory ≡ a.has_lacked_memory → Reads a b × Runs a b
 reads_gave r buffer a b none x room session outgoing incoming is lines memory =
     runs_gave a b (reads_pulled r buffer a b b none x room session outgoing incoming (subst (λ (v : Bool). (h : HandlesIn v b.engine b.engine) × (has_starved h.events ≡ false)) (sym (goes_on r is)) (handles_none_so b.engine)) memory refl
     (λ id. ap (λ (v : Lines). option_map (λ (l : Line). l.seen) (line_of id v)) lines) (λ h. none_to_read b (pulled_off r buffer a.wire b.wire x h))) session lines
 
 -- it ended or failed, and the session heard of it
-pub reads_lost : (r : Pulled) (buffer : List ℕ) (a m b : Tunnel) → a.engine.incoming ≡ [] → IsPulled r buffer a.wire m.wire → 0 < length buffer → m.engine.session ≡ a.engine.session → m.engine.outgoing ≡ a.engine.outgoing →
+pub reads_lost : (r : Pulled) (buffer : List ℕ) (a m b : Tunnel) → a.engine.incoming ≡ [] → IsPulled r buffer a.wire m.wire → one_read ≤ length buffer → m.engine.session ≡ a.engine.session → m.engine.outgoing ≡ a.engine.outgoing →
     m.engine.incoming ≡ take (pulled_count r) buffer → (r ≡ pulled.Ended) ⊎ (r ≡ pulled.Failed) → m.lines ≡ a.lines → b.wire ≡ m.wire → b.is_wire_over ≡ true → Gives in_turn m.engine.session event.FeedEnd reply.Done b.engine.session → KeepsWire m.engine b.engine →
     KeepsLines m.lines b.lines → (Serving m → Serving b) → b.has_lacked_memory ≡ a.has_lacked_memory → Reads a b × (Runs a b × Rests a b)
 reads_lost r buffer a m b none x room session outgoing incoming is lines wire over g keeps later serves memory =
@@ -171,7 +180,7 @@ pub reads_none : (a : Tunnel) → (a.engine.incoming ≡ [] → may_have_bytes a
 reads_none a h =
     let none = handles_none_so a.engine in
     let moved = moves_handled a a none.0 refl (λ id. refl) in
-    record { moves = moved.0; own = moved.1; asks = λ fed may. absurd (h fed may); memory = memory_same a.has_lacked_memory a.has_lacked_memory (moved.0).events refl (ap has_starved moved.2 ∙ none.1) }
+    record { moves = moved.0; own = moved.1; asks = λ fed may. absurd (h fed may); fills = λ fed may on near. absurd (h fed may); memory = memory_same a.has_lacked_memory a.has_lacked_memory (moved.0).events refl (ap has_starved moved.2 ∙ none.1) }
 
 pub reads_from : (a b c : Tunnel) → a ≡ b → Reads a c → Reads b c
 reads_from a b c e x = subst (λ (v : Tunnel). Reads v c) e x

@@ -3,6 +3,7 @@ use Rattle.std.specs.Prelude.{ℕ, ◌≡◌, ◌⊎◌, ◌+◌, ◌≤◌, ◌
 use Rattle.std.specs.List.{list_all}
 use Rattle.ymx_model.specs.session.Sessions.{is_running}
 use Rattle.ymx_model.specs.session.Emissions.{is_ready}
+use Rattle.ymx_engine.specs.Devices.{one_read}
 use Rattle.ymx_engine.specs.Engines.{Engine}
 use Rattle.ymx_engine.specs.Exchanges.{has_bytes}
 use Rattle.ymx_engine.specs.Joins.{Leaves}
@@ -48,12 +49,13 @@ takes_more t = t.is_wire_over || (length t.engine.outgoing == 0) || t.wire.marks
 -- ---- one step
 
 -- The wire was read, and nothing else happened: what it gave was fed, or went to the devices of its streams, of which one that failed
--- had its stream reset. Where nothing waited to be fed and the wire might have bytes, some came, or it may have none now. It has
--- lacked memory where it had, or where a feed did now.
+-- had its stream reset. Where nothing waited to be fed and the wire might have bytes, some came, or it may have none now; and where it
+-- may have more still, a whole read came, unless its end is near. It has lacked memory where it had, or where a feed did now.
 pub record Reads (old new : Tunnel) : Type 0 where
   pub moves : Moves old new
   pub own : list_all (λ e. is_of_reading e.0) moves.events ≡ true
   pub asks : old.engine.incoming ≡ [] → may_have_bytes old ≡ true → (has_bytes moves.came ≡ true) ⊎ (may_have_bytes new ≡ false)
+  pub fills : old.engine.incoming ≡ [] → may_have_bytes old ≡ true → may_have_bytes new ≡ true → new.wire.marks.is_closing ≡ false → one_read ≤ length moves.came
   pub memory : new.has_lacked_memory ≡ (old.has_lacked_memory || has_starved moves.events)
 
 -- What was due was written to the wire, and nothing else happened. Where it might take bytes and some waited or were due, it took

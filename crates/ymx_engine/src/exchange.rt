@@ -1,6 +1,6 @@
 //! What moves between a stream and its device in one turn.
 
-ghost use Rattle.std.specs.Prelude.{◌≡◌, ◌⊎◌, ◌<◌, ◌≤◌, ◌&&◌, not, [], length, min, true, false};
+ghost use Rattle.std.specs.Prelude.{◌≡◌, ◌⊎◌, ◌<◌, ◌≤◌, ◌++◌, ◌&&◌, not, [], length, true, false};
 ghost use Rattle.ymx_model.specs.declared.types.Event.TheVariants as event;
 ghost use Rattle.ymx_model.specs.session.Sessions.{is_running};
 ghost use Rattle.ymx_machine.specs.declared.types.Call.TheVariants as call;
@@ -8,9 +8,9 @@ ghost use Rattle.ymx_machine.specs.shared.Events.{Reply};
 ghost use Rattle.ymx_model.specs.session.Emissions.{in_turn};
 ghost use Rattle.ymx_model.specs.session.Histories.{Gives};
 ghost use Rattle.ymx_session.specs.Streams.{waiting, room_of};
-ghost use Rattle.ymx_engine.specs.Devices.{IsShut, one_read};
+ghost use Rattle.ymx_engine.specs.Devices.{IsPushed, IsShut, one_read};
 ghost use Rattle.ymx_engine.specs.Served.{GainsNone};
-ghost use Rattle.ymx_engine.specs.Serves.{Turn, Part, Delivers, HearsEnd, HearsStop, is_silent, is_stopped};
+ghost use Rattle.ymx_engine.specs.Serves.{Turn, Part, Delivers, GivesWhole, HearsEnd, HearsStop, is_silent, is_stopped};
 ghost use Rattle.ymx_engine.specs.Ways.{is_open, may_push, may_pull, broken_off};
 
 use crate::block::Block;
@@ -19,6 +19,7 @@ use crate::calls::{Unreadable, ask, finish, is_stopped, reset, take_out};
 use crate::device::{Device, Pulled, Pushed};
 use crate::sending::{put_due, send};
 use crate::ways::{Flow, Ways};
+use std::io::IoSlice;
 use ymx_model::Status;
 use ymx_session::Session;
 
@@ -73,7 +74,7 @@ fn is_untold(session: &Session, ways: &Ways) -> bool
     !matches!(session.status(), Status::Running) && ways.to_peer.is_open()
 }
 
-/// At most four writes to the device, out of the stream's ring. Whether more may be written at once.
+/// At most four writes to the device, each with all that waits of the stream. Whether more may be written at once.
 fn deliver<D: Device>(session: &mut Session, id: u32, ways: &mut Ways, device: &mut D) -> bool
     ensures delivered { Delivers id session.old session.new (D.seen device.old) (D.seen device.new) ways.old ways.new 8 }
     ensures goes_on { result ≡ true → may_push ways.new (D.seen device.new).marks ≡ true }
@@ -98,7 +99,7 @@ fn deliver<D: Device>(session: &mut Session, id: u32, ways: &mut Ways, device: &
     true
 }
 
-/// Writes to the device once. Whether more may be written.
+/// Writes to the device once, all that waits. Whether more may be written.
 fn push_once<D: Device>(session: &mut Session, id: u32, ways: &mut Ways, device: &mut D) -> bool
     requires { may_push ways.old (D.seen device.old).marks ≡ true }
     ensures delivered { Delivers id session.old session.new (D.seen device.old) (D.seen device.new) ways.old ways.new 2 }
@@ -109,12 +110,12 @@ fn push_once<D: Device>(session: &mut Session, id: u32, ways: &mut Ways, device:
     ensures ends { may_push ways.new (D.seen device.new).marks ≡ true → is_silent id session.new ≡ true → result ≡ true }
     ensures takes { may_push ways.new (D.seen device.new).marks ≡ true → is_running session.new.status ≡ true → is_stopped id session.new ≡ false }
 {
-    let bytes = session.unread(id);
-    if bytes.is_empty() {
+    let (first, wrapped) = session.unread_slices(id);
+    if first.is_empty() && wrapped.is_empty() {
         hear_silence(session, id, ways, device);
         return false;
     }
-    match device.push(bytes) {
+    match push_all(device, first, wrapped) {
         Pushed::Took(count) => {
             take_out(session, id, count);
             ways.may_push(device)
@@ -125,6 +126,16 @@ fn push_once<D: Device>(session: &mut Session, id: u32, ways: &mut Ways, device:
             false
         }
     }
+}
+
+/// Offers the device all of these bytes, which lie in two pieces, in one call.
+fn push_all<D: Device>(device: &mut D, first: &[u8], wrapped: &[u8]) -> Pushed
+    ensures { IsPushed result (first.now ++ wrapped.now) (D.seen device.old) (D.seen device.new) }
+{
+    if wrapped.is_empty() {
+        return device.push(first);
+    }
+    device.push_pieces(&[IoSlice::new(first), IoSlice::new(wrapped)])
 }
 
 /// Nothing waits to be written: the device is ended at the stream's end, and shut where the stream is no more.
@@ -202,6 +213,7 @@ fn collect<D: Device>(
     requires room { one_read ≤ length buffer.old }
     ensures part { Part id session.old session.new outgoing.old outgoing.new (D.seen device.old) (D.seen device.new) ways.old ways.new 4 result.gave }
     ensures collects { reads ≡ true → may_pull ways.old (D.seen device.old).marks ≡ true → (0 < result.gave) ⊎ ((may_pull ways.new (D.seen device.new).marks ≡ false) ⊎ (room_of id session.new ≡ 0)) }
+    ensures fills { reads ≡ true → GivesWhole result.gave (room_of id session.new) ways.new (D.seen device.new).marks }
     ensures goes_on { result.more ≡ true → may_pull ways.new (D.seen device.new).marks ≡ true }
     ensures gains { result.more ≡ true → 0 < result.gave }
     ensures asks_on { reads ≡ true → may_pull ways.new (D.seen device.new).marks ≡ true → 0 < room_of id session.new → result.more ≡ true }
@@ -237,6 +249,7 @@ fn pull_once<D: Device>(
     requires room { one_read ≤ length buffer.old }
     requires open { is_open ways.old.to_peer ≡ true }
     ensures part { Part id session.old session.new outgoing.old outgoing.new (D.seen device.old) (D.seen device.new) ways.old ways.new 2 result.gave }
+    ensures fills { GivesWhole result.gave (room_of id session.new) ways.new (D.seen device.new).marks }
     ensures bounded { result.gave ≤ one_read }
     ensures collects { (0 < result.gave) ⊎ ((may_pull ways.new (D.seen device.new).marks ≡ false) ⊎ (room_of id session.new ≡ 0)) }
     ensures goes_on { result.more ≡ true → 0 < result.gave }
@@ -261,8 +274,8 @@ fn fill<D: Device>(
     requires room { one_read ≤ length buffer.old }
     requires open { is_open ways.old.to_peer ≡ true }
     ensures part { Part id session.old session.new outgoing.old outgoing.new (D.seen device.old) (D.seen device.new) ways.old ways.new 2 result.gave }
-    // It is given room for so many, and gives them all, unless it may have none now, or its end is near.
-    ensures fills { may_pull ways.new (D.seen device.new).marks ≡ true → (D.seen device.old).marks.is_closing ≡ false → min (room_of id session.old) one_read ≤ result.gave }
+    // It is given room for 131,072 bytes, or as many as the stream takes.
+    ensures fills { GivesWhole result.gave (room_of id session.new) ways.new (D.seen device.new).marks }
     ensures bounded { result.gave ≤ one_read }
     ensures collects { (0 < result.gave) ⊎ ((may_pull ways.new (D.seen device.new).marks ≡ false) ⊎ (room_of id session.new ≡ 0)) }
     ensures goes_on { result.more ≡ true → 0 < result.gave }

@@ -40,6 +40,8 @@ pub(crate) fn send(session: &mut Session, id: u32, bytes: &[u8], outgoing: &mut 
     requires some { 0 < length bytes.now }
     requires fits { length bytes.now ≤ room_of id session.old }
     ensures took { result ≡ true → Sends id bytes.now session.old session.new outgoing.old outgoing.new }
+    // There is room for so much less.
+    ensures left { result ≡ true → room_of id session.new + length bytes.now ≡ room_of id session.old }
     ensures refused { result ≡ false → (count : ℕ) × (between : SessionValue) × (told : Reply) × Sends id (take count bytes.now) session.old between outgoing.old outgoing.new × Gives in_turn between (event.Call (call.Write id (drop count bytes.now))) told session.new × (took_count told ≡ 0) × (is_memory_refusal told ≡ true) × (0 < length (drop count bytes.now)) }
 {
     let count = send_through(session, id, bytes, outgoing);

@@ -14,7 +14,7 @@ push-preserved g c =
     let on = e.goes_on c.if-not-push_once.false in
     let some = e.some c.if-not-push_once.false in
     let may = sym c.may_push.ensures ∙ c.if-not-may_push.false in
-    let more = delivers_more c.push.turn i.0 e.delivered may some on in
+    let more = delivers_more c.push.turn i.0 i.1 (λ z. (i.2 z).0) e.delivered may on in
     (more.0, more.1, λ h. absurd (omega (arith, h)), λ h. on, λ h. first_or_more c.push.turn (λ z. subst (λ (v : Session). 0 < length (waiting c.args.id v)) (i.2 z).0 some) i.4, λ h. first_or_more c.push.turn (λ z. may_before (i.2 z).1 (i.2 z).2 may) i.5, λ h runs. e.takes on runs)
 
 pub returns-then-not-may_push-clause-delivered : goal.returns-then-not-may_push-clause-delivered

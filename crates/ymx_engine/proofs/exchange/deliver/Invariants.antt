@@ -1,8 +1,7 @@
-use Rattle.std.proofs.Common.{◌≡◌, ◌<◌, ◌*◌, [], length, true, false}
+use Rattle.std.proofs.Common.{◌≡◌, ◌<◌, ◌≤◌, ◌*◌, [], length, true, false}
 use Rattle.ymx_model.specs.session.Sessions.{is_running}
 use Rattle.ymx_session.specs.Streams.{waiting}
 use Rattle.ymx_engine.specs.Events.{given}
-use Rattle.ymx_engine.specs.Exchanges.{has_bytes}
 use Rattle.ymx_engine.specs.Serves.{Part, is_stopped}
 use Rattle.ymx_engine.specs.Ways.{may_push}
 use Rattle.ymx_engine.proofs.exchange.deliver.Given as goal
@@ -10,7 +9,7 @@ use Rattle.ymx_engine.proofs.exchange.deliver.Given as goal
 abbrev pub invariant-push : goal.invariant-push
 invariant-push g l =
     (part : Part l.id l.initial.session l.session [] [] (g.D.Device.seen l.initial.device) (g.D.Device.seen l.device) l.initial.ways l.ways (2 * l.turn) 0)
-    × (0 < l.turn → has_bytes (given l.id part.moved.events) ≡ true)
+    × (0 < l.turn → length (waiting l.id l.initial.session) ≤ length (given l.id part.moved.events))
     × (l.turn ≡ 0 → (l.session ≡ l.initial.session) × (l.ways ≡ l.initial.ways) × (g.D.Device.seen l.device ≡ g.D.Device.seen l.initial.device))
     × (0 < l.turn → may_push l.ways (g.D.Device.seen l.device).marks ≡ true)
     × (0 < l.turn → 0 < length (waiting l.id l.initial.session))

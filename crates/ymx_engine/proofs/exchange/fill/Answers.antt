@@ -1,8 +1,10 @@
-use Rattle.std.proofs.Common.{arith}
+use Rattle.std.proofs.Common.{min, arith}
 use Rattle.std.proofs.lemmas.Grind.{common_steps}
+use Rattle.ymx_session.specs.Streams.{room_of}
+use Rattle.ymx_engine.specs.Devices.{one_read}
 use Rattle.ymx_engine.proofs.Parts.{part_within, part_beside, pulled_none, pull_failed, finished, gave_sent, gave_lost, broken_from, broken_to}
 use Rattle.ymx_engine.proofs.Ending.{finish_gives}
-use Rattle.ymx_engine.proofs.Filling.{filled}
+use Rattle.ymx_engine.proofs.Filling.{filled, filled_whole}
 use Rattle.ymx_engine.proofs.Gaining.{gains_still}
 use Rattle.ymx_engine.proofs.Hearing.{never, sends_end}
 use Rattle.ymx_engine.proofs.exchange.fill.Goals as goal
@@ -61,4 +63,8 @@ pub returns-in-Failed-clause-stops : goal.returns-in-Failed-clause-stops
 returns-in-Failed-clause-stops g c = λ open_. absurd (never _ open_ (broken_to _ _ c.reset_and_shut-in-Failed.ensures.broken))
 
 pub returns-then-send-clause-fills : goal.returns-then-send-clause-fills
-returns-then-send-clause-fills g c = λ may far. filled c.args.ways.now c.in-Gave.count _ _ _ _ c.in-Gave.ensures may far (grind (arith, common_steps))
+returns-then-send-clause-fills g c = λ may near some.
+    let p = c.in-Gave.ensures in
+    let all = filled c.args.ways.now c.in-Gave.count (min (room_of c.args.id c.args.session.now) one_read) _ _ _ p may near (grind (arith, common_steps)) in
+    let left = c.send.ensures.left c.if-send.true in
+    filled_whole (room_of c.args.id c.args.session.now) (room_of c.args.id c.send.new.session) c.in-Gave.count one_read all (grind (arith, common_steps)) some
