@@ -76,7 +76,7 @@ impl<J: Naming> Caller<J> {
         ensures theirs { IsShown writer.old.seat writer.new.seat }
         ensures seen { self.new.seen ≡ writer.new.seat.seen }
     {
-        writer.meet_at_seat(rt, &mut self.seat);
+        writer.half.meet(rt, &mut self.seat);
     }
 
     /// `meet`, with a reading half: what was read so far stands in the history that the caller has then seen.
@@ -86,7 +86,7 @@ impl<J: Naming> Caller<J> {
         ensures theirs { IsShown reader.old.seat reader.new.seat }
         ensures seen { self.new.seen ≡ reader.new.seat.seen }
     {
-        reader.meet_at_seat(rt, &mut self.seat);
+        reader.half.meet(rt, &mut self.seat);
     }
 
     /// Opens a stream (stream identifiers). It doesn't wait for the peer, and bytes may be written at once.

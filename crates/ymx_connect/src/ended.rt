@@ -2,8 +2,8 @@
 
 ghost use Rattle.std.specs.Prelude.{◌≡◌};
 
-use ymx_hub::Undrained;
 use crate::pump_end::PumpWhy;
+use ymx_hub::Undrained;
 
 /// How both pumps ended, and whether all had gone out before.
 #[derive(Clone, Copy, Debug, PartialEq, Eq)]

@@ -10,7 +10,6 @@ ghost use Rattle.ymx_seats.specs.Views.{IsWitnessed};
 ghost use Rattle.ymx_hub.specs.Answers.{IsNotMemory};
 ghost use Rattle.ymx_hub.specs.Books.{Books, Spends, Closes, to_finish, to_reset};
 ghost use Rattle.ymx_hub.specs.Releasing.{Tends};
-ghost use Rattle.ymx_hub.specs.Shown.{IsShown};
 ghost use Rattle.ymx_hub.specs.Turns.{ReadTurns, WriteTurns};
 ghost use Rattle.ymx_connect.specs.Streams.{ReadsUpTo, ReadsUntil, Copies};
 ghost use Rattle.ymx_connect.specs.Told.{ReadsToEnd};
@@ -26,13 +25,13 @@ const CHUNK: usize = 4_096;
 /// The writing half of a stream. It must be spent, by `finish` or `reset`: it cannot be dropped. A contract sees the id
 /// of its stream and its seat.
 pub struct Writer<R: Recorder = Off> {
-    half: WriteHalf<R>,
+    pub(crate) half: WriteHalf<R>,
 }
 
 /// The reading half of a stream. It must be spent, by `close` or `release`: it cannot be dropped. A contract sees the id
 /// of its stream and its seat.
 pub struct Reader<R: Recorder = Off> {
-    half: ReadHalf<R>,
+    pub(crate) half: ReadHalf<R>,
 }
 
 impl<R: Recorder> Model for Writer<R> {
@@ -73,17 +72,6 @@ impl<R: Recorder> Writer<R> {
         ensures { IsWitnessed R.WITNESSED R.role R.config self.now.seat.seen }
     {
         self.half.history();
-    }
-
-    /// Shows the whole history so far to this half and to another seat, where there is a journal: both have then seen the same.
-    /// It is no event of the session.
-    pub fn meet_at_seat<W: Wait>(&mut self, rt: &W, other: &mut Seat<R>)
-        ensures same { self.new.id ≡ self.old.id }
-        ensures mine { IsShown self.old.seat self.new.seat }
-        ensures theirs { IsShown other.old other.new }
-        ensures seen { other.new.seen ≡ self.new.seat.seen }
-    {
-        self.half.meet(rt, other);
     }
 
     /// Writes all bytes, and waits for credit (flow control). At a fault the first `taken` of them were written.
@@ -143,17 +131,6 @@ impl<R: Recorder> Reader<R> {
         ensures { IsWitnessed R.WITNESSED R.role R.config self.now.seat.seen }
     {
         self.half.history();
-    }
-
-    /// Shows the whole history so far to this half and to another seat, where there is a journal: both have then seen the same.
-    /// It is no event of the session.
-    pub fn meet_at_seat<W: Wait>(&mut self, rt: &W, other: &mut Seat<R>)
-        ensures same { self.new.id ≡ self.old.id }
-        ensures mine { IsShown self.old.seat self.new.seat }
-        ensures theirs { IsShown other.old other.new }
-        ensures seen { other.new.seen ≡ self.new.seat.seen }
-    {
-        self.half.meet(rt, other);
     }
 
     /// Waits for bytes, and moves those that are there and fit to the front of the buffer. 0 is the end: the peer has

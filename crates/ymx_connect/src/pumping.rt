@@ -4,7 +4,11 @@ ghost use Rattle.std.specs.Prelude.{◌≡◌, ◌<◌, vec_len, false};
 ghost use Rattle.ymx_seats.specs.Views.{IsNewcomer};
 ghost use Rattle.ymx_connect.specs.Pumping.{HasRead, HasWritten};
 
+use crate::gate::Gate;
 use crate::off::discard;
+use crate::pump_end::{PumpEnd, PumpWhy, SettlerEnd};
+use crate::reading::read_pump;
+use crate::writing::write_pump;
 use std::alloc::Global;
 use std::marker::PhantomData;
 use std::snapshot::Snapshot;
@@ -13,10 +17,6 @@ use std::thread::Promise;
 use ymx_hub::{Hub, Recorder, Seat};
 use ymx_memory::RefusedAllocation;
 use ymx_model::{Inlet, Outlet};
-use crate::gate::Gate;
-use crate::pump_end::{PumpEnd, PumpWhy, SettlerEnd};
-use crate::reading::read_pump;
-use crate::writing::write_pump;
 use ymx_seats::Sight;
 
 /// Bytes that the read pump reads at once.

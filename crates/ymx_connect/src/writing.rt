@@ -14,8 +14,8 @@ use crate::gate::Gate;
 use crate::pump_end::{PumpEnd, PumpWhy, Stop};
 use crate::reading::end_input;
 use std::sync::Wait;
-use ymx_model::{Outlet, push_all};
 use ymx_hub::{Hub, Turn};
+use ymx_model::{Outlet, push_all};
 use ymx_seats::{Recorder, Seat};
 
 /// The writer failed: the session is lost, and nothing goes out any more.

@@ -4,12 +4,12 @@ ghost use Rattle.std.specs.Prelude.{◌≡◌, IfSome, IfOk};
 ghost use Rattle.ymx_hub.specs.Books.{Books};
 ghost use Rattle.ymx_hub.specs.Halves.{AcceptsHalves};
 
+use crate::faults::HubFault;
 use crate::halves::{ReadHalf, WriteHalf, both_halves, hub_twice};
 use crate::hub::Hub;
 use std::alloc::Global;
 use std::marker::Model;
 use std::sync::{Arc, Wait};
-use crate::faults::HubFault;
 use ymx_seats::{Recorder, Seat};
 
 /// Accepts streams of a hub. A contract sees its seat.

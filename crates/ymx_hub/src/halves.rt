@@ -9,12 +9,12 @@ ghost use Rattle.ymx_hub.specs.Releasing.{Tends};
 ghost use Rattle.ymx_hub.specs.Shown.{IsShown};
 ghost use Rattle.ymx_hub.specs.Turns.{ReadTurns, EndsIn, WriteTurns};
 
+use crate::faults::HubFault;
 use crate::hub::Hub;
 use crate::write_fault::WriteFault;
 use std::alloc::Global;
 use std::marker::Model;
 use std::sync::{Arc, Wait};
-use crate::faults::HubFault;
 use ymx_memory::RefusedAllocation;
 use ymx_seats::{Recorder, Seat};
 

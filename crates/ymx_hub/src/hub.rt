@@ -12,15 +12,15 @@ ghost use Rattle.ymx_hub.specs.Answers.{IsNotMemory, IsSeatFault};
 ghost use Rattle.ymx_hub.specs.Books.{Books, Asks, Opens, OpensWith, Spends, Closes, to_finish, to_reset, to_go_away, to_close};
 
 use crate::awaiting::take_lock;
+use crate::booked::Booked;
+use crate::end_fault::EndFault;
+use crate::faults::HubFault;
 use crate::releasing::MOST_RELEASED;
 use crate::shared::Shared;
 use crate::wakeups::Wakeups;
 use indexmap::IndexSet;
 use std::alloc::Global;
 use std::sync::{Arc, Mutex, MutexGuard, Wait};
-use crate::booked::Booked;
-use crate::end_fault::EndFault;
-use crate::faults::HubFault;
 use ymx_memory::RefusedAllocation;
 use ymx_seats::{NewJournal, Recorder, Seat, Sight, Transcript};
 use ymx_session::{Session, Touched};

@@ -4,13 +4,14 @@
 //! recorder `Off` no contract says what it answers.
 //!
 //! `Hub` is the session under its lock. `open_at_seat` and `accept_at_seat` hand out streams, each as a `WriteHalf` and a
-//! `ReadHalf`; an `Opener` and an `Acceptor` do so with a seat of their own. Each caller has a seat, in which its calls are
-//! booked. `moving` has the turns of the pumps; `wakeups`
-//! and `shared` say who waits and who is woken, and `awaiting` how a thread waits.
+//! `ReadHalf`; an `Opener` and an `Acceptor` do so with a seat of their own. `waiting_calls` has the calls that wait,
+//! `moving` the turns of the pumps, and `releasing` the streams whose readers are done with them. `wakeups` and `shared` say
+//! who waits and who is woken, and `awaiting` how a thread waits.
 //!
-//! What stands under the lock uses no threads: `Booked` is a session, the log of its events, and which streams are half
+//! `Booked` is what stands under the lock, and uses no threads: a session, the log of its events, and which streams are half
 //! spent. `book` is the door that each event goes through, which adds its entry. Its calls stand in `opening` (a stream is
 //! handed out), `stream_calls` (bytes, and halves that are spent), `session_calls` and `wire_calls` (what comes and goes).
+//! `one_caller` is a caller alone, in one thread.
 #![tactic(auto)]
 
 mod acceptor;
@@ -40,11 +41,13 @@ mod wire_calls;
 mod write_fault;
 
 pub use acceptor::{Acceptor, accept_at_seat};
+pub use booked::Booked;
 pub use end_fault::{EndFault, EndWhy};
 pub use faults::HubFault;
 pub use halves::{ReadHalf, WriteHalf};
 pub use hub::{FirstSeats, Hub};
 pub use moving::{FedAndSettled, Turn};
+pub use one_caller::{end_alone, feed_alone, seat_alone};
 pub use opener::{Opener, open_at_seat, open_with_at_seat};
 pub use refused_seat::RefusedSeat;
 pub use settled::Settled;

@@ -7,11 +7,11 @@ ghost use Rattle.ymx_hub.specs.Books.{Books};
 ghost use Rattle.ymx_hub.specs.Releasing.{ReadsUp, Tends, Settles, Waits, AllWait, SpentAlike, Leaves, LeavesOne, LeavesSome};
 
 use crate::awaiting::take_lock;
+use crate::faults::HubFault;
 use crate::hub::Hub;
 use crate::settled::Settled;
 use crate::shared::Shared;
 use std::sync::Wait;
-use crate::faults::HubFault;
 use ymx_memory::RefusedAllocation;
 use ymx_model::{CallFault, Got};
 use ymx_seats::{Recorder, Seat};

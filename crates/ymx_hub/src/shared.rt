@@ -7,10 +7,10 @@ ghost use Rattle.ymx_session.specs.Replies.{wrote_or, read_or, got_count};
 ghost use Rattle.ymx_hub.specs.Answers.{IsNotMemory, GivesSome, took_count};
 ghost use Rattle.ymx_hub.specs.Books.{Books, Asks, Does, to_write, to_read};
 
-use crate::wakeups::Waiters;
-use indexmap::IndexSet;
 use crate::booked::Booked;
 use crate::faults::HubFault;
+use crate::wakeups::Waiters;
+use indexmap::IndexSet;
 use ymx_memory::RefusedAllocation;
 use ymx_model::{Fed, Got, Wrote};
 use ymx_seats::{Recorder, Seat};

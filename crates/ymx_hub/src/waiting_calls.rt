@@ -11,11 +11,11 @@ ghost use Rattle.ymx_hub.specs.Shown.{IsShown};
 ghost use Rattle.ymx_hub.specs.Turns.{AcceptsInTurns, ReadTurns, EndsIn, PingTurns, WriteTurns};
 
 use crate::awaiting::{await_wakeup, take_lock};
+use crate::faults::HubFault;
 use crate::hub::Hub;
 use crate::undrained::Undrained;
 use crate::write_fault::WriteFault;
 use std::sync::Wait;
-use crate::faults::HubFault;
 use ymx_model::{CallFault, Got, Wrote};
 use ymx_seats::{Recorder, Seat};
 

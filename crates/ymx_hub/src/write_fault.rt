@@ -1,7 +1,7 @@
 //! Why a write stopped.
 
-use thiserror::Error;
 use crate::faults::HubFault;
+use thiserror::Error;
 
 /// Why a write stopped, and how many of its bytes had been taken. It prints as its fault.
 #[derive(Clone, Copy, Debug, PartialEq, Eq, Error)]
