@@ -15,7 +15,7 @@ use Rattle.ymx_hub.specs.Books.{Books, One}
 use Rattle.ymx_hub.specs.declared.moving.Turn.TheVariants.{Emitted, Idle, Over}
 use Rattle.ymx_hub.specs.Pumped.{EmitsOnce}
 use Rattle.ymx_hub.specs.Shown.{IsShown, BooksShown}
-use Rattle.ymx_hub.proofs.Booked.{books_same, books_at, books_weaker}
+use Rattle.ymx_hub.proofs.Books.{books_same, books_at, books_weaker}
 use Rattle.ymx_hub.proofs.Shown.{shown_on, shown_booked, shown_alone, shown_before, shown_at, shown_weaker}
 use Rattle.ymx_connect.specs.declared.pump_end.PumpWhy.{PumpWhy}
 use Rattle.ymx_connect.specs.declared.pump_end.PumpWhy.TheVariants.{Device, Memory, Gate, NoThread}

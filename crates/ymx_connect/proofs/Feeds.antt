@@ -13,7 +13,7 @@ use Rattle.ymx_model.specs.declared.types.Entry.{Entry}
 use Rattle.ymx_seats.specs.Views.{SeatView}
 use Rattle.ymx_memory.specs.declared.refused.RefusedAllocation.{RefusedAllocation}
 use Rattle.ymx_hub.specs.Books.{Books, One, Does}
-use Rattle.ymx_hub.proofs.Booked.{books_same, books_at, books_weaker}
+use Rattle.ymx_hub.proofs.Books.{books_same, books_at, books_weaker}
 use Rattle.ymx_machine.specs.declared.types.Why.TheVariants as feed
 use Rattle.ymx_hub.specs.declared.settled.Settled.{Settled}
 use Rattle.ymx_hub.specs.Releasing.{Settles}

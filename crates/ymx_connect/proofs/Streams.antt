@@ -17,7 +17,7 @@ use Rattle.ymx_hub.specs.declared.write_fault.WriteFault.{WriteFault}
 use Rattle.ymx_hub.specs.Halves.{HalfView}
 use Rattle.ymx_hub.specs.Turns.{took_of, AreWaits, AreWrites, EndsIn, HasTaken, IsWrote, IsUnrefused, ReadTurns, WriteTurns}
 use Rattle.ymx_hub.specs.Carried.{read_bytes, bytes_written}
-use Rattle.ymx_hub.proofs.Booked.{books_same, books_at, books_weaker}
+use Rattle.ymx_hub.proofs.Books.{books_same, books_at, books_weaker}
 use Rattle.ymx_hub.proofs.Carried.{read_append, written_append, waits_read, one_read, all_written, some_written}
 use Rattle.ymx_connect.specs.Streams.{AreReads, ReadsOn, ReadsUpTo, ReadsUntil, AreWritesTo, WritesOf, WritesOn, WritesUntil, Copies}
 

@@ -11,7 +11,7 @@ use Rattle.ymx_hub.specs.declared.faults.HubFault.TheVariants.{Call}
 use Rattle.ymx_hub.specs.Answers.{hub_fault_of}
 use Rattle.ymx_hub.specs.Books.{Books, One, IsRefused, AcceptsOnce, to_accept}
 use Rattle.ymx_hub.specs.Turns.{AreWaits, IsOver, AcceptsLast, AcceptsInTurns}
-use Rattle.ymx_hub.proofs.Booked.{books_weaker}
+use Rattle.ymx_hub.proofs.Books.{books_weaker}
 use Rattle.ymx_hub.proofs.Waits.{turns_end}
 
 -- a refusal that is the hub's answer as it is

@@ -30,6 +30,10 @@ gains_weaker : (keeps : Bool) (before after : List Entry) (Such Other : List Ent
 gains_weaker true before after Such Other f g = (g.0, g.1, f g.0 g.2)
 gains_weaker false before after Such Other f g = tt
 
+-- nothing is added
+pub books_same : (keeps : Bool) (seat : SeatView) (Such : List Entry → Type 0) → Such [] → Books keeps seat seat Such
+books_same keeps seat Such p = books_none keeps seat seat Such refl refl refl refl p
+
 -- what was added is such, and so is other
 pub books_weaker : (keeps : Bool) (old new : SeatView) (Such Other : List Entry → Type 0) → ((es : List Entry) → Such es → Other es) → Books keeps old new Such → Books keeps old new Other
 books_weaker keeps old new Such Other f b = record {
@@ -108,6 +112,11 @@ books_both keeps old mid new First Next Both f g h = record {
     gains_both : (keeps : Bool) → Gains keeps old.entries mid.entries First → Gains keeps mid.entries new.entries Next → Gains keeps old.entries new.entries Both
     gains_both true x y = (x.0 ++ y.0, y.1 ∙ ap (λ es. es ++ y.0) x.1 ∙ append_assoc old.entries x.0 y.0, f x.0 y.0 x.2 y.2)
     gains_both false x y = tt
+
+-- the same, where what is added next names the seat
+pub books_at : (keeps : Bool) (old mid new : SeatView) (First : List Entry → Type 0) (Next : ℕ → List Entry → Type 0) (Both : List Entry → Type 0) → ((es ds : List Entry) → First es → Next old.number ds → Both (es ++ ds)) → Books keeps old mid First → Books keeps mid new (Next mid.number) → Books keeps old new Both
+books_at keeps old mid new First Next Both f g h =
+    books_both keeps old mid new First (Next old.number) Both f g (subst (λ (n : ℕ). Books keeps mid new (Next n)) g.number h)
 
 spends_both : (event : Event) (id seat : ℕ) (given : Result (Unit {0}) CallFault) (told : Reply) (es ds : List Entry) → One seat event (done_or given) es → One seat (to_forget id) told ds → Spends event id seat (hub_answer given) (es ++ ds)
 spends_both event id seat given told es ds x y = rw (x.1, y.1) (spends_by event id seat x.0 given (entry y.0 seat (to_forget id) told ∷ []) (inr (told, (y.0, refl))))

@@ -8,7 +8,6 @@ pub mod Steps
 pub mod WholeHistories
 pub mod Gained
 pub mod Alone
-pub mod Booked
 pub mod Waits
 pub mod Written
 pub mod Ended

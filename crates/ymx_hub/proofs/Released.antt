@@ -24,7 +24,7 @@ use Rattle.ymx_hub.specs.Books.{Books, One, Asks, Closes, Forgets, to_read, to_f
 use Rattle.ymx_hub.specs.Steps.{Steps, StepsAsked, StepsClosed}
 use Rattle.ymx_hub.specs.Turns.{EndsIn}
 use Rattle.ymx_hub.specs.Releasing.{AreReads, FindsEnd, ReadsUp, Tends, joined, AllTend, Settles, Waits, AllWait, SpentAlike, all_without, all_spent, Leaves, LeavesOne, LeavesSome}
-use Rattle.ymx_hub.proofs.Booked.{books_same, books_at, books_weaker}
+use Rattle.ymx_hub.proofs.Books.{books_same, books_at, books_weaker}
 
 reads_append : (id seat : ℕ) (es ds : List Entry) → AreReads id seat es → AreReads id seat ds → AreReads id seat (es ++ ds)
 reads_append id seat [] ds r s = s

@@ -7,7 +7,7 @@ use Rattle.ymx_seats.specs.Views.{SeatView, whole_of, IsBehind}
 use Rattle.ymx_seats.proofs.Moves.{part-append}
 use Rattle.ymx_hub.specs.Books.{Grows, Extends, Books}
 use Rattle.ymx_hub.specs.Shown.{HasGrown, IsShown, BooksShown}
-use Rattle.ymx_hub.proofs.Booked.{books_same, books_at, books_weaker}
+use Rattle.ymx_hub.proofs.Books.{books_same, books_at, books_weaker}
 
 pub grown : (n : ℕ) (v : Option (List Entry)) (j : Option JournalView) → IsBehind n v j → HasGrown n v (whole_of j)
 grown n None None b = b

@@ -11,7 +11,7 @@ use Rattle.ymx_seats.specs.Views.{SeatView}
 use Rattle.ymx_hub.specs.declared.faults.HubFault.{HubFault}
 use Rattle.ymx_hub.specs.Books.{Books, One, Asks, to_ping, to_collect, to_read}
 use Rattle.ymx_hub.specs.Turns.{AreWaits, Turns, PongsLast, IsPinged, PingTurns, ReadTurns, ReadsLast}
-use Rattle.ymx_hub.proofs.Booked.{books_same, books_at, books_weaker}
+use Rattle.ymx_hub.proofs.Books.{books_same, books_at, books_weaker}
 
 waits_append : (seat : ℕ) (event : Event) (told : Reply) (es ds : List Entry) → AreWaits seat event told es → AreWaits seat event told ds → AreWaits seat event told (es ++ ds)
 waits_append seat event told [] ds w v = v

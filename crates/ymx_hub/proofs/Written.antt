@@ -12,7 +12,7 @@ use Rattle.ymx_hub.specs.declared.faults.HubFault.{HubFault}
 use Rattle.ymx_hub.specs.Answers.{took_count}
 use Rattle.ymx_hub.specs.Books.{Books, One, Asks, to_write}
 use Rattle.ymx_hub.specs.Turns.{took_of, total, AreWrites, EndsIn, HasTaken, IsWrote, IsUnrefused, WriteTurns}
-use Rattle.ymx_hub.proofs.Booked.{books_same, books_at}
+use Rattle.ymx_hub.proofs.Books.{books_same, books_at}
 
 total_more : (es : List Entry) (e : Entry) → total (es ++ e ∷ []) ≡ total es + took_of e.reply
 total_more [] e = omega arith

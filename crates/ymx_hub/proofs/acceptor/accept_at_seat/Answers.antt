@@ -3,7 +3,7 @@ use Rattle.ymx_seats.specs.Views.{SeatView}
 use Rattle.ymx_hub.specs.Books.{Books}
 use Rattle.ymx_hub.specs.Halves.{AcceptsHalves}
 use Rattle.ymx_hub.specs.Turns.{AcceptsInTurns}
-use Rattle.ymx_hub.proofs.Booked.{books_weaker}
+use Rattle.ymx_hub.proofs.Books.{books_weaker}
 use Rattle.ymx_hub.proofs.acceptor.accept_at_seat.Goals as goal
 
 pub returns-in-Ok-None-clause-booked : goal.returns-in-Ok-None-clause-booked
