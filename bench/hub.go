@@ -1,5 +1,6 @@
 // What bench/hub_bench.rattle measures, of HashiCorp's yamux for Go: two sessions of one process over TCP on the
-// loopback. A line has a name, how many units, and the nanoseconds that they took.
+// loopback. A line has a name, how many units, and the nanoseconds that they took. With a word behind its name it sends 4 GiB
+// over 64 streams alone.
 package main
 
 import (
@@ -7,6 +8,7 @@ import (
 	"io"
 	"log"
 	"net"
+	"os"
 	"sync"
 	"time"
 
@@ -155,6 +157,10 @@ func timed(name string, work func() uint64) {
 
 func main() {
 	log.SetFlags(0)
+	if len(os.Args) > 1 {
+		timed("go_64_streams_bytes", func() uint64 { return send(64, 1024) })
+		return
+	}
 	timed("go_one_stream_bytes", func() uint64 { return send(1, 16384) })
 	timed("go_64_streams_bytes", func() uint64 { return send(64, 256) })
 	timed("go_pings", func() uint64 { return ping(20000) })

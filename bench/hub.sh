@@ -3,27 +3,58 @@
 # stream and of 64 at once, pings, and a byte that goes there and back beside 10 and beside 1,000 streams on which both
 # sides wait; with the recorder `Off` and with `Full`, and of HashiCorp's yamux for Go, over TCP, where that is
 # installed. Medians of five runs, in turn. Needs `rt`; proves and builds in a temporary folder, which takes some
-# minutes. With a number it makes so many runs.
+# minutes. With a number it makes so many runs. With --processor it says in place of all that what 4 GiB over 64 streams of
+# TCP take of the processors, and how often a thread has waited or was stopped, of ymx and of Go; with --processor PROGRAM of
+# a bench that is built.
 set -eu
 top=$(cd "$(dirname "$0")/.." && pwd)
+processor=false
+if [ "${1-}" = --processor ]; then
+    processor=true
+    shift
+fi
+program=
+$processor && program=${1-}
 runs=${1-5}
 work=$(mktemp -d)
 trap 'rm -rf "$work"' EXIT
 trap 'exit 130' INT TERM
-# shellcheck disable=SC2046
-"$top/tools/kit.py" copy "$work" hub_bench ymx_tunnel ymx_ring $("$top/tools/kit.py" uses ymx_tunnel) anyhow
-cp "$top/bench/hub_bench.rattle" "$work/crates/hub_bench/src/main.rt"
-echo "proving and building the bench (some minutes)" >&2
-cd "$work/crates/hub_bench"
-rt run > "$work/first" 2> "$work/log" || { tail -n 20 "$work/log" >&2; exit 1; }
+if [ "$program" = '' ]; then
+    # shellcheck disable=SC2046
+    "$top/tools/kit.py" copy "$work" hub_bench ymx_tunnel ymx_ring $("$top/tools/kit.py" uses ymx_tunnel) anyhow
+    cp "$top/bench/hub_bench.rattle" "$work/crates/hub_bench/src/main.rt"
+    echo "proving and building the bench (some minutes)" >&2
+    cd "$work/crates/hub_bench"
+    rt run > "$work/first" 2> "$work/log" || { tail -n 20 "$work/log" >&2; exit 1; }
+    program=out/hub_bench
+fi
 go_peer=true
 if command -v go > /dev/null && [ -d /usr/share/gocode/src/github.com/hashicorp/yamux ]; then
     go_peer=$work/hub_go
     GO111MODULE=off GOPATH=/usr/share/gocode go build -o "$go_peer" "$top/bench/hub.go"
 fi
+if $processor; then
+    python3 - "$program" "$go_peer" << 'END'
+import os, statistics, subprocess, sys
+
+found = {name: [] for name in sys.argv[1:]}
+for name in 5 * sys.argv[1:]:
+    ran = subprocess.Popen([name, "64"], stdout=subprocess.PIPE, text=True)
+    told = ran.stdout.read().split()
+    used = os.wait4(ran.pid, 0)[2]
+    if len(told) == 3:
+        speed = int(told[1]) / int(told[2]) * 1e3
+        found[name].append((speed, used.ru_utime, used.ru_stime, used.ru_nvcsw, used.ru_nivcsw))
+for name, runs in found.items():
+    if runs:
+        speed, own, kernel, waits, stops = (statistics.median(it) for it in zip(*runs))
+        print(f"{os.path.basename(name)}: {speed:.0f} MB a second; {own + kernel:.2f} s of processor time, of which {kernel:.2f} in the kernel; {waits:.0f} waits, stopped {stops:.0f} times")
+END
+    exit
+fi
 while [ "$runs" -gt 0 ]; do
     runs=$((runs - 1))
-    out/hub_bench
+    "$program"
     "$go_peer"
 done > "$work/figures"
 grep -E '^[a-z_0-9]+ failed$' "$work/figures" && exit 1
