@@ -1,8 +1,8 @@
 #!/bin/sh
 # Says what a session takes that `connect_tcp` runs, over TCP on the loopback and with no stream: the bytes that it asks the C
-# library for, and its resident memory, the stacks of its two threads and what the kernel keeps for it left out and counted.
-# It is what 65 sessions at once take more than one, by 64. Needs `rt` and a C compiler; proves and builds in a temporary
-# folder, which takes some minutes.
+# library for, and its resident memory, with what of its threads' stacks is touched. It is what 65 sessions at once take more
+# than one, by 64. Needs `rt`, a C compiler and Python 3; proves and builds in a temporary folder, which takes some minutes.
+# With a program it takes that one: size_bench.rattle, as it was built before.
 set -eu
 top=$(cd "$(dirname "$0")/.." && pwd)
 work=$(mktemp -d)
