@@ -1,26 +1,33 @@
-"""Calls `ymx remote --bind` and `ymx local --bind` from where peers may call, and from elsewhere; and with more peers than
-there are places. Looks who is let in, and who is closed: at once, with nothing read.
+"""Calls `ymx remote --bind` and `ymx local --bind` from where peers may call, and from elsewhere; with more peers than there
+are places; and with garbage. Looks who is let in, who is closed, at once and with nothing read, and how much is said of it.
 
 It says which tests failed, and nothing where none did. No test follows one that hangs.
 
 usage: strangers.py YMX
 """
 
+import re
 import socket
 import sys
 import threading
+import time
 
 import raw
 from kept import COME, is_served, says
 from links import ask, echo
-from raw import ACK, ANY, GONE, PING, SYN, WINDOW, Program
-from raw import accept, call, frame, has_ended, leave, listen, take
+from raw import ACK, ANY, BAD, GONE, PING, SYN, WINDOW, Program
+from raw import accept, call, frame, free_places, has_ended, leave, listen, take
+from standard import await_listener
+from status import drain
 
 # Who may call, and who may not.
 FRIEND, STRANGER = "127.0.0.1", "127.0.0.2"
 # So many peers `remote --keep` serves at once.
 PLACES = 16
 USERS, LINKS = 64, 32
+# So many don't speak yamux.
+BAD_CALLS = 2_000
+LEFT_OUT = re.compile(r"ymx: (\d+) lines? like those before w(?:as|ere) left out\n")
 
 
 def call_from(host, place):
@@ -93,6 +100,33 @@ def silent_ones():
     assert is_served(peer)
 
 
+def garbage():
+    """Of many calls with garbage a line of each kind is said in a second. The others are counted, the last ones at the end."""
+    place, page = free_places(2)
+    program = Program("remote", "--keep", "--bind", place, "--target", ANY, "--status", page)
+    await_listener(page)
+    await_listener(place)
+    since = time.monotonic()
+    for _ in range(BAD_CALLS):
+        connection = call(place)
+        connection.sendall(BAD)
+        is_closed(connection)
+        connection.close()
+    drain(page)
+    _, text = program.end()
+    seconds = time.monotonic() - since
+    said, left_out = [], 0
+    for line in text.splitlines(keepends=True):
+        if found := LEFT_OUT.fullmatch(line):
+            left_out += int(found[1])
+        else:
+            assert re.match("ymx: (B1 from|session broken: B1$)", line), line
+            said.append(line)
+    assert len(said) + left_out == 2 * BAD_CALLS, f"{len(said)} lines, and {left_out} left out, of {BAD_CALLS} calls"
+    assert len(said) <= 2 * (int(seconds) + 1), f"{len(said)} lines in {seconds} seconds"
+    assert said[0].startswith("ymx: B1 from 127.0.0.1:") and said[1] == "ymx: session broken: B1\n", said[:2]
+
+
 def more_links_than_places(*words):
     """Each user has its bytes, by the links that have a place; also with `--keep`."""
     target, address = listen()
@@ -120,6 +154,7 @@ TESTS = (
     ("local --from", of_local, ()),
     ("local --keep --from", of_local, ("--keep",)),
     ("silent ones", silent_ones, ()),
+    ("garbage", garbage, ()),
     ("more links than places", more_links_than_places, ()),
     ("more links than places, with --keep", more_links_than_places, ("--keep",)),
 )

@@ -11,6 +11,7 @@ import os
 import random
 import re
 import select
+import socket
 import subprocess
 import sys
 import time
@@ -26,6 +27,7 @@ USERS = 20
 STRANGERS = 400
 BYTES = random.Random(11).randbytes(20_000)
 DROPPED = re.compile(r"ymx: (\d+) lines? w(?:as|ere) dropped\n")
+LEFT_OUT = re.compile(r"ymx: (\d+) lines? like those before w(?:as|ere) left out\n")
 # How many seconds it is waited for lines that may come.
 PAUSE = 0.2
 # How often a pipe is read late, where this process may have been held up for longer than last words wait.
@@ -125,9 +127,10 @@ def a_full_pipe():
     assert line.startswith(f"ymx: connection {USERS + 1} from "), line
 
 
-def stranger(place):
-    """One who doesn't speak yamux."""
-    connection = call(place)
+def stranger(place, number):
+    """One who doesn't speak yamux, from an address of its own: what is said of another isn't said of him."""
+    host, port = place.rsplit(":", 1)
+    connection = socket.create_connection((host, int(port)), source_address=(f"127.1.{number // 250}.{number % 250 + 1}", 0))
     connection.sendall(BAD)
     take(connection, 100)
     connection.close()
@@ -139,26 +142,28 @@ def strangers():
     place = free_place()
     program = Unread("remote", "--keep", "--bind", place, "--target", address, full=False, pages=2)
     await_listener(place)
-    for _ in range(STRANGERS):
-        stranger(place)
+    for number in range(STRANGERS):
+        stranger(place, number)
     peer = Peer(call(place))
     peer.open(1)
     other = accept(target)
     swap(peer, 1, other, BYTES)
-    said, dropped, count = 0, 0, STRANGERS
-    while not dropped or said + dropped < 2 * count:
+    said, dropped, left_out, count = 0, 0, 0, STRANGERS
+    while not dropped or said + dropped + left_out < 2 * count:
         if not select.select([program.reads], [], [], PAUSE)[0]:
-            # what was dropped last is told with the next line
-            stranger(place)
+            # what was dropped or left out last is told with the next line
+            stranger(place, count)
             count += 1
             continue
         for line in program.lines(1):
             if found := DROPPED.fullmatch(line):
                 dropped += int(found[1])
+            elif found := LEFT_OUT.fullmatch(line):
+                left_out += int(found[1])
             else:
                 assert re.match("ymx: (B1 from|session broken: B1$)", line), line
                 said += 1
-    assert said + dropped == 2 * count, f"{said} lines and {dropped} dropped of {count}"
+    assert said + dropped + left_out == 2 * count, f"{said} lines, {dropped} dropped and {left_out} left out of {count}"
     swap(peer, 1, other, BYTES)
 
 

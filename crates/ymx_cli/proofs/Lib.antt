@@ -1,3 +1,4 @@
 mod Planning
 mod Pushing
+mod Repeating
 mod Saying

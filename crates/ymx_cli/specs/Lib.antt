@@ -3,4 +3,5 @@ pub mod Log
 pub mod Messages
 pub mod Outcomes
 pub mod Plans
+pub mod Repeats
 pub mod Time

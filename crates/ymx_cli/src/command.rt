@@ -24,8 +24,8 @@ use std::sync::Wait;
 use std::thread::Threads;
 use std::time::Clock;
 use ymx_arguments::{CommandFault, Task, parse};
-use ymx_model::{Inlet, Outlet, push_all};
 use ymx_frames::{FramesEnd, frames};
+use ymx_model::{Inlet, Outlet, push_all};
 use ymx_script::{ScriptEnd, script};
 
 /// Why a file can't be opened.

@@ -1,24 +1,28 @@
 //! Where faults and lines are said. An end of a tunnel never waits for who reads them: a line that the device can't take is
-//! dropped, and the next one comes behind the number of those that were. With `--times` each begins with the time.
+//! dropped, and the next one comes behind the number of those that were. So does one behind those that were left out, as
+//! lines of their kind had just been said. With `--times` each begins with the time.
 
-ghost use Rattle.std.specs.Prelude.{ℕ, List, Option, None, Some, Bool, ◌≡◌, ◌<◌, ◌≤◌, ◌+◌, ◌-◌, ◌^◌, ◌++◌, length, min, true, IfOk, IfSome, OnErr, OnOk};
+ghost use Rattle.std.specs.Prelude.{ℕ, List, [], Option, None, Some, Bool, ◌≡◌, ◌<◌, ◌≤◌, ◌+◌, ◌-◌, ◌^◌, ◌++◌, length, min, true, false, IfOk, IfSome, IsOk, OnErr, OnOk};
+ghost use Rattle.std.specs.Duration.{as_nanos};
 ghost use Rattle.std.specs.Io.{StartsWith};
 ghost use Rattle.std.specs.Io.KnownBytes.{Appends, WriteAppends};
-ghost use Rattle.ymx_cli.specs.Log.{dropped_note, said_text};
+ghost use Rattle.ymx_cli.specs.Log.{dropped_note, left_out_note, notes_text, said_text};
+ghost use Rattle.ymx_cli.specs.Repeats.{is_left_out, kind_of, kinds, remembered};
 
+use crate::repeats::{RecentLines, kind_of};
 use crate::standard::Ready;
 use crate::time::{TIME, time_text};
 use arrayvec::{ArrayString, ArrayVec};
 use itoa::Buffer;
 use std::sync::{Mutex, Wait};
-use std::time::Clock;
+use std::time::{Clock, Duration};
 use ymx_model::{DeviceFault, Outlet};
 
 /// How many bytes a device takes at once that says it takes a line now.
 const ROOM: usize = 4_096;
 
-/// Room for the longest text that stands for lines that were dropped, in bytes, and more.
-const NOTE: usize = 64;
+/// Room for the longest text that stands for lines that were left out or dropped, in bytes, and more.
+const NOTE: usize = 96;
 
 /// An outlet for lines that can be told not to wait for who reads them.
 pub trait LogOutlet: Outlet {
@@ -59,34 +63,97 @@ pub(crate) struct Log<D> {
     device: D,
     /// How many lines were dropped since one was said. It stays at the greatest `u64`.
     dropped: u64,
+    /// How many lines were left out since one was said. It stays at the greatest `u64`.
+    left_out: u64,
+    /// Which lines were said last, of those that may be left out.
+    recent: RecentLines,
 }
 
 impl<D: LineDevice> Log<D> {
-    /// A log on this device, of which nothing was dropped.
+    /// A log on this device, of which nothing was dropped or left out.
     pub(crate) fn new(device: D) -> Log<D>
-        ensures { (result.device ≡ device) × (result.dropped ≡ 0) }
+        ensures counts { (result.device ≡ device) × (result.dropped ≡ 0) × (result.left_out ≡ 0) }
+        ensures recent { kinds result.recent.lines.items ≡ [] }
     {
-        Log { device, dropped: 0 }
+        Log {
+            device,
+            dropped: 0,
+            left_out: 0,
+            recent: RecentLines::new(),
+        }
     }
 
-    /// Says a line behind this time, and before it how many were dropped, if any were, in one write where the device takes
-    /// all of it. One that it doesn't take within so many milliseconds is dropped itself, and counted. So is one that is too
-    /// long with what stands before it.
-    fn say(&mut self, time: &[u8], line: &[u8], patience: u16) -> Result<(), DeviceFault>
-        ensures said { OnOk result (Appends (D.contents self.old.device) (D.contents self.new.device) (said_text time.now self.old.dropped line.now)) }
-        ensures none { OnOk result (self.new.dropped ≡ 0) }
-        ensures part { OnErr result ((part : List ℕ) × StartsWith (said_text time.now self.old.dropped line.now) part × Appends (D.contents self.old.device) (D.contents self.new.device) part) }
-        ensures counted { OnErr result (self.new.dropped ≡ min (self.old.dropped + 1) (2 ^ 64 - 1)) }
+    /// Says a line at this moment, or leaves it out, and counts it, where one of its kind was said less than a second ago.
+    fn tell(
+        &mut self,
+        time: &[u8],
+        line: &[u8],
+        now: Duration,
+        patience: u16,
+    ) -> Result<(), DeviceFault>
+        ensures left_out { is_left_out (kinds self.old.recent.lines.items) (kind_of line.now) (as_nanos now) ≡ true →
+            IsOk result × (self.new.left_out ≡ min (self.old.left_out + 1) (2 ^ 64 - 1)) × (self.new.dropped ≡ self.old.dropped)
+            × (self.new.device ≡ self.old.device) × (self.new.recent ≡ self.old.recent) }
+        ensures said { is_left_out (kinds self.old.recent.lines.items) (kind_of line.now) (as_nanos now) ≡ false →
+            OnOk result (Appends (D.contents self.old.device) (D.contents self.new.device) (said_text time.now self.old.left_out self.old.dropped line.now)) }
+        ensures none { is_left_out (kinds self.old.recent.lines.items) (kind_of line.now) (as_nanos now) ≡ false →
+            OnOk result ((self.new.left_out ≡ 0) × (self.new.dropped ≡ 0)) }
+        ensures remembered { is_left_out (kinds self.old.recent.lines.items) (kind_of line.now) (as_nanos now) ≡ false →
+            OnOk result (kinds self.new.recent.lines.items ≡ remembered (kinds self.old.recent.lines.items) (kind_of line.now) (as_nanos now)) }
+        ensures part { OnErr result ((part : List ℕ) × StartsWith (said_text time.now self.old.left_out self.old.dropped line.now) part × Appends (D.contents self.old.device) (D.contents self.new.device) part) }
+        ensures counted { OnErr result ((self.new.dropped ≡ min (self.old.dropped + 1) (2 ^ 64 - 1)) × (self.new.left_out ≡ self.old.left_out)) }
+        // A line that was dropped is no reason to leave the next one out.
+        ensures unseen { OnErr result (self.new.recent ≡ self.old.recent) }
     {
-        let said = match text_of(time, self.dropped, line) {
+        let Some(kind) = kind_of(line) else {
+            return self.say(time, line, patience);
+        };
+        if self.recent.has(&kind, now) {
+            self.left_out = self.left_out.saturating_add(1);
+            return Ok(());
+        }
+        self.say(time, line, patience)?;
+        self.recent.note(kind, now);
+        Ok(())
+    }
+
+    /// Says a line behind this time, and before it how many were left out or dropped, if any were, in one write where the
+    /// device takes all of it. One that it doesn't take within so many milliseconds is dropped itself, and counted. So is one
+    /// that is too long with what stands before it.
+    fn say(&mut self, time: &[u8], line: &[u8], patience: u16) -> Result<(), DeviceFault>
+        ensures said { OnOk result (Appends (D.contents self.old.device) (D.contents self.new.device) (said_text time.now self.old.left_out self.old.dropped line.now)) }
+        ensures none { OnOk result ((self.new.left_out ≡ 0) × (self.new.dropped ≡ 0)) }
+        ensures part { OnErr result ((part : List ℕ) × StartsWith (said_text time.now self.old.left_out self.old.dropped line.now) part × Appends (D.contents self.old.device) (D.contents self.new.device) part) }
+        ensures counted { OnErr result ((self.new.dropped ≡ min (self.old.dropped + 1) (2 ^ 64 - 1)) × (self.new.left_out ≡ self.old.left_out)) }
+        ensures kept { self.new.recent ≡ self.old.recent }
+    {
+        let said = match text_of(time, self.left_out, self.dropped, line) {
             Some(text) => self.write_all(text.as_slice(), Some(patience)),
             None => Err(DeviceFault),
         };
-        self.dropped = match said {
-            Ok(()) => 0,
-            Err(_) => self.dropped.saturating_add(1),
-        };
+        match said {
+            Ok(()) => {
+                self.left_out = 0;
+                self.dropped = 0;
+            }
+            Err(_) => self.dropped = self.dropped.saturating_add(1),
+        }
         said
+    }
+
+    /// Says at the end how many lines were left out or dropped behind the last one that was said, if any were.
+    fn finish(&mut self, time: &[u8], patience: u16) -> Result<(), DeviceFault>
+        ensures said { OnOk result (Appends (D.contents self.old.device) (D.contents self.new.device) (notes_text time.now self.old.left_out self.old.dropped)) }
+        ensures none { OnOk result ((self.new.left_out ≡ 0) × (self.new.dropped ≡ 0)) }
+        ensures part { OnErr result ((part : List ℕ) × StartsWith (notes_text time.now self.old.left_out self.old.dropped) part × Appends (D.contents self.old.device) (D.contents self.new.device) part) }
+    {
+        let Some(text) = notes_of(time, self.left_out, self.dropped) else {
+            return Err(DeviceFault);
+        };
+        self.write_all(text.as_slice(), Some(patience))?;
+        self.left_out = 0;
+        self.dropped = 0;
+        Ok(())
     }
 
     /// Writes all of these bytes, or a beginning of them where the device doesn't take more. Each write comes behind a
@@ -94,7 +161,7 @@ impl<D: LineDevice> Log<D> {
     fn write_all(&mut self, bytes: &[u8], patience: Option<u16>) -> Result<(), DeviceFault>
         ensures all { OnOk result (Appends (D.contents self.old.device) (D.contents self.new.device) bytes.now) }
         ensures part { OnErr result ((part : List ℕ) × StartsWith bytes.now part × Appends (D.contents self.old.device) (D.contents self.new.device) part) }
-        ensures kept { self.new.dropped ≡ self.old.dropped }
+        ensures kept { (self.new.left_out ≡ self.old.left_out) × (self.new.dropped ≡ self.old.dropped) × (self.new.recent ≡ self.old.recent) }
     {
         let mut taken = 0;
         'push: while taken < bytes.len() {
@@ -110,19 +177,50 @@ impl<D: LineDevice> Log<D> {
     }
 }
 
-/// A line behind this time, and before it how many were dropped. None where that is more than a device takes without waiting.
-fn text_of(time: &[u8], dropped: u64, line: &[u8]) -> Option<ArrayVec<u8, ROOM>>
-    ensures { IfSome result (λ text. text.items ≡ said_text time.now dropped line.now) }
+/// A line behind this time, and before it how many were left out or dropped. None where that is more than a device takes
+/// without waiting.
+fn text_of(time: &[u8], left_out: u64, dropped: u64, line: &[u8]) -> Option<ArrayVec<u8, ROOM>>
+    ensures { IfSome result (λ text. text.items ≡ said_text time.now left_out dropped line.now) }
+{
+    let mut text = notes_of(time, left_out, dropped)?;
+    text.try_extend_from_slice(time).ok()?;
+    text.try_extend_from_slice(line).ok()?;
+    Some(text)
+}
+
+/// How many lines were left out or dropped, if any were, each behind this time. None where that is more than a device takes
+/// without waiting.
+fn notes_of(time: &[u8], left_out: u64, dropped: u64) -> Option<ArrayVec<u8, ROOM>>
+    ensures { IfSome result (λ text. text.items ≡ notes_text time.now left_out dropped) }
 {
     let mut text = ArrayVec::new();
+    if left_out > 0 {
+        let note = left_out_note(left_out);
+        text.try_extend_from_slice(time).ok()?;
+        text.try_extend_from_slice(note.as_str().as_bytes()).ok()?;
+    }
     if dropped > 0 {
         let note = dropped_note(dropped);
         text.try_extend_from_slice(time).ok()?;
         text.try_extend_from_slice(note.as_str().as_bytes()).ok()?;
     }
-    text.try_extend_from_slice(time).ok()?;
-    text.try_extend_from_slice(line).ok()?;
     Some(text)
+}
+
+/// What says that so many lines were left out.
+fn left_out_note(left_out: u64) -> ArrayString<NOTE>
+    ensures { result.bytes ≡ left_out_note left_out }
+{
+    let mut text = ArrayString::new();
+    if left_out == 1 {
+        text.push_str("ymx: 1 line like those before was left out\n");
+        return text;
+    }
+    let mut buffer = Buffer::new();
+    text.push_str("ymx: ");
+    text.push_str(buffer.format(left_out));
+    text.push_str(" lines like those before were left out\n");
+    text
 }
 
 /// What says that so many lines were dropped.
@@ -167,21 +265,44 @@ impl<'a, R, D> LogWriter<'a, R, D> {
     }
 }
 
-/// Says a line on the log, of this time, if it can be told.
-fn say_on<R: Wait + Clock, D: LineDevice>(
-    writer: &LogWriter<'_, R, D>,
-    line: &[u8],
-) -> Result<(), DeviceFault> {
-    let time = if writer.has_times {
-        time_now(writer.rt)
-    } else {
-        None
-    };
-    let mut log = writer.log.lock(writer.rt);
-    match (writer.patience, &time) {
-        (None, _) => log.write_all(line, None),
-        (Some(patience), Some(time)) => log.say(time, line, patience),
-        (Some(patience), None) => log.say(&[], line, patience),
+impl<R: Wait + Clock, D: LineDevice> LogWriter<'_, R, D> {
+    /// Says at the end how many lines were left out or dropped behind the last one that was said, if any were.
+    pub(crate) fn finish(&self) {
+        let Some(patience) = self.patience else {
+            return;
+        };
+        let time = self.time();
+        let mut log = self.log.lock(self.rt);
+        let _ = log.finish(text_or_none(&time), patience);
+    }
+
+    /// Says a line on the log, of this time, if it can be told. Where it can't, no line is left out.
+    fn say(&self, line: &[u8]) -> Result<(), DeviceFault> {
+        let time = self.time();
+        let now = self.rt.monotonic();
+        let mut log = self.log.lock(self.rt);
+        match (self.patience, now) {
+            (None, _) => log.write_all(line, None),
+            (Some(patience), Ok(now)) => log.tell(text_or_none(&time), line, now, patience),
+            (Some(patience), Err(_)) => log.say(text_or_none(&time), line, patience),
+        }
+    }
+
+    /// What stands before each line.
+    fn time(&self) -> Option<[u8; TIME]> {
+        if self.has_times {
+            time_now(self.rt)
+        } else {
+            None
+        }
+    }
+}
+
+/// The text, or nothing.
+fn text_or_none(text: &Option<[u8; TIME]>) -> &[u8] {
+    match text {
+        Some(text) => text,
+        None => &[],
     }
 }
 
@@ -201,7 +322,7 @@ impl<R: Wait + Clock, D: LineDevice> Outlet for LogWriter<'_, R, D> {
         if self.failures == u64::MAX {
             return Err(DeviceFault);
         }
-        match say_on(self, bytes) {
+        match self.say(bytes) {
             Ok(()) => Ok(bytes.len()),
             Err(_) => {
                 self.failures += 1;

@@ -8,6 +8,7 @@ mod disk;
 mod help;
 mod log;
 mod outcome;
+mod repeats;
 mod standard;
 mod time;
 mod tunnel;
@@ -59,6 +60,7 @@ fn main(rt: HostRuntime) -> ExitCode {
         .status(),
         Err(error) => no_words(&error, &mut errors),
     };
+    errors.finish();
     ExitCode::from(status)
 }
 
