@@ -231,11 +231,10 @@ def no_thread_beside_a_peer():
 
 
 @preloads
-def no_thread_at_all():
-    """Without `--keep` it ends where no thread starts others, so that it could serve nobody."""
-    program, place = remote_without_thread(1, "--peers", "2")
-    assert has_ended(call(place))
-    assert program.end() == (1, f"{NO_THREAD}ymx: cannot listen at {place}\n")
+def no_thread_at_all(*words):
+    """Where no thread starts others it could serve nobody: it listens for nobody, says so, and ends."""
+    program = preloaded("remote", "-v", "--bind", ANY, "--target", ANY, *words, variables={"FAIL_THREAD_AT": "1"})
+    assert program.end() == (1, f"ymx: --bind {ANY}: no thread\nymx: cannot listen at {ANY}\n")
 
 
 def no_descriptor_for_a_peer():
@@ -470,7 +469,8 @@ TESTS = (
     ("a fault among peers", a_fault_among_peers, ()),
     ("no thread for a peer", no_thread_for_a_peer, ()),
     ("no thread beside a peer", no_thread_beside_a_peer, ()),
-    ("no thread at all", no_thread_at_all, ()),
+    ("no thread at all", no_thread_at_all, ("--peers", "2")),
+    ("no thread at all, with --keep", no_thread_at_all, ("--keep",)),
     ("no descriptor for a peer", no_descriptor_for_a_peer, ()),
     ("a peer that never closes", a_peer_that_never_closes, ()),
     (f"{SESSIONS} peers of remote", many_peers, ()),

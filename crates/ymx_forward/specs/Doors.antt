@@ -1,9 +1,9 @@
 -- Which peers are let in (this project's own).
-use Rattle.std.specs.Prelude.{◌≡◌, true, Option, Some, None}
+use Rattle.std.specs.Prelude.{◌≡◌, Bool, true, Option, Some, None}
 use Rattle.ymx_policy.specs.Networks.{admits}
 use Rattle.ymx_policy.specs.declared.options.Networks.{Networks}
 use Rattle.ymx_policy.specs.declared.asks.PoolHappened.{PoolHappened}
-use Rattle.ymx_policy.specs.declared.asks.PoolHappened.TheVariants.{Came}
+use Rattle.ymx_policy.specs.declared.asks.PoolHappened.TheVariants.{Came, Listening}
 use Rattle.ymx_policy.specs.declared.asks.Happened.{Happened}
 use Rattle.ymx_policy.specs.declared.asks.Happened.TheVariants.{PeerCame}
 use Rattle.ymx_forward.specs.declared.peer.Peer.{Peer}
@@ -38,3 +38,8 @@ MeetsAdmitted from peer other = Unit {0}
 abbrev pub LetsAdmittedIn : Networks → Option Peer → PoolHappened → Type 0
 LetsAdmittedIn from peer Came = IsMet from peer
 LetsAdmittedIn from peer other = Unit {0}
+
+-- it listens only where threads are made
+abbrev pub ListensAttended : (attended : Bool) → PoolHappened → Type 0
+ListensAttended attended (Listening at) = attended ≡ true
+ListensAttended attended other = Unit {0}

@@ -3,7 +3,7 @@
 
 ghost use Rattle.std.specs.Prelude.{◌≡◌, ◌≢◌, false, Some, None, ⊤};
 ghost use Rattle.std.specs.Thread.{IsSend};
-ghost use Rattle.ymx_forward.specs.Doors.{LetsAdmittedIn};
+ghost use Rattle.ymx_forward.specs.Doors.{LetsAdmittedIn, ListensAttended};
 ghost use Rattle.ymx_forward.specs.Looks.{SeesAdmitted};
 
 use crate::accepting::Listening;
@@ -242,12 +242,17 @@ impl<'a, R: Host> PeerSockets<'a, R> {
         }
     }
 
-    /// Listens for peers.
+    /// Listens for peers, once threads for them are made. Where none are it listens for nobody.
     fn listen(&mut self, peers: Peers) -> PoolHappened
         // Only those are let in that may call.
-        ensures { self.new.keeper.from ≡ peers.from }
+        ensures from { self.new.keeper.from ≡ peers.from }
+        ensures attended { ListensAttended self.new.entrance.starter.is_attended result }
+        ensures unattended { self.new.entrance.starter.is_attended ≡ false → result ≡ PoolHappened.Failed (Some Reason.NoThread) }
     {
         self.keeper = Doorkeeper::new(peers.from);
+        if !self.entrance.starter.await_threads(self.rt) {
+            return PoolHappened::Failed(Some(Reason::NoThread));
+        }
         match self.open(peers.address) {
             Ok(at) => PoolHappened::Listening(at),
             Err(fault) => fault.happened_to_pool(),
@@ -256,7 +261,7 @@ impl<'a, R: Host> PeerSockets<'a, R> {
 
     /// Listens for peers, and answers where.
     fn open(&mut self, address: SocketAddrV4) -> Result<SocketAddrV4, StartFault>
-        ensures { self.new.keeper ≡ self.old.keeper }
+        ensures { (self.new.keeper ≡ self.old.keeper) × (self.new.entrance ≡ self.old.entrance) }
     {
         let (listener, at) = listen_at(self.rt, address)?;
         let listening = Listening::new(listener, None, true, &self.entrance.poll, KNOCKS)?;

@@ -1,5 +1,7 @@
 //! Who has threads made by another: one thread makes all that a pool asks for, as it waits for them at its end.
 
+ghost use Rattle.std.specs.Prelude.{◌≡◌, true};
+
 use crate::host::Host;
 use crate::starting::StartFault;
 use crossbeam_channel::{Receiver, Sender, bounded};
@@ -54,15 +56,25 @@ pub(crate) fn new_starter<J: Drop>(alloc: Global) -> Result<(Starter<J>, Jobs<J>
 }
 
 impl<J: Drop> Starter<J> {
-    /// Has a thread made for this. Whether one could be.
-    pub(crate) fn start<R: Host>(&mut self, rt: &R, job: J) -> bool {
+    /// Waits until threads are made, for some seconds at most. Whether they are.
+    pub(crate) fn await_threads<R: Host>(&mut self, rt: &R) -> bool
+        ensures told { result ≡ self.new.is_attended }
+        ensures stays { self.old.is_attended ≡ true → self.new.is_attended ≡ true }
+    {
         if !self.is_attended {
             self.is_attended = self
                 .attended
                 .recv_timeout(rt, Duration::from_secs(BEGINNING))
                 .is_ok();
         }
-        if !self.is_attended {
+        self.is_attended
+    }
+
+    /// Has a thread made for this. Whether one could be.
+    pub(crate) fn start<R: Host>(&mut self, rt: &R, job: J) -> bool
+        ensures { result ≡ true → self.new.is_attended ≡ true }
+    {
+        if !self.await_threads(rt) {
             return false;
         }
         let Some(jobs) = &self.jobs else {
