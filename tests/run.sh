@@ -78,6 +78,7 @@ if [ "${1-}" = --all ]; then
     try 'wrong bodies' "$root/tests/wrong_bodies.sh"
     try 'wrong statements' "$root/tests/refused.sh"
     try 'real services' "$root/tests/services/run.sh"
+    try 'the units, under systemd' "$root/tests/services/systemd.sh"
     if has_go; then
         try "the tunnel and Go's yamux" "$root/tests/interop/run.sh"
         try 'the bindings, crosswise' "$root/tests/capi/interop.sh"

@@ -77,6 +77,12 @@ if ! has dpkg-deb aarch64-linux-gnu-gcc; then
     counted
     exit
 fi
+# (its headers are in a package of their own, which is only recommended)
+if ! echo '#include <stdint.h>' | aarch64-linux-gnu-gcc -E - > /dev/null 2> said; then
+    left_out "Debian's packages, and the bindings with the library" "no libc6-dev-arm64-cross: $(grep -m 1 error said)"
+    counted
+    exit
+fi
 twice deb.sh debs debs_again
 if has lintian; then
     lintian --fail-on error debs/*.deb > said 2>&1 || true
