@@ -35,8 +35,9 @@ from pathlib import Path
 from ports import free_ports
 
 ROOT = Path(__file__).resolve().parent.parent
-# How long a command may take, and how long a line that serves until it listens, or has said what it must.
-SECONDS, SOON = 80, 20
+# How long a command may take, and how long a line that serves until it listens, or has said what it must: bounds for what hangs,
+# which nothing comes to on a loaded machine either.
+SECONDS, SOON = 600, 120
 PAGE = b"a page\n"
 # A block of code with the mark above it, or a heading.
 PART = re.compile(r"^(?:<!-- (not run|needs): ([^\n]+) -->\n)?```([^`\n]*)\n(.*?)^```$|^#", re.M | re.S)
