@@ -78,7 +78,7 @@ func TestACallThatReadsTheConnectionIsEnded(t *testing.T) {
 					if err != want {
 						t.Errorf("%s, ended by %s: %v", call, name, err)
 					}
-				case <-time.After(5 * time.Second):
+				case <-time.After(hangs):
 					t.Fatalf("%s isn't ended by %s", call, name)
 				}
 				client.Close()
@@ -147,7 +147,7 @@ func TestAnAcceptOrOpenThatReadsTheConnectionIsEnded(t *testing.T) {
 				if err != one.want {
 					t.Errorf("%s: %v", name, err)
 				}
-			case <-time.After(5 * time.Second):
+			case <-time.After(hangs):
 				t.Fatalf("it isn't ended: %s", name)
 			}
 			stop()
@@ -195,7 +195,7 @@ func TestThePeerIsHeardWhileNobodyWaits(t *testing.T) {
 	good(t, client.Close())
 	select {
 	case <-server.CloseChan():
-	case <-time.After(5 * time.Second):
+	case <-time.After(hangs):
 		t.Fatal("the session doesn't end with its connection")
 	}
 }
@@ -266,7 +266,7 @@ func TestAFloodOfPingsHoldsUpNoRead(t *testing.T) {
 		if read.err != ErrTimeout {
 			t.Fatal(read)
 		}
-	case <-time.After(5 * time.Second):
+	case <-time.After(hangs):
 		t.Fatal("the deadline doesn't end a Read that reads from the connection")
 	}
 	good(t, stream.SetReadDeadline(time.Time{}))
@@ -339,7 +339,7 @@ func TestCloseBehindAResetIsQuick(t *testing.T) {
 		})
 		began := time.Now()
 		good(t, session.Close())
-		if took := time.Since(began); took > lastReads/2 {
+		if took := time.Since(began); took >= lastReads {
 			t.Fatalf("round %d: it takes %v", round, took)
 		}
 	}

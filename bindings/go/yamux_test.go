@@ -107,11 +107,15 @@ var (
 	_ net.Error    = ErrTimeout.(net.Error)
 )
 
-// await waits until it holds, for at most five seconds.
+// hangs is how long is waited for what must come. What the package waits for by itself takes longer: KeepAliveInterval, and
+// StreamCloseTimeout where a test doesn't set it.
+const hangs = 20 * time.Second
+
+// await waits until it holds.
 func await(t *testing.T, what string, holds func() bool) {
 	t.Helper()
-	for tries := 0; !holds(); tries++ {
-		if tries == 1000 {
+	for began := time.Now(); !holds(); {
+		if time.Since(began) > hangs {
 			t.Fatal("not so: " + what)
 		}
 		time.Sleep(5 * time.Millisecond)
@@ -448,7 +452,7 @@ func TestCloseEndsCallsThatWait(t *testing.T) {
 				if err != one.want {
 					t.Errorf("%s returns %v", one.name, err)
 				}
-			case <-time.After(5 * time.Second):
+			case <-time.After(hangs):
 				t.Fatalf("%s waits on", one.name)
 			}
 		}
@@ -522,7 +526,7 @@ func TestCloseEndsAWriteThatTheConnectionDoesNotTake(t *testing.T) {
 		if err != ErrStreamClosed {
 			t.Fatal(err)
 		}
-	case <-time.After(5 * time.Second):
+	case <-time.After(hangs):
 		t.Fatal("Write waits on")
 	}
 }
@@ -562,7 +566,7 @@ func TestAReadBehindCloseWaitsALittle(t *testing.T) {
 		if err != ErrStreamClosed {
 			t.Fatal(err)
 		}
-	case <-time.After(5 * time.Second):
+	case <-time.After(hangs):
 		t.Fatal("Read waits on")
 	}
 }
@@ -597,7 +601,7 @@ func TestAProxyOfTwoCopiesEndsAtOnce(t *testing.T) {
 			case <-done:
 				good(t, far.Close())
 				good(t, service.Close())
-			case <-time.After(5 * time.Second):
+			case <-time.After(hangs):
 				t.Fatal("a copy goes on")
 			}
 		}
@@ -1156,7 +1160,7 @@ func TestOpenTimeoutEndsTheSession(t *testing.T) {
 	good(t, err)
 	select {
 	case <-client.CloseChan():
-	case <-time.After(5 * time.Second):
+	case <-time.After(hangs):
 		t.Fatal("the session goes on")
 	}
 }

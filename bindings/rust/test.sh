@@ -16,7 +16,7 @@ fail() {
     exit 1
 }
 
-timeout 300 cargo test --offline --workspace
+timeout 600 cargo test --offline --workspace
 
 # linked NAME: the word of a session goes across, and the library is the shared one or not
 linked() {

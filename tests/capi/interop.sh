@@ -42,7 +42,7 @@ begin() {
     tries=0
     until address=$(sed -n 's/^listening at //p' listens) && [ -n "$address" ]; do
         tries=$((tries + 1))
-        [ $tries -lt 100 ] || { echo "$1 says nothing:"; cat said_by_server; exit 1; }
+        [ $tries -lt 1200 ] || { echo "$1 says nothing:"; cat said_by_server; exit 1; }
         sleep 0.1
     done
 }
@@ -62,7 +62,7 @@ is() {
 }
 
 tests_in_go() {
-    (cd "$root/bindings/go" && go vet ./... && timeout 300 go test -count 1 .)
+    (cd "$root/bindings/go" && go vet ./... && timeout 600 go test -count 1 .)
 }
 
 tests_in_python() {
@@ -80,7 +80,7 @@ tests_in_rust() {
 try() {
     name=$1
     shift
-    is "$name" timeout 120 "$@"
+    is "$name" timeout 600 "$@"
 }
 
 # left_out NAME: a binding that can't be tried here
@@ -144,7 +144,7 @@ for one in $clients; do
         [ "$one $other" = 'hashicorp hashicorp' ] || cross "$one" "$other"
     done
 done
-is "one busy stream beside 1,000 idle ones" timeout 120 ./idle
+is "one busy stream beside 1,000 idle ones" timeout 600 ./idle
 is "the tests of the binding for Go" tests_in_go
 [ "${clients#*python}" = "$clients" ] || is "the tests of the binding for Python" tests_in_python
 [ "${clients#*rust}" = "$clients" ] || is "the tests of the binding for Rust" tests_in_rust

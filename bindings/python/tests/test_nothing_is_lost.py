@@ -491,10 +491,11 @@ class Leaving(unittest.IsolatedAsyncioTestCase):
 
     async def test_cancelled_it_waits_for_nobody(self):
         address = await self.deaf()
+        linger = 3
         there = asyncio.Event()
 
         async def stay():
-            async with await ymx.open_connection(*address, linger=0.5) as connection:
+            async with await ymx.open_connection(*address, linger=linger) as connection:
                 self.connection = connection
                 self.kept = await self.fill(connection)
                 there.set()
@@ -506,8 +507,8 @@ class Leaving(unittest.IsolatedAsyncioTestCase):
         task.cancel()
         with self.assertRaises(asyncio.CancelledError):
             await task
-        self.assertLess(asyncio.get_running_loop().time() - began, 0.3)
-        await asyncio.wait_for(self.connection.wait_closed(), 5)
+        self.assertLess(asyncio.get_running_loop().time() - began, linger)
+        await asyncio.wait_for(self.connection.wait_closed(), 60)
 
     async def test_a_loss_is_told(self):
         async def serve(connection):

@@ -125,7 +125,7 @@ class WaysOfAsyncio(BothSides):
         for call in self.client.open_stream, self.client.accept_stream, self.client.ping:
             with self.assertRaises(ymx.ConnectionLost):
                 await call()
-        await asyncio.wait_for(self.client.wait_closed(), 1)
+        await asyncio.wait_for(self.client.wait_closed(), 5)
         with self.assertRaises(ymx.ConnectionLost):
             await asyncio.wait_for(far_reader.read(), 5)
         far.close()
