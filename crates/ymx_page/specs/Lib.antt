@@ -5,3 +5,4 @@ pub mod Known
 pub mod Lines
 pub mod Page
 pub mod Requests
+pub mod Told

@@ -1,9 +1,10 @@
 //! Which connection it is, how it ended, and why it got no stream.
 
-ghost use Rattle.std.specs.Prelude.{◌≡◌, ◌||◌, None};
+ghost use Rattle.std.specs.Prelude.{◌≡◌, ◌||◌, None, Some};
 ghost use Rattle.ymx_page.specs.Counts.{ended_with_nothing, is_for_want_of_memory};
 
-use std::net::SocketAddr;
+use std::net::SocketAddrV4;
+use std::time::Instant;
 use ymx_model::CallFault;
 use ymx_policy::Reason;
 
@@ -39,17 +40,34 @@ pub struct Origin {
     /// Its number: 1, 2, 3, .., or 0 where nobody reads it.
     pub number: u64,
     /// Who it is from: a user, or the peer that has opened its stream. None where that isn't known.
-    pub from: Option<SocketAddr>,
+    pub from: Option<SocketAddrV4>,
+    /// The number of the link that carries it: 1, 2, 3, .. None where there is one connection to the peer alone, and where no
+    /// link has it.
+    pub link: Option<u32>,
+    /// When it began. None where that isn't known.
+    pub began: Option<Instant>,
 }
 
 impl Origin {
     /// That of a connection of which nobody is told.
     pub fn untold() -> Origin
-        ensures { result ≡ record { number = 0; from = None } }
+        ensures { result ≡ record { number = 0; from = None; link = None; began = None } }
     {
         Origin {
             number: 0,
             from: None,
+            link: None,
+            began: None,
+        }
+    }
+
+    /// The same connection, by the link of this number.
+    pub fn by_link(self, number: u32) -> Origin
+        ensures { result ≡ record self { link = Some number } }
+    {
+        Origin {
+            link: Some(number),
+            ..self
         }
     }
 }
