@@ -12,15 +12,14 @@ use Rattle.ymx_policy.specs.declared.state.Stage.TheVariants as stage
 use Rattle.ymx_policy.specs.declared.state.State.{State}
 use Rattle.ymx_policy.specs.Machine.{fresh, asked, after}
 use Rattle.ymx_policy.specs.Past.{IsPast, asks, is_end, state_of}
-use Rattle.ymx_policy.specs.Laws.{is_told_there, told_by}
+use Rattle.ymx_policy.specs.Laws.{is_told_there, tells_coming, told_by}
 use Rattle.ymx_policy.proofs.Keeping.{keeps}
 use Rattle.ymx_policy.proofs.Reasons.{fit_first, fit_step, fits}
 
--- a peer is told to be there while its session runs, and until one that awaits its peers awaits the next
+-- a peer may be told to be there once its session has run, until one that awaits its peers awaits the next
 abbrev is_due : Role → (kept : Bool) → Stage → (users : Bool) → (there : Bool) → Type 0
 is_due role false at users there = there ≡ false
 is_due RemoteAwaits true at users there = Unit {0}
-is_due role true stage.Serving users there = there ≡ true
 is_due LocalAwaits true stage.Closing users there = there ≡ true
 is_due LocalAwaits true stage.OpeningPeers users there = there ≡ users
 is_due role true at users there = there ≡ false
@@ -36,9 +35,9 @@ has_them LocalCalls true stage.Over users = Unit {0}
 has_them LocalCalls true at users = users ≡ true
 has_them role kept at users = Unit {0}
 
-due_step : (t : Terms) (s : State) (h : Happened) (there : Bool) → is_end (asked t s).deed ≡ false → fits t.role s.stage ≡ true → has_them t.role t.goes_on s.stage s.has_users → is_due t.role t.goes_on s.stage s.has_users there
-    → is_due t.role t.goes_on (after t s h).stage (after t s h).has_users (told_by (after t s h).words there)
-due_step t s h there goes f u e = grind arith
+due_step : (t : Terms) (s : State) (h : Happened) (there : Bool) → is_end (asked t s).deed ≡ false → fits t.role s.stage ≡ true → has_them t.role t.goes_on s.stage s.has_users → t.session.is_followed ≡ t.goes_on → is_due t.role t.goes_on s.stage s.has_users there
+    → is_due t.role t.goes_on (after t s h).stage (after t s h).has_users (told_by (after t s h).words (tells_coming (asked t s).deed there))
+due_step t s h there goes f u same e = grind arith
 
 users_step : (t : Terms) (s : State) (h : Happened) → fits t.role s.stage ≡ true → has_them t.role t.goes_on s.stage s.has_users → has_them t.role t.goes_on (after t s h).stage (after t s h).has_users
 users_step t s h f u = grind arith
@@ -58,18 +57,18 @@ record IsTold (t : Terms) (s : State) (there : Bool) : Type 0 where
   users : has_them t.role t.goes_on s.stage s.has_users
   due : is_due t.role t.goes_on s.stage s.has_users there
 
-told : (t : Terms) (past : List (Ask × Happened)) → IsPast t past → IsTold t (state_of t past) (told_now past (state_of t past))
-told t = keeps t (λ past s. IsTold t s (told_now past s)) (record { fit = fit_first t; users = users_first t; due = due_first t })
-    (λ past s h goes e. record { fit = fit_step t s h e.fit; users = users_step t s h e.fit e.users; due = due_step t s h (told_now past s) goes e.fit e.users e.due })
+told : (t : Terms) (past : List (Ask × Happened)) → t.session.is_followed ≡ t.goes_on → IsPast t past → IsTold t (state_of t past) (told_now past (state_of t past))
+told t past same = keeps t (λ past s. IsTold t s (told_now past s)) (record { fit = fit_first t; users = users_first t; due = due_first t })
+    (λ past s h goes e. record { fit = fit_step t s h e.fit; users = users_step t s h e.fit e.users; due = due_step t s h (told_now past s) goes e.fit e.users same e.due }) past
 
-at_serve : (t : Terms) (s : State) (session : Session) (there : Bool) → t.role ≢ RemoteAwaits → t.goes_on ≡ true → (asked t s).deed ≡ deed.Serve session → is_due t.role t.goes_on s.stage s.has_users there → there ≡ true
-at_serve t s session there r k a e = grind arith
+at_serve : (t : Terms) (s : State) (session : Session) (there : Bool) → t.role ≢ RemoteAwaits → t.session.is_followed ≡ t.goes_on → (asked t s).deed ≡ deed.Serve session → is_due t.role t.goes_on s.stage s.has_users there → (session.is_followed ≡ t.goes_on) × (there ≡ false)
+at_serve t s session there r same a e = grind arith
 
 at_end : (t : Terms) (s : State) (n : ℕ) (there : Bool) → t.role ≢ RemoteAwaits → (asked t s).deed ≡ deed.End n → is_due t.role t.goes_on s.stage s.has_users there → there ≡ false
 at_end t s n there r a e = grind arith
 
-pub come : (t : Terms) (past : List (Ask × Happened)) (session : Session) → t.role ≢ RemoteAwaits → t.goes_on ≡ true → IsPast t past → (asks t past).deed ≡ deed.Serve session → told_by (asks t past).words (is_told_there past) ≡ true
-come t past session r k valid a = at_serve t (state_of t past) session (told_now past (state_of t past)) r k a (told t past valid).due
+pub come : (t : Terms) (past : List (Ask × Happened)) (session : Session) → t.role ≢ RemoteAwaits → t.session.is_followed ≡ t.goes_on → IsPast t past → (asks t past).deed ≡ deed.Serve session → (session.is_followed ≡ t.goes_on) × (told_by (asks t past).words (is_told_there past) ≡ false)
+come t past session r same valid a = at_serve t (state_of t past) session (told_now past (state_of t past)) r same a (told t past same valid).due
 
-pub gone : (t : Terms) (past : List (Ask × Happened)) (n : ℕ) → t.role ≢ RemoteAwaits → IsPast t past → (asks t past).deed ≡ deed.End n → told_by (asks t past).words (is_told_there past) ≡ false
-gone t past n r valid a = at_end t (state_of t past) n (told_now past (state_of t past)) r a (told t past valid).due
+pub gone : (t : Terms) (past : List (Ask × Happened)) (n : ℕ) → t.role ≢ RemoteAwaits → t.session.is_followed ≡ t.goes_on → IsPast t past → (asks t past).deed ≡ deed.End n → told_by (asks t past).words (is_told_there past) ≡ false
+gone t past n r same valid a = at_end t (state_of t past) n (told_now past (state_of t past)) r a (told t past same valid).due

@@ -19,7 +19,7 @@ use Rattle.ymx_policy.specs.declared.asks.Happened.TheVariants.{Listening, Faile
 use Rattle.ymx_policy.specs.declared.state.Stage.{Stage}
 use Rattle.ymx_policy.specs.declared.state.Stage.TheVariants as stage
 use Rattle.ymx_policy.specs.declared.state.State.{State}
-use Rattle.ymx_policy.specs.Table.{begins, begins_with_users, behind_peers, behind_users, behind_call, behind_session, behind_user, longer, spared, silence, tells, refusal, opened, gone_if, owes_gone, came, parting, serving, cannot_meet, first_fault, first_reason}
+use Rattle.ymx_policy.specs.Table.{begins, begins_with_users, behind_peers, behind_users, behind_call, behind_session, behind_user, longer, spared, silence, tells, refusal, opened, gone_if, owes_gone, parting, serving, cannot_meet, first_fault, first_reason}
 
 -- an end that has done nothing yet
 abbrev pub fresh : Terms → State
@@ -98,14 +98,14 @@ after_no_call role true peer refused s =
 
 -- the peer that it called is there, can't be reached, or is to come no more
 abbrev pub after_calling : Terms → State → Happened → State
-after_calling t s PeerCame = goes s (behind_call t.role s.has_users) (came t.goes_on)
+after_calling t s PeerCame = goes s (behind_call t.role s.has_users) silence
 after_calling t s AllCame = goes s stage.Over silence
 after_calling t s (Failed why) = after_no_call t.role t.goes_on t.peer (refusal (option.Peer t.peer) why) s
 after_calling t s other = after_no_call t.role t.goes_on t.peer None s
 
 -- the peer that it awaited is there, or none comes; who was turned away is told, and it goes on
 abbrev pub after_awaiting_peer : Terms → State → Happened → State
-after_awaiting_peer t s PeerCame = goes s stage.Serving (came t.goes_on)
+after_awaiting_peer t s PeerCame = goes s stage.Serving silence
 after_awaiting_peer t s (TurnedAway from) = goes s stage.AwaitingPeer (tells (notice.Stranger from))
 after_awaiting_peer t s AllCame = goes s stage.Over silence
 after_awaiting_peer t s (NoUsers why) = no_users t s None why

@@ -218,11 +218,6 @@ after_opening links t p LackedMemory = ends p None fault.OutOfMemory
 after_opening links t p (Failed why) = ends p (refusal (opening links t p.peers) why) (cannot_open links t p.peers)
 after_opening links t p other = ends p None (cannot_open links t p.peers)
 
--- what is told once a thread runs: that a peer has come, but nothing of links
-abbrev pub begun : (links : Bool) → Words
-begun true = silence
-begun false = tells notice.PeerCame
-
 -- what is told of a peer that was closed: where there was room for one, that it called from elsewhere, and else that all places are taken
 abbrev pub turned_away : (room : Bool) → (from : Option SocketAddrV4) → Words
 turned_away true from = tells (notice.Stranger from)
@@ -250,7 +245,7 @@ after_no_thread false t p why = rests (t.goes_on || p.has_served) t p (refusal o
 abbrev pub after_starting : (links : Bool) → Terms → Pool → PoolHappened → Pool
 after_starting links t p Started = record p {
   stage = behind_start links (one_more p.running t.places) t.places;
-  words = begun links;
+  words = silence;
   running = one_more p.running t.places;
   has_served = true;
 }

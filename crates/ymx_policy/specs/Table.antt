@@ -106,11 +106,6 @@ abbrev pub owes_gone : Role → Bool
 owes_gone LocalAwaits = true
 owes_gone role = false
 
--- with --keep it tells that a peer has come
-abbrev pub came : (kept : Bool) → Words
-came true = tells notice.PeerCame
-came false = silence
-
 -- What is said behind a session with this fault, for this reason: without --keep no more. With it also that the peer has gone: by
 -- `local` at first, by `remote` at last, and by one that awaits its peers not yet.
 abbrev pub parting : Role → (kept : Bool) → (why : Option Notice) → Option Fault → Words

@@ -53,7 +53,8 @@ pub struct Session {
     pub keepalive: Option<Keepalive>,
     /// The peer is asked for a sign of life at first, before which no user is given to it.
     pub is_sounded: bool,
-    /// Others wait for its end: what lingers behind it is cut off after a while.
+    /// Others wait for its end: what lingers behind it is cut off after a while. Once its peer gives a sign of life, that is
+    /// told to have come.
     pub is_followed: bool,
 }
 
@@ -97,7 +98,7 @@ pub enum Named {
 pub enum Notice {
     /// It listens here.
     Listening(SocketAddrV4),
-    /// A peer has come, after which others may.
+    /// A peer has given its first sign of life, in a session after which others may come.
     PeerCame,
     /// The peer has gone.
     PeerGone,

@@ -1,6 +1,6 @@
 //! What holds of each end, and of each pool, at each moment, whatever happens: in the words of a user.
 
-ghost use Rattle.std.specs.Prelude.{◌≡◌, ◌≢◌, ◌⊎◌, ◌<◌, ◌≤◌, ℕ, List, [], ◌∷◌, Bool, true, false, Some, None, is_some, length, map};
+ghost use Rattle.std.specs.Prelude.{◌≡◌, ◌≢◌, ◌⊎◌, ◌<◌, ◌≤◌, ◌||◌, ℕ, List, [], ◌∷◌, Bool, true, false, Some, None, is_some, length, map};
 ghost use Rattle.std.specs.declared.net.socket_addr.SocketAddrV4.{SocketAddrV4 as Address};
 ghost use Rattle.ymx_policy.specs.Past.{IsPast, asks, faults, notices, then_said, then_told};
 ghost use Rattle.ymx_policy.specs.Plans.{terms_of, address_of, has_pool, is_called, keepalive_of};
@@ -141,6 +141,7 @@ pub fn local_options()
     ensures sounded { (o : LocalGiven) → (is_some o.ping ≡ true) ⊎ (1 < o.links) → (terms_of (Plan.Local o)).session.is_sounded ≡ true }
     ensures unsounded { (o : LocalGiven) → o.ping ≡ None → o.links ≤ 1 → (terms_of (Plan.Local o)).session.is_sounded ≡ false }
     ensures side { (o : LocalGiven) → (terms_of (Plan.Local o)).session.side ≡ Side.Client }
+    ensures followed { (o : LocalGiven) → (terms_of (Plan.Local o)).session.is_followed ≡ o.is_kept }
     ensures keep { (o : LocalGiven) → (terms_of (Plan.Local o)).goes_on ≡ o.is_kept }
     ensures links { (o : LocalGiven) → (terms_of (Plan.Local o)).places ≡ o.links }
     ensures verbose { (o : LocalGiven) → (terms_of (Plan.Local o)).is_verbose ≡ o.is_verbose }
@@ -158,6 +159,7 @@ pub fn remote_options()
     ensures unlimited { (o : RemoteGiven) → o.timeout ≡ None → o.is_kept ≡ false → (terms_of (Plan.Remote o)).limit ≡ None }
     ensures from { (o : RemoteGiven) → (terms_of (Plan.Remote o)).from ≡ o.from }
     ensures sounded { (o : RemoteGiven) → (terms_of (Plan.Remote o)).session.is_sounded ≡ is_some o.ping }
+    ensures followed { (o : RemoteGiven) → (terms_of (Plan.Remote o)).session.is_followed ≡ (o.is_kept || is_some o.peers) }
     ensures keep { (o : RemoteGiven) → (terms_of (Plan.Remote o)).goes_on ≡ o.is_kept }
     ensures peers { (o : RemoteGiven) (n : ℕ) → o.peers ≡ Some n → (terms_of (Plan.Remote o)).places ≡ n }
     ensures unsaid { (o : RemoteGiven) → o.peers ≡ None → (terms_of (Plan.Remote o)).places ≡ 16 }
@@ -191,11 +193,12 @@ pub fn pools()
     ensures peers { (o : RemoteGiven) (n : ℕ) → is_called o.peer ≡ false → o.peers ≡ Some n → has_pool (Plan.Remote o) ≡ true }
 {}
 
-/// With `--keep` each session begins with a line that the peer has come, and each peer that was told to have come is told
-/// to have gone before the next is awaited, and before the end. Where users or peers can come is told.
+/// A session that others follow tells that its peer has come, once that gives a sign of life, and each peer that may have
+/// been told to have come is told to have gone before the next session, and before the end. Where users or peers can come is
+/// told.
 pub fn lines()
-    ensures come { (t : Told) (past : List (Asked × Heard)) (session : Served) → t.role ≢ Role.RemoteAwaits → t.goes_on ≡ true → IsPast t past → (asks t past).deed ≡ Deed.Serve session → told_by (asks t past).words (is_told_there past) ≡ true }
-    ensures gone { (t : Told) (past : List (Asked × Heard)) (n : ℕ) → t.role ≢ Role.RemoteAwaits → IsPast t past → (asks t past).deed ≡ Deed.End n → told_by (asks t past).words (is_told_there past) ≡ false }
+    ensures come { (t : Told) (past : List (Asked × Heard)) (session : Served) → t.role ≢ Role.RemoteAwaits → t.session.is_followed ≡ t.goes_on → IsPast t past → (asks t past).deed ≡ Deed.Serve session → (session.is_followed ≡ t.goes_on) × (told_by (asks t past).words (is_told_there past) ≡ false) }
+    ensures gone { (t : Told) (past : List (Asked × Heard)) (n : ℕ) → t.role ≢ Role.RemoteAwaits → t.session.is_followed ≡ t.goes_on → IsPast t past → (asks t past).deed ≡ Deed.End n → told_by (asks t past).words (is_told_there past) ≡ false }
     ensures users { (t : Told) (past : List (Asked × Heard)) (users : Awaited) (address : Address) → IsPast t past → (asks t past).deed ≡ Deed.ListenForUsers users → (asks t ((asks t past, Happened.Listening address) ∷ past)).words.first ≡ Some (Notice.Listening address) }
 {}
 

@@ -1,7 +1,7 @@
 //! Several sessions at once, each in a thread of its own: where such a pool has come to, and where what happens leads it.
 
 ghost use Rattle.std.specs.Prelude.{◌≡◌};
-ghost use Rattle.ymx_policy.specs.PoolTable.{fresh, asked, deed_at, listening, after, goes, ends, settles, settles_at, has_links, heeds, shuts, shuts_for, rests, left, meets, after_users, after_peers, after_last, after_calling, after_opening, after_no_thread, after_starting, after_waiting, after_placing, clean, first_rule, first_notice, both, begins, behind_opening, one_more, behind_call, behind_start, settled, ending_at, cause_at, has_room, turned_away, opening, cannot_open, peers_at, begun, unlinked, leaving, lost_links, serving, let_in};
+ghost use Rattle.ymx_policy.specs.PoolTable.{fresh, asked, deed_at, listening, after, goes, ends, settles, settles_at, has_links, heeds, shuts, shuts_for, rests, left, meets, after_users, after_peers, after_last, after_calling, after_opening, after_no_thread, after_starting, after_waiting, after_placing, clean, first_rule, first_notice, both, begins, behind_opening, one_more, behind_call, behind_start, settled, ending_at, cause_at, has_room, turned_away, opening, cannot_open, peers_at, unlinked, leaving, lost_links, serving, let_in};
 
 use crate::asks::{
     Callee, Fault, Named, Notice, Peers, PoolAsk, PoolDeed, PoolHappened, SessionEnd, Words,
@@ -274,10 +274,7 @@ impl Pool {
             PoolHappened::Started => {
                 self.running = one_more(self.running, terms.places);
                 self.has_served = true;
-                self.go(
-                    behind_start(links, self.running, terms.places),
-                    begun(links),
-                );
+                self.go(behind_start(links, self.running, terms.places), silence());
             }
             PoolHappened::Failed(why) => self.hear_no_thread(links, terms, why),
             _ => self.hear_no_thread(links, terms, None),
@@ -632,17 +629,6 @@ fn peers_at(links: bool, heard: SocketAddrV4, peers: SocketAddrV4) -> SocketAddr
     ensures { result ≡ peers_at links heard peers }
 {
     if links { peers } else { heard }
-}
-
-/// What is told once a thread runs.
-fn begun(links: bool) -> Words
-    ensures { result ≡ begun links }
-{
-    if links {
-        silence()
-    } else {
-        tells(Notice::PeerCame)
-    }
 }
 
 /// What is told of a peer that was closed, where there was room for one, or none: that it called from elsewhere, or that all

@@ -9,7 +9,7 @@ use crate::plan::{Role, Terms};
 use crate::reason::Reason;
 use crate::table::{
     begins, begins_with_users, behind_call, behind_peers, behind_session, behind_user,
-    behind_users, came, cannot_meet, first_fault, first_reason, gone_if, longer, opened, owes_gone,
+    behind_users, cannot_meet, first_fault, first_reason, gone_if, longer, opened, owes_gone,
     parting, refusal, serving, silence, spared, tells,
 };
 use std::net::SocketAddrV4;
@@ -207,9 +207,7 @@ impl State {
         ensures { self.new ≡ after_calling terms.now self.old happened }
     {
         match happened {
-            Happened::PeerCame => {
-                self.go(behind_call(terms.role, self.has_users), came(terms.goes_on));
-            }
+            Happened::PeerCame => self.go(behind_call(terms.role, self.has_users), silence()),
             Happened::AllCame => self.go(Stage::Over, silence()),
             Happened::Failed(why) => self.hear_no_call(
                 terms,
@@ -262,7 +260,7 @@ impl State {
         ensures { self.new ≡ after_awaiting_peer terms.now self.old happened }
     {
         match happened {
-            Happened::PeerCame => self.go(Stage::Serving, came(terms.goes_on)),
+            Happened::PeerCame => self.go(Stage::Serving, silence()),
             Happened::TurnedAway(from) => {
                 self.go(Stage::AwaitingPeer, tells(Notice::Stranger(from)));
             }

@@ -1,7 +1,7 @@
 //! The tables that an end goes by: where it goes, what it says, and which fault it is.
 
 ghost use Rattle.std.specs.Prelude.{◌≡◌};
-ghost use Rattle.ymx_policy.specs.Table.{begins, begins_with_users, behind_peers, behind_users, behind_call, behind_session, behind_user, longer, spared, silence, tells, refusal, broken_rule, opened, gone_if, owes_gone, came, parting, serving, cannot_meet, first_fault, first_reason};
+ghost use Rattle.ymx_policy.specs.Table.{begins, begins_with_users, behind_peers, behind_users, behind_call, behind_session, behind_user, longer, spared, silence, tells, refusal, broken_rule, opened, gone_if, owes_gone, parting, serving, cannot_meet, first_fault, first_reason};
 
 use crate::asks::{Fault, Named, Notice, SessionEnd, Words};
 use crate::plan::Role;
@@ -183,17 +183,6 @@ pub(crate) fn owes_gone(role: Role) -> bool
     match role {
         Role::LocalAwaits => true,
         _ => false,
-    }
-}
-
-/// What it tells once a peer is there.
-pub(crate) fn came(is_kept: bool) -> Words
-    ensures { result ≡ came is_kept }
-{
-    if is_kept {
-        tells(Notice::PeerCame)
-    } else {
-        silence()
     }
 }
 
