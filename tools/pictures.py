@@ -91,7 +91,7 @@ def screens():
             with begun(here(LOCAL)) as local:
                 local("listening at")
                 page = printed(here(USER))
-                told = "(ended)\n"
+                told = " s\n"
                 at_local, at_remote = local(told), remote(told)
     yield "the frames of a file", FRAMES, frames
     yield "beside the service, a web server at 127.0.0.1:8000", REMOTE, shown(at_remote)
@@ -100,7 +100,7 @@ def screens():
 
 
 def terminal():
-    width, left, step, y = 800, 16, 17, 14
+    width, left, step, y = 840, 16, 17, 14
     lines = []
     for title, command, told in screens():
         lines.append(f'  <text x="{left}" y="{y + 12}">{title}</text>')

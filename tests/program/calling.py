@@ -13,7 +13,7 @@ import time
 import raw
 from beside import Peer, swap
 from kept import BYTES, COME, GONE, LOST, SESSIONS, SETTLED, WHOLE
-from kept import connection, finish, is_refused, listen_again, rests, says, used
+from kept import connection, finish, is_refused, listen_again, rests, says, show, used
 from raw import ACK, ANY, FIN, NOT_HERE, NOWHERE, PING, SYN, Program, refused
 from raw import accept, break_off, call, frame, free_place, free_places, has_ended, is_cut, leave, listen, take
 
@@ -142,6 +142,7 @@ def a_peer_that_is_called_again():
     listener = listen_again(place)
     for turn in 1, 2, 3:
         peer = accept(listener)
+        show(peer)
         # Calls may have failed until the listener was there.
         while (line := program.line()) in (refused(place), unreached):
             pass
@@ -176,7 +177,7 @@ def pauses():
 
 
 def a_session_that_soon_ends():
-    """A peer that goes at once is called again after a second, and then after two. Where this process is held up, a
+    """A peer that goes at once isn't told to have come, and is called again after a second, and then after two. Where this process is held up, a
     session may last for a second, and the next call then comes early; so it is tried again."""
     for attempt in range(ATTEMPTS):
         program, listener, _, _ = calling("--keep")
@@ -187,7 +188,7 @@ def a_session_that_soon_ends():
             passed = time.monotonic() - began
             if passed < seconds - EARLY:
                 early = f"{passed} seconds, and not {seconds}"
-            says(program, COME, GONE)
+            says(program, GONE)
         if early is None:
             return
     raise AssertionError(early)
@@ -197,6 +198,7 @@ def a_peer_that_calls_again():
     """Connections are closed while no peer is there, and served again once one is."""
     program, place, peer = awaiting("--keep", "--count", "4")
     users = program.place()
+    show(peer.connection)
     says(program, COME)
     user = call(users)
     peer.accept(1)
@@ -208,6 +210,7 @@ def a_peer_that_calls_again():
     assert is_cut(call(users))
     says(program, connection(2, "no stream: Lost"))
     peer = Peer(call(place))
+    show(peer.connection)
     says(program, COME)
     assert is_refused(place), "a second peer is connected"
     for turn, stream in (3, 1), (4, 3):
@@ -225,7 +228,7 @@ def a_count_that_ends_without_a_peer():
     program, _, peer = awaiting("--keep", "--count", "1")
     users = program.place()
     leave(peer.connection)
-    says(program, COME, GONE)
+    says(program, GONE)
     assert is_cut(call(users))
     assert program.end() == (0, connection(1, "no stream: Lost"))
 
@@ -234,6 +237,7 @@ def a_place_that_is_taken():
     """Somebody else listens for the peer once it has gone."""
     program, place, peer = awaiting("--keep")
     program.place()
+    show(peer.connection)
     says(program, COME)
     with listen_again(place):
         leave(peer.connection)
@@ -245,6 +249,7 @@ def many_peers():
     program, place, peer = awaiting("--keep")
     users = program.place()
     for number in range(1, SESSIONS + 1):
+        show(peer.connection)
         says(program, COME)
         user = call(users)
         peer.accept(1)
@@ -256,6 +261,7 @@ def many_peers():
         if number == SETTLED:
             before = used(program)
         peer = Peer(call(place))
+    show(peer.connection)
     says(program, COME)
     # One more socket is open, that of the last peer.
     files, memory = used(program)
@@ -264,17 +270,17 @@ def many_peers():
 
 
 def killed_programs():
-    """Both keep. Each is killed once, and comes again at the same places."""
+    """Both keep, and ask each other for signs of life. Each is killed once, and comes again at the same places."""
     users, meeting = free_places(2)
     target, address = listen()
 
     def near_side():
-        program = Program("local", "-v", "--keep", "--bind", meeting, "--listen", users)
+        program = Program("local", "-v", "--keep", "--bind", meeting, "--listen", users, "--ping", "60")
         says(program, f"ymx: listening at {meeting}\n")
         return program
 
     def far_side():
-        return Program("remote", "-v", "--keep", "--peer", meeting, "--target", address)
+        return Program("remote", "-v", "--keep", "--peer", meeting, "--target", address, "--ping", "60")
 
     def ask():
         user = call(users)

@@ -11,7 +11,6 @@ import socket
 import sys
 
 import raw
-from kept import COME, says
 from raw import ANY, Program, accept, call, free_place, listen, take
 
 # the call of the system that makes a descriptor of another process one of this one
@@ -88,7 +87,6 @@ def told_of_caller(wanted, *words):
     local = Program("local", "-v", "--keep", "--listen", ANY, "--bind", peers, *words)
     places = {local.place(), local.place()} - {peers}
     remote = Program("remote", "-v", "--peer", peers, "--target", address, *words)
-    says(local, COME)
     user = call(places.pop())
     user.sendall(b"?")
     other = accept(target)

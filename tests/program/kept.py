@@ -54,6 +54,11 @@ def listen_again(address):
     return socket.create_server((host, int(port)))
 
 
+def show(connection):
+    """Gives a sign of life, which needs no answer: it is the answer to no question."""
+    connection.sendall(frame(PING, ACK, 0, 1 << 31))
+
+
 def connection(number, how):
     return f"ymx: connection {number}: {how}\n"
 
@@ -79,6 +84,7 @@ def local_kept(*words, files=None):
     place = program.place()
     user = call(place)
     peer = accept(listener)
+    show(peer)
     says(program, COME)
     return program, place, user, Peer(peer), listener
 
@@ -91,8 +97,8 @@ def three_peers():
     program, place, target = remote_kept()
     for turn in 1, 2, 3:
         peer = Peer(call(place))
-        says(program, COME)
         peer.open(1)
+        says(program, COME)
         other = accept(target)
         swap(peer, 1, other, BYTES)
         if turn == 2:
@@ -140,12 +146,13 @@ def peers_at_once():
 
 
 def a_place_for_each():
-    """A further peer is closed, and served once one has gone. One that says nothing hinders nobody else."""
+    """A further peer is closed, and served once one has gone. One that says nothing hinders nobody else, and isn't told to
+    have come."""
     program, place, _ = remote_kept("--peers", "3")
     silent = call(place)
     peers = [call(place) for _ in range(2)]
     assert is_served(peers[0]) and is_served(peers[1])
-    says(program, COME, COME, COME)
+    says(program, COME, COME)
     further = call(place)
     assert has_ended(further), "there are four"
     says(program, "ymx: closed a peer too many from {}:{}\n".format(*further.getsockname()))
@@ -180,7 +187,7 @@ def peers_without_keep():
 
 
 def a_fault_among_peers():
-    """It is told at the end, and the others are served."""
+    """It is told at the end, and the others are served. Who breaks a rule at first isn't told to have come."""
     program = Program("remote", "-v", "--peers", "2", "--bind", ANY, "--target", ANY)
     place = program.place()
     peers = [call(place), call(place)]
@@ -192,7 +199,7 @@ def a_fault_among_peers():
     peers[1].close()
     assert is_served(peers[0])
     leave(peers[0])
-    assert program.end() == (1, f"{COME}{COME}{GONE}{GONE}{why}ymx: session broken: B1\n")
+    assert program.end() == (1, f"{COME}{GONE}{GONE}{why}ymx: session broken: B1\n")
 
 
 def remote_without_thread(number, *words):
@@ -256,8 +263,8 @@ def a_peer_that_never_closes():
     """One that ends its side, and neither reads nor closes, holds its place for some seconds, and no longer."""
     program, place, target = remote_kept("--peers", "1")
     peer = Peer(call(place))
-    says(program, COME)
     peer.open(1)
+    says(program, COME)
     other = accept(target)
     other.setblocking(False)
     try:
@@ -279,15 +286,16 @@ def a_peer_that_breaks_the_rules():
     """The fault is told, and the next peer is served."""
     program, place, _ = remote_kept()
     peer = call(place)
+    show(peer)
     says(program, COME)
     peer.sendall(BAD)
     while peer.recv(4096):
         pass
     says(program, broke(peer), "ymx: session broken: B1\n", GONE)
     peer = call(place)
-    says(program, COME)
     peer.sendall(frame(PING, SYN, 0, 7))
     assert take(peer, 12) == frame(PING, ACK, 0, 7)
+    says(program, COME)
 
 
 def rests(program, own=1):
@@ -346,6 +354,7 @@ def a_peer_that_comes_again():
     with listen_again(address) as listener:
         users = [call(place)]
         peer = Peer(accept(listener))
+        show(peer.connection)
         says(program, COME)
         users.append(call(place))
     for user, stream in zip(users, (1, 3)):
@@ -407,6 +416,7 @@ def no_peer_at_first():
     with listen_again(address) as listener:
         user = call(place)
         peer = Peer(accept(listener))
+        show(peer.connection)
         says(program, COME)
         peer.accept(1)
         swap(peer, 1, user, BYTES)
@@ -452,10 +462,11 @@ def a_killed_peer():
 
 
 def without_keep():
-    """No line says that a peer has come, as it was there before it listened."""
+    """No line says that a peer has come."""
     program, peer = local("--count", "0")
     place = program.line()
     assert place.startswith("ymx: listening at "), place
+    show(peer)
     peer.close()
     assert program.end() == (0, "")
 

@@ -10,6 +10,7 @@ test with that is left out where there is none.
 import hashlib
 import os
 import random
+import re
 import select
 import socket
 import sys
@@ -18,11 +19,13 @@ import time
 
 import raw
 from beside import Peer, swap
-from kept import COME, LOST, WHOLE, connection, finish, is_refused, says
+from kept import COME, LOST, WHOLE, connection, finish, is_refused, says, show
 from raw import ACK, ANY, BAD, GONE, NOT_HERE, PING, SYN, WINDOW, Program, broke, refused
 from raw import accept, break_off, call, free_place, frame, has_ended, is_cut, leave, listen, preloaded, preloads, take
 
 BYTES = random.Random(11).randbytes(300_000)
+# How long a connection lasts, in seconds, and how much less than that its line may say, as two processes count it.
+LASTING, EARLY = 0.25, 0.01
 # What goes through both ends: so many connections, so many at once, over so many links.
 CONNECTIONS, AT_ONCE, LINKS = 1_000, 20, 4
 FIRST = frame(WINDOW, SYN, 1, 0)
@@ -174,6 +177,34 @@ def lost_behind_the_last():
     assert program.end() == (0, f"{ended}{GONE}{GONE}")
 
 
+def which_link_and_how_long():
+    """The line of each connection names its link, those of two at once another one, and how long it lasted."""
+    program, place, links, _ = local_links(2, "--count", "2")
+    began = time.monotonic()
+    users, homes = [], []
+    for _ in links:
+        users.append(call(place))
+        homes.append(which(links, 1))
+    time.sleep(LASTING)
+    # One after another, so that the lines come in this order.
+    lines = []
+    for home, user in zip(homes, users):
+        finish(home, 1, user)
+        lines.append(program.process.stderr.readline().decode())
+    ended = time.monotonic()
+    numbers = set()
+    for number, line in enumerate(lines, 1):
+        shape = rf"ymx: connection {number} from 127\.0\.0\.1:\d+ by link ([12]): 0 bytes to the peer \(ended\), 0 bytes from the peer \(ended\), (\d+\.\d{{3}}) s\n"
+        said = re.fullmatch(shape, line)
+        assert said, line
+        numbers.add(said[1])
+        assert LASTING <= float(said[2]) + EARLY and float(said[2]) <= ended - began + EARLY, (line, ended - began)
+    assert numbers == {"1", "2"}, lines
+    for link in links:
+        leave(link.connection)
+    assert program.end()[0] == 0
+
+
 def no_links_at_first():
     """All are made, or none: a peer that can't be reached is told before anybody listens."""
     place, peer = free_place(), free_place()
@@ -189,10 +220,12 @@ def links_are_called_again():
     program, place, listener = local_kept(2, "--count", "4")
     first = call(place)
     one = Peer(accept(listener))
+    show(one.connection)
     says(program, COME)
     one.accept(1)
     second = call(place)
     other = Peer(accept(listener))
+    show(other.connection)
     says(program, COME)
     other.accept(1)
     swap(one, 1, first, BYTES)
@@ -204,6 +237,7 @@ def links_are_called_again():
     says(program, connection(2, "0 bytes to the peer (lost), 0 bytes from the peer (lost)"), GONE, why, "ymx: session broken: B1\n")
     third = call(place)
     again = Peer(accept(listener))
+    show(again.connection)
     says(program, COME)
     again.accept(1)
     swap(again, 1, third, BYTES)
@@ -224,6 +258,7 @@ def a_peer_that_is_away():
     program, place, listener = local_kept(2)
     first = call(place)
     one = Peer(accept(listener))
+    show(one.connection)
     says(program, COME)
     one.accept(1)
     address = "{}:{}".format(*listener.getsockname())
@@ -319,6 +354,7 @@ TESTS = (
     ("a link that breaks", a_broken_link, ()),
     ("links that are lost before the count", lost_before_the_count, ()),
     ("links that are lost behind the last", lost_behind_the_last, ()),
+    ("which link, and how long", which_link_and_how_long, ()),
     ("no links at first", no_links_at_first, ()),
     ("links that are called again", links_are_called_again, ()),
     ("a peer that is away", a_peer_that_is_away, ()),

@@ -131,9 +131,12 @@ def break_off(connection):
 
 
 def without_origins(said):
-    """What it says, where each line of a connection has said who it is from: somebody of this machine."""
-    plain, count = re.subn(r"^(ymx: connection \d+) from 127\.0\.0\.1:\d+: ", r"\1: ", said, flags=re.MULTILINE)
+    """What it says, where each line of a connection has said who it is from, somebody of this machine, and where it had a
+    stream how long it lasted. A link may be named."""
+    plain, count = re.subn(r"^(ymx: connection \d+) from 127\.0\.0\.1:\d+(?: by link \d+)?: ", r"\1: ", said, flags=re.MULTILINE)
     assert count == len(re.findall("^ymx: connection ", said, re.MULTILINE)), f"somebody of no address: {said!r}"
+    plain, count = re.subn(r"^(ymx: connection \d+: .* from the peer \(.*\)), \d+\.\d{3} s$", r"\1", plain, flags=re.MULTILINE)
+    assert count == len(re.findall(" from the peer ", said)), f"of no duration: {said!r}"
     return plain
 
 
@@ -429,7 +432,8 @@ def who_it_is_from():
     for end, who in (program, user), (far, caller):
         place = "{}:{}".format(*who.getsockname())
         line = end.process.stderr.readline().decode()
-        assert line == f"ymx: connection 1 from {place}: 0 bytes to the peer (ended), 0 bytes from the peer (ended)\n", line
+        shape = f"ymx: connection 1 from {place}: 0 bytes to the peer (ended), 0 bytes from the peer (ended), "
+        assert re.fullmatch(re.escape(shape) + r"\d+\.\d{3} s\n", line), line
 
 
 def bad_words():

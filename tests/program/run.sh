@@ -98,9 +98,9 @@ through() {
     both_end && [ "$(cat answer)" = hello ]
 }
 
-# told FILE: what it says, but for who its connections are from
+# told FILE: what it says, but for who its connections are from, and how long they lasted
 told() {
-    sed 's/^\(ymx: connection [0-9]*\) from 127\.0\.0\.1:[0-9]*: /\1: /' "$1" > told
+    sed 's/^\(ymx: connection [0-9]*\) from 127\.0\.0\.1:[0-9]*: \(.*\), [0-9]*\.[0-9][0-9][0-9] s$/\1: \2/' "$1" > told
     echo told
 }
 
@@ -153,7 +153,7 @@ python3 "$here/ends.py" ask "$(port_of local_err)" > answer 2> answer_err || tru
 holds 'both end well without a target' both_end
 end='ymx: connection 1: 0 bytes to the peer (connection failed: refused), 0 bytes from the peer (connection failed: refused)'
 holds 'what remote -v says without a target' cmp -s "$(told remote_err)" "$(says "ymx: listening at 127.0.0.1:$peer" "$end" "$gone")"
-holds 'what local -v says without a target' grep -q '^ymx: connection 1 from 127.0.0.1:[0-9]*: .* bytes to the peer (.*), 0 bytes from the peer (.*)$' local_err
+holds 'what local -v says without a target' grep -q '^ymx: connection 1 from 127.0.0.1:[0-9]*: .* bytes to the peer (.*), 0 bytes from the peer (.*), [0-9]*\.[0-9][0-9][0-9] s$' local_err
 
 holds 'both ends, frame by frame' python3 "$here/raw.py" "$ymx"
 holds 'connections beside others' python3 -B "$here/beside.py" "$ymx"

@@ -107,7 +107,8 @@ def speak(sides):
 
 
 def bytes_that_are_no_frames(name):
-    """One who sends a byte now and then, but no frame, is given up as one who is silent. His place is another's then."""
+    """One who sends a byte now and then, but no frame, isn't told to have come, and is given up as one who is silent. His
+    place is another's then."""
     words = ("--keep", "--peers", "1") if name == "remote" else ("--keep",)
     sides = Sides(name, *words)
     user = call(sides.place) if name == "local" else None
@@ -123,7 +124,7 @@ def bytes_that_are_no_frames(name):
     if name == "local":
         assert is_cut(user), "he was given a user"
     if name == "remote":
-        says(sides.program, COME, GONE)
+        says(sides.program, GONE)
     following = call(sides.bound)
     sides.peer = following
     following.sendall(frame(PING, ACK, 0, question(following)))
@@ -186,9 +187,9 @@ def send_slowly(sides):
 def a_wire_that_is_stuck():
     """The peer neither reads nor says anything, while bytes for it wait. `remote` goes on with others."""
     sides = Sides("remote", "--keep")
-    says(sides.program, COME)
     question(sides.peer)
     sides.peer.sendall(frame(0x1, SYN, 1, 1 << 24))
+    says(sides.program, COME)
     other = accept(sides.target)
     other.setblocking(False)
     began = time.monotonic()

@@ -76,19 +76,19 @@ def of_local(*words):
     assert is_closed(stranger), "a stranger is let in"
     says(program, closed(stranger))
     peer = call_from(FRIEND, bound)
+    assert is_served(peer)
     if words:
         says(program, COME)
-    assert is_served(peer)
     call(place)
     assert take(peer, 12) == frame(WINDOW, SYN, 1, 0)
 
 
 def silent_ones():
-    """As many as there are places hold them for twice the seconds of --ping, and no longer. One more is closed at once."""
+    """As many as there are places hold them for twice the seconds of --ping, and no longer. One more is closed at once. None
+    is told to have come."""
     program = Program("remote", "-v", "--keep", "--ping", "1", "--bind", ANY, "--target", ANY)
     place = program.place()
     silent = [call(place) for _ in range(PLACES)]
-    says(program, *[COME] * PLACES)
     further = call(place)
     assert is_closed(further), "it is let in"
     says(program, closed(further, "peer too many"), *[GONE] * PLACES)

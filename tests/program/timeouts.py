@@ -123,8 +123,8 @@ def a_late_answer():
     time.sleep(ANSWER)
     silent.answer()
     peer = Peer(accept(silent.listener))
-    says(program, COME)
     peer.accept(1)
+    says(program, COME)
     peer.send(1, b"hello")
     assert user.recv(5) == b"hello"
 
@@ -136,8 +136,8 @@ def behind_a_lost_session():
     place = program.place()
     first = call(place)
     peer = Peer(accept(listener))
-    says(program, COME)
     peer.accept(1)
+    says(program, COME)
     break_off(peer.connection)
     assert is_cut(first)
     second = call(place)

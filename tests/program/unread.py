@@ -118,7 +118,7 @@ def a_full_pipe():
     last = serve(place, peer, 2 * USERS + 1)
     assert program.empty() == "", "a line was said"
     finish(peer, 2 * USERS - 1, user)
-    # where it listens, that the peer has come, and each user but the last two
+    # where it listens, that the peer has come, as it took a stream, and each user but the last two
     dropped, line = program.lines(2)
     assert dropped == f"ymx: {2 + USERS - 1} lines were dropped\n", dropped
     assert line.startswith(f"ymx: connection {USERS} from "), line

@@ -1,3 +1,4 @@
+pub mod Coming
 pub mod Counts
 pub mod Doors
 pub mod Echoes
@@ -6,6 +7,7 @@ pub mod Looks
 pub mod Events
 pub mod Loops
 pub mod Offers
+pub mod Saying
 pub mod Served
 pub mod Sessions
 pub mod Sides

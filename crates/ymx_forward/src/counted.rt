@@ -8,8 +8,8 @@ use crate::system::TcpConnection;
 use crate::watching::{Declined, EndedConnection, Origin, Watcher};
 use std::sync::{Mutex, Wait};
 use std::time::{Clock, Instant};
-use ymx_policy::{Named, Notice, Reason};
 use ymx_page::{Counts, Known, Shown};
+use ymx_policy::{Named, Notice, Reason};
 
 /// What is counted of an end, where those who ask see it.
 #[derive(Drop)]
@@ -90,6 +90,10 @@ impl<R: Clock + Wait, V: ProgramWatcher> Watcher for Counted<'_, R, V> {
         self.known.note_peer(is_there);
         self.counters.show(self.rt, &self.known);
         self.watcher.peer(is_there);
+    }
+
+    fn came(&mut self) {
+        self.watcher.came();
     }
 }
 

@@ -1,6 +1,6 @@
 //! One of several links to the peer of a `local`, which runs in a thread of its own.
 
-ghost use Rattle.std.specs.Prelude.{◌≡◌, None};
+ghost use Rattle.std.specs.Prelude.{◌≡◌, None, Some};
 
 use crate::end::EndSockets;
 use crate::host::Host;
@@ -36,6 +36,8 @@ pub(crate) struct Link {
     pub(crate) reported: Arc<Inbox, Global>,
     /// None where the peer is called only for a user.
     pub(crate) peer: Option<Peer>,
+    /// Its number: 1, 2, 3, ..
+    pub(crate) number: u32,
 }
 
 /// A link that is to run.
@@ -101,13 +103,18 @@ impl<'a, R: Wait> Errors<Reports<'a, R>> for ReportedErrors {
 struct LinkWatcher<'a, R: Wait, V: ProgramWatcher> {
     shared: Shared<'a, R, V>,
     inbox: Arc<Inbox, Global>,
+    /// The number of the link.
+    number: u32,
 }
 
 impl<R: Wait, V: ProgramWatcher> Watcher for LinkWatcher<'_, R, V> {
     ghost counts = { λ _. None };
 
-    fn begins(&mut self, from: &TcpConnection) -> Origin {
-        self.shared.begins(from)
+    fn begins(&mut self, from: &TcpConnection) -> Origin
+        // It is by this link.
+        ensures link { result.link ≡ Some self.old.number }
+    {
+        self.shared.begins(from).by_link(self.number)
     }
 
     fn ended(&mut self, origin: Origin, ended: &EndedConnection) {
@@ -130,6 +137,10 @@ impl<R: Wait, V: ProgramWatcher> Watcher for LinkWatcher<'_, R, V> {
 
     fn peer(&mut self, is_there: bool) {
         self.shared.peer(is_there);
+    }
+
+    fn came(&mut self) {
+        self.shared.came();
     }
 }
 
@@ -181,12 +192,14 @@ impl LinkJob {
             counted,
             reported,
             peer,
+            number,
         } = link;
         let rt = shared.rt;
         let site = Site::over(rt, alloc, poll);
         let mut watcher = LinkWatcher {
             shared,
             inbox: counted,
+            number,
         };
         let mut reports = Reports {
             rt,

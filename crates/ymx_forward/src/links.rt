@@ -204,6 +204,7 @@ impl<'a, R: Host> LinkSockets<'a, R> {
         self.inboxes.push(Arc::try_clone(&inbox)?)?;
         let counted = Arc::try_clone(&inbox)?;
         let reported = Arc::try_clone(&inbox)?;
+        let number = u32::try_from(self.inboxes.len()).unwrap_or(u32::MAX);
         let link = Link {
             poll,
             end,
@@ -211,6 +212,7 @@ impl<'a, R: Host> LinkSockets<'a, R> {
             counted,
             reported,
             peer,
+            number,
         };
         self.links.push(link)?;
         Ok(())

@@ -1,13 +1,19 @@
 //! What `-v` asks for: lines about a tunnel while it runs.
 
-ghost use Rattle.std.specs.Prelude.{None};
+ghost use Rattle.std.specs.Prelude.{◌≡◌, None, Option};
+ghost use Rattle.std.specs.declared.time.Instant.{Instant as Moment};
+ghost use Rattle.ymx_forward.specs.Saying.{Says};
+ghost use Rattle.ymx_page.specs.Counts.{more};
+ghost use Rattle.ymx_page.specs.Told.{end_text, refusal_text};
 
 use crate::stream::Stream;
 use crate::system::TcpConnection;
 use crate::watching::{Declined, EndedConnection, Origin, Watcher};
+use std::net::SocketAddr;
+use std::time::{Clock, Instant};
 use ymx_model::{Outlet, push_all};
-use ymx_policy::{Named, Notice, Reason, notice_text};
 use ymx_page::{end_line, refusal_line};
+use ymx_policy::{Named, Notice, Reason, notice_text};
 
 /// What is said where the peer has gone.
 const GONE: &str = "ymx: the peer has gone\n";
@@ -21,20 +27,28 @@ pub(crate) trait ProgramWatcher: Watcher {
 /// Says that a tunnel is ready, and how each of its connections ended, a line each. Where the device fails the line is
 /// lost, and nobody is told.
 #[derive(Drop)]
-pub(crate) struct Notices<'a, L: Outlet> {
+pub(crate) struct Notices<'a, R: Clock, L: Outlet> {
+    rt: &'a R,
     device: &'a mut L,
     /// How many connections have begun. It stays at the greatest `u64`.
     begun: u64,
 }
 
-impl<'a, L: Outlet> Notices<'a, L> {
+impl<'a, R: Clock, L: Outlet> Notices<'a, R, L> {
     /// Says its lines on this device.
-    pub(crate) fn new(device: &'a mut L) -> Notices<'a, L> {
-        Notices { device, begun: 0 }
+    pub(crate) fn new(rt: &'a R, device: &'a mut L) -> Notices<'a, R, L> {
+        Notices {
+            rt,
+            device,
+            begun: 0,
+        }
     }
 
-    /// Says this text.
-    fn say(&mut self, text: &str) {
+    /// Says this text, as much of it as the device takes.
+    fn say(&mut self, text: &str)
+        ensures said { Says text.now (L.contents self.old.device.now) (L.contents self.new.device.now) }
+        ensures kept { self.new.begun ≡ self.old.begun }
+    {
         let _ = push_all(&mut *self.device, text.as_bytes());
     }
 
@@ -44,22 +58,37 @@ impl<'a, L: Outlet> Notices<'a, L> {
     }
 }
 
-impl<L: Outlet> Watcher for Notices<'_, L> {
+impl<R: Clock, L: Outlet> Watcher for Notices<'_, R, L> {
     ghost counts = { λ _. None };
 
-    fn begins(&mut self, from: &TcpConnection) -> Origin {
+    fn begins(&mut self, from: &TcpConnection) -> Origin
+        ensures number { (result.number ≡ self.new.begun) × (self.new.begun ≡ more self.old.begun 1) }
+        ensures silent { L.contents self.new.device.now ≡ L.contents self.old.device.now }
+    {
         self.begun = self.begun.saturating_add(1);
+        let from = match from.peer() {
+            Some(SocketAddr::V4(address)) => Some(address),
+            _ => None,
+        };
         Origin {
             number: self.begun,
-            from: from.peer(),
+            from,
+            link: None,
+            began: Instant::now(self.rt).ok(),
         }
     }
 
-    fn ended(&mut self, origin: Origin, ended: &EndedConnection) {
-        self.say(end_line(origin, ended).as_str());
+    // The line says when it ended by the clock, which no contract knows.
+    fn ended(&mut self, origin: Origin, ended: &EndedConnection)
+        ensures { (now : Option Moment) × Says (end_text origin ended.now now) (L.contents self.old.device.now) (L.contents self.new.device.now) }
+    {
+        let now = Instant::now(self.rt).ok();
+        self.say(end_line(origin, ended, now).as_str());
     }
 
-    fn refused(&mut self, origin: Origin, why: Declined) {
+    fn refused(&mut self, origin: Origin, why: Declined)
+        ensures { Says (refusal_text origin why) (L.contents self.old.device.now) (L.contents self.new.device.now) }
+    {
         self.say(refusal_line(origin, why).as_str());
     }
 
@@ -72,4 +101,8 @@ impl<L: Outlet> Watcher for Notices<'_, L> {
     }
 
     fn peer(&mut self, _is_there: bool) {}
+
+    fn came(&mut self) {
+        self.say_notice(Notice::PeerCame);
+    }
 }

@@ -115,7 +115,7 @@ fn run_unwatched<R: Host + Threads + Sync, E: Outlet + Send, L: Outlet + Send>(
     if plan.terms().is_verbose {
         let watch = Watch {
             alloc,
-            watcher: Notices::new(lines),
+            watcher: Notices::new(rt, lines),
             drain: None,
         };
         run_told(rt, watch, plan, errors)
@@ -173,7 +173,7 @@ fn run_counted<R: Host + Threads + Sync, E: Outlet + Send, L: Outlet + Send>(
     let status = if plan.terms().is_verbose {
         let watch = Watch {
             alloc: board.alloc,
-            watcher: board.counted(rt, Notices::new(lines)),
+            watcher: board.counted(rt, Notices::new(rt, lines)),
             drain: board.drain(),
         };
         run_told(rt, watch, plan, errors)

@@ -47,4 +47,9 @@ impl<R: Wait, V: ProgramWatcher> Watcher for Shared<'_, R, V> {
         let mut watcher = self.watcher.lock(self.rt);
         watcher.peer(is_there);
     }
+
+    fn came(&mut self) {
+        let mut watcher = self.watcher.lock(self.rt);
+        watcher.came();
+    }
 }

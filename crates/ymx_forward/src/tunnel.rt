@@ -15,6 +15,7 @@ ghost use Rattle.ymx_forward.specs.Ended.{declined_for};
 ghost use Rattle.ymx_forward.specs.Events.{Hears, HearsAll, StreamHears, WireHears, readiness_of, token_of, wire_token};
 ghost use Rattle.ymx_forward.specs.Loops.{NeedsEvents, WaitsInNeed, WasLost, WorksBetween, has_task, side_is_over, stream_is_due};
 ghost use Rattle.ymx_forward.specs.declared.tunnel_end.Side.{Side as SideValue};
+ghost use Rattle.ymx_forward.specs.Coming.{has_spoken, tells_coming};
 ghost use Rattle.ymx_forward.specs.Signs.{is_sign};
 ghost use Rattle.ymx_engine.specs.Engines.{is_flushed, unframed};
 ghost use Rattle.ymx_forward.specs.Users.{IsStated, awaits_sign, can_open_later, has_no_place, is_followed, leaves_users, must_wait, user_is_due};
@@ -188,6 +189,8 @@ pub(crate) struct TunnelLoop<'a> {
     number: u64,
     /// How many bytes connections have given since the wire was last written to.
     unwritten: u64,
+    /// Those who watch were told that the peer has come.
+    is_coming_told: bool,
     /// Those who watch were told that the session was lost.
     is_loss_told: bool,
     /// The peer has given a sign of life, or isn't asked for one.
@@ -230,6 +233,7 @@ impl<'a> TunnelLoop<'a> {
             tunnel_end,
             number,
             unwritten: 0,
+            is_coming_told: false,
             is_loss_told: false,
             is_heard: false,
             is_leaving: false,
@@ -526,7 +530,7 @@ impl<'a> TunnelLoop<'a> {
         self.accept_connections(rt, poll, watcher);
         self.read_wire();
         self.take_streams(rt, poll, watcher);
-        self.tell_loss(rt, watcher);
+        self.tell_peer(rt, watcher);
         self.serve_queued(watcher);
         self.flush();
         self.end_lost_wire();
@@ -1078,6 +1082,48 @@ impl<'a> TunnelLoop<'a> {
             };
             self.lacked_memory |= ended.lacked_memory();
             watcher.ended(socket.origin(), &ended);
+        }
+    }
+
+    /// Tells those who watch that the peer has come, or was lost.
+    fn tell_peer<R: Clock + Wait, V: Watcher>(&mut self, rt: &R, watcher: &mut V)
+        ensures { self.new.tunnel ≡ self.old.tunnel }
+    {
+        let pulled = self.tunnel.wire().pulled();
+        self.tell_coming(pulled, watcher);
+        self.tell_loss(rt, watcher);
+    }
+
+    /// So many bytes have come of the peer. Once it has given its first sign of life, in a session that others follow, who
+    /// watches is told that it has come.
+    fn tell_coming<V: Watcher>(&mut self, pulled: u64, watcher: &mut V)
+        ensures same { self.new.tunnel ≡ self.old.tunnel }
+        // It is told once, and not before.
+        ensures told { self.new.is_coming_told ≡ (self.old.is_coming_told || tells_coming self.old.tunnel_end.now pulled self.old.tunnel) }
+        ensures once { self.old.is_coming_told ≡ true → watcher.new ≡ watcher.old }
+        ensures late { tells_coming self.old.tunnel_end.now pulled self.old.tunnel ≡ false → watcher.new ≡ watcher.old }
+    {
+        if self.is_coming_told || !self.tunnel_end.is_kept || !self.has_spoken(pulled) {
+            return;
+        }
+        self.is_coming_told = true;
+        watcher.came();
+    }
+
+    /// Whether the peer, of which so many bytes have come, has given a sign of life. One who has broken a rule gives none.
+    fn has_spoken(&self, pulled: u64) -> bool
+        ensures { result ≡ has_spoken pulled self.now.tunnel }
+    {
+        !self.is_broken() && is_sign(0, pulled, self.tunnel.unframed())
+    }
+
+    /// Whether the peer has broken a rule.
+    fn is_broken(&self) -> bool
+        ensures { result ≡ is_some (rule_of self.now.tunnel.engine.session.status) }
+    {
+        match self.tunnel.status() {
+            Status::Broken(_) => true,
+            Status::Running | Status::Lost | Status::Closed => false,
         }
     }
 

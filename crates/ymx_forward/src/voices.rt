@@ -6,6 +6,7 @@ use crate::notices::{Notices, ProgramWatcher};
 use crate::shared::Shared;
 use crate::watching::Unwatched;
 use std::sync::Wait;
+use std::time::Clock;
 use ymx_model::{Outlet, push_all};
 use ymx_policy::{
     Deed, Errors, Fault, Happened, Lines, Notice, PoolDeed, PoolHappened, PoolWorld, World,
@@ -61,7 +62,7 @@ impl ProgramWatcher for Unwatched {
     fn tell(&mut self, _notice: Notice) {}
 }
 
-impl<L: Outlet> ProgramWatcher for Notices<'_, L> {
+impl<R: Clock, L: Outlet> ProgramWatcher for Notices<'_, R, L> {
     fn tell(&mut self, notice: Notice) {
         self.say_notice(notice);
     }

@@ -8,8 +8,8 @@ ghost use Rattle.ymx_page.specs.declared.counts.Counts.{Counts};
 use crate::socket::{Socket, SocketFault};
 use crate::system::TcpConnection;
 use ymx_engine::{Flow, Ways};
-use ymx_policy::{Named, Reason};
 pub(crate) use ymx_page::{Declined, EndedConnection, Ending, Origin, Passed};
+use ymx_policy::{Named, Reason};
 
 /// Who is told of connections that have ended, and numbers them. Of each that begins it is told once more, by one of the
 /// other two calls.
@@ -41,6 +41,10 @@ pub(crate) trait Watcher {
     /// A session with a peer begins, or has ended.
     fn peer(&mut self, is_there: bool)
         ensures { counts self.new ≡ option_map (with_peer is_there) (counts self.old) };
+
+    /// The peer has given its first sign of life, in a session that others follow.
+    fn came(&mut self)
+        ensures { counts self.new ≡ counts self.old };
 }
 
 /// Watches nothing.
@@ -63,6 +67,8 @@ impl Watcher for Unwatched {
     fn failed(&mut self, _option: Named, _reason: Reason) {}
 
     fn peer(&mut self, _is_there: bool) {}
+
+    fn came(&mut self) {}
 }
 
 /// How the connection of this socket ended, whose ways stand so. `is_lost` says whether the session was lost.
