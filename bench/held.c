@@ -1,10 +1,11 @@
 /* Loaded before the C library (LD_PRELOAD), this counts the bytes that a program has asked for and not given back, and says
    on standard error how many these were at most. */
-#include <pthread.h>
+#include <errno.h>
+#include <malloc.h>
 #include <stdio.h>
 #include <stdlib.h>
-#include <malloc.h>
-#include <errno.h>
+#include <sys/syscall.h>
+#include <unistd.h>
 
 extern void *__libc_malloc(size_t size);
 extern void *__libc_calloc(size_t count, size_t size);
@@ -61,7 +62,11 @@ void free(void *block)
     __libc_free(block);
 }
 
-__attribute__((destructor)) static void tell(void)
+/* (a program in Rattle ends by this call) */
+void _exit(int status)
 {
     fprintf(stderr, "held %ld\n", most);
+    syscall(SYS_exit_group, status);
+    for (;;)
+        ;
 }
