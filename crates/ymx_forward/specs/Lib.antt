@@ -1,4 +1,7 @@
+pub mod Calls
+pub mod Comers
 pub mod Coming
+pub mod Connections
 pub mod Counts
 pub mod Doors
 pub mod Echoes

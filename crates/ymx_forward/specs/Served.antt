@@ -4,7 +4,10 @@ use Rattle.ymx_policy.specs.declared.asks.Session.{Session}
 use Rattle.ymx_policy.specs.declared.asks.Deed.{Deed}
 use Rattle.ymx_policy.specs.declared.asks.Deed.TheVariants as deed
 use Rattle.ymx_policy.specs.declared.asks.Happened.{Happened}
-use Rattle.ymx_policy.specs.declared.asks.Happened.TheVariants.{SessionEnded}
+use Rattle.ymx_policy.specs.declared.asks.Happened.TheVariants.{Failed, LackedMemory, SessionEnded}
+use Rattle.ymx_policy.specs.declared.asks.PoolHappened.{PoolHappened}
+use Rattle.ymx_policy.specs.declared.asks.PoolHappened.TheVariants as pool
+use Rattle.ymx_forward.specs.declared.site.Unplaced.{Unplaced}
 use Rattle.ymx_forward.specs.declared.tunnel.Served.{Served}
 use Rattle.ymx_forward.specs.Counts.{CountsOne}
 
@@ -12,6 +15,22 @@ use Rattle.ymx_forward.specs.Counts.{CountsOne}
 abbrev pub IsNoEnd : Happened → Type 0
 IsNoEnd (SessionEnded how) = ⊥
 IsNoEnd other = Unit {0}
+
+-- no place could be made for the session of this number
+abbrev pub IsUnplaced : (number : ℕ) → Option Unplaced → Type 0
+IsUnplaced number (Some unplaced) = unplaced.number ≡ number
+IsUnplaced number None = ⊥
+
+-- it could not be done
+abbrev pub IsRefusal : Happened → Type 0
+IsRefusal (Failed why) = Unit {0}
+IsRefusal LackedMemory = Unit {0}
+IsRefusal other = ⊥
+
+abbrev pub IsPoolRefusal : PoolHappened → Type 0
+IsPoolRefusal (pool.Failed why) = Unit {0}
+IsPoolRefusal pool.LackedMemory = Unit {0}
+IsPoolRefusal other = ⊥
 
 -- how many sessions were served at a place, if there is one
 abbrev pub count_of : Option ℕ → ℕ

@@ -18,8 +18,9 @@ use Rattle.ymx_forward.specs.declared.tunnel_end.Side.{Side}
 use Rattle.ymx_forward.specs.declared.tunnel_end.Side.TheVariants as side
 use Rattle.ymx_forward.specs.declared.tunnel_end.Limits.{Limits}
 use Rattle.ymx_forward.specs.declared.tunnel_end.TunnelEnd.{TunnelEnd}
+use Rattle.ymx_forward.specs.declared.tunnel.Refused.{Refused}
+use Rattle.ymx_forward.specs.declared.tunnel.Refused.TheVariants as refused
 use Rattle.ymx_forward.specs.declared.tunnel.Unserved.{Unserved}
-use Rattle.ymx_forward.specs.declared.tunnel.Unserved.TheVariants.{Unmade}
 use Rattle.ymx_forward.specs.Sides.{role_at}
 use Rattle.ymx_forward.specs.Users.{is_failed}
 
@@ -81,10 +82,21 @@ is_said s = was_said s.away.here
 abbrev pub HasNoEnd : Option TunnelEnd → AskedSide → Type 0
 HasNoEnd end side = (asked_to_go side ≡ None) × IfSome end (λ e. is_some (goes_to e.side) ≡ true)
 
--- Such a session has no end of its own for this reason: one that could not be made is none that can be, or there was no memory for it.
+-- it could not be made for a side of this role
+abbrev pub IsUnmade : Role → Session → Refused → Type 0
+IsUnmade role asked (refused.Unmade fault) = IsNewFault role (record { window = asked.window; first = 0 }) fault
+IsUnmade role asked other = ⊥
+
+-- This may be refused to such a session: one that could not be made is none that can be, or there was no memory for it; and only one
+-- of the client's side can have no end.
+abbrev pub MayRefuse : Session → Refused → Type 0
+MayRefuse asked (refused.Unmade fault) = (role : Role) × IsNewFault role (record { window = asked.window; first = 0 }) fault
+MayRefuse asked (refused.NoEnd none) = asked_to_go asked.side ≡ None
+MayRefuse asked (refused.Unwatched events) = Unit {0}
+
+-- such a session could not begin for this
 abbrev pub IsUnserved : Session → Unserved → Type 0
-IsUnserved asked (Unmade fault) = (role : Role) × IsNewFault role (record { window = asked.window; first = 0 }) fault
-IsUnserved asked other = Unit {0}
+IsUnserved asked unserved = MayRefuse asked unserved.why
 
 -- This tunnel, at this end, was begun for such a session: its own is a new one of this side and of the window that was asked for.
 pub record IsBegunFor (asked : Session) (end : TunnelEnd) (tunnel : Tunnel) : Type 0 where

@@ -42,6 +42,14 @@ abbrev pub comes_to : Side → (there : ℕ) → Bool
 comes_to (side.Local listening) there = may_come listening there
 comes_to other there = false
 
+-- how many users may still come to it, if that is limited
+abbrev pub left_at : Side → Option ℕ
+left_at (side.Local listening) = listening.left
+left_at other = None
+
+abbrev pub comes_at_most : TunnelEnd → Option ℕ
+comes_at_most e = left_at e.side
+
 -- the same, or one was accepted while there was no session
 abbrev pub may_wait : TunnelEnd → (there : ℕ) → Bool
 may_wait e there = is_some e.waiting || comes_to e.side there

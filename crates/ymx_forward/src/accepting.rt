@@ -1,6 +1,6 @@
 //! The connections that come to one side of a tunnel.
 
-ghost use Rattle.std.specs.Prelude.{◌≡◌, ◌-◌, true, Some, IfSome, IfNone, IsNone, option_map};
+ghost use Rattle.std.specs.Prelude.{◌≡◌, ◌-◌, true, Some, IfOk, IfSome, IfNone, IsNone, option_map};
 ghost use Rattle.ymx_forward.specs.Users.{is_failed, is_less, is_shut, may_come};
 
 use crate::drain::Drain;
@@ -59,7 +59,9 @@ impl Listening {
         is_patient: bool,
         poll: &Poll,
         token: usize,
-    ) -> io::Result<Listening> {
+    ) -> io::Result<Listening>
+        ensures { IfOk result (λ listening. listening.left ≡ count) }
+    {
         let listener = Listener::new(listener, poll, token)?;
         let mut listening = Listening {
             source: Source::Listener(listener),
@@ -90,7 +92,9 @@ impl Listening {
     }
 
     /// No more are accepted once this asks for that.
-    pub(crate) fn until(self, drain: Option<Arc<Drain, Global>>) -> Listening {
+    pub(crate) fn until(self, drain: Option<Arc<Drain, Global>>) -> Listening
+        ensures { result ≡ record self { drain = drain } }
+    {
         let mut listening = self;
         listening.drain = drain;
         listening
@@ -321,7 +325,9 @@ impl Listening {
     }
 
     /// Why the system last refused to accept a connection, unless that was told.
-    pub(crate) fn take_refusal(&mut self) -> Option<Reason> {
+    pub(crate) fn take_refusal(&mut self) -> Option<Reason>
+        ensures { self.new.source ≡ self.old.source }
+    {
         self.refusal.take()
     }
 }

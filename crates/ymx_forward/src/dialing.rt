@@ -1,6 +1,6 @@
 //! Who connects to targets.
 
-ghost use Rattle.std.specs.Prelude.{◌≡◌, ◌∷◌, List, Bool, Option, option_map, is_ok};
+ghost use Rattle.std.specs.Prelude.{◌≡◌, ◌∷◌, List, Bool, IfOk, Option, Some, option_map, is_ok};
 ghost use Rattle.std.specs.declared.net.socket_addr.SocketAddr.{SocketAddr as Address};
 
 use crate::system::TcpConnection;
@@ -15,5 +15,7 @@ pub(crate) trait Dialer {
 
     /// Begins to connect to this address. It doesn't wait.
     fn begin(&mut self, address: SocketAddr) -> io::Result<TcpConnection>
-        ensures { called self.new ≡ option_map (λ l. (address, is_ok result) ∷ l) (called self.old) };
+        // The connection says whom it was begun to.
+        ensures to { IfOk result (λ connection. connection.called ≡ Some address) }
+        ensures called { called self.new ≡ option_map (λ l. (address, is_ok result) ∷ l) (called self.old) };
 }

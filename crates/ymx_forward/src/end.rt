@@ -1,13 +1,18 @@
 //! What an end with one session after another asks for, done over sockets.
 
-ghost use Rattle.std.specs.Prelude.{ℕ, List, Option, [], ◌∷◌, ◌≡◌, ◌⊎◌, None, IfOk, IfSome, IsErr, IsNone, option_map, ⊤};
+ghost use Rattle.std.specs.Prelude.{ℕ, List, Option, [], ◌∷◌, ◌≡◌, ◌⊎◌, None, IfErr, IfOk, IfSome, IsErr, IsNone, IsOk, IsSome, option_map, ⊤};
 ghost use Rattle.ymx_policy.specs.Past.{Adds};
+ghost use Rattle.ymx_policy.specs.declared.asks.Callee.{Callee as Calls};
 ghost use Rattle.ymx_policy.specs.declared.asks.Deed.{Deed as Asked};
 ghost use Rattle.ymx_policy.specs.declared.asks.Happened.{Happened as Heard};
 ghost use Rattle.ymx_policy.specs.declared.asks.Peers.{Peers as Awaiting};
 ghost use Rattle.ymx_policy.specs.declared.asks.Session.{Session as Wanted};
+ghost use Rattle.ymx_policy.specs.declared.asks.Users.{Users as Comers};
+ghost use Rattle.ymx_forward.specs.Calls.{MeetsCalled, RanOver};
+ghost use Rattle.ymx_forward.specs.Comers.{Takes, TakesCount};
+ghost use Rattle.ymx_forward.specs.Counts.{CountsOne};
 ghost use Rattle.ymx_forward.specs.Doors.{MayCall, MeetsAdmitted};
-ghost use Rattle.ymx_forward.specs.Served.{IsNoEnd, IsServed, ServesAsAsked, count_of};
+ghost use Rattle.ymx_forward.specs.Served.{IsNoEnd, IsServed, IsUnplaced, ServesAsAsked, count_of};
 ghost use Rattle.ymx_forward.specs.Sessions.{HasNoEnd, Serves};
 
 use crate::accepting::Listening;
@@ -17,7 +22,7 @@ use crate::host::Host;
 use crate::inbox::Inbox;
 use crate::notices::ProgramWatcher;
 use crate::peer::Peer;
-use crate::site::Site;
+use crate::site::{Site, Unplaced};
 use crate::sockets::{await_caller, listen_at};
 use crate::starting::{StartFault, failed};
 use crate::system::{Poll, Waker};
@@ -50,8 +55,12 @@ pub(crate) struct EndSockets<'a, R> {
     peer: Option<Peer>,
     /// Where users are brought to a link.
     inbox: Option<Arc<Inbox, Global>>,
+    /// How many sessions were asked for. It stays at the greatest `u64`.
+    asked: u64,
     /// The last session that was served.
     served: Option<Served>,
+    /// Why no place could be made for its sessions, where none could.
+    unplaced: Option<Unplaced>,
     /// Says when no more users are to be taken. None where nothing does.
     drain: Option<Arc<Drain, Global>>,
     /// Says when no more sessions are to begin, and the one that runs is to end. None where nothing does.
@@ -80,7 +89,9 @@ impl<'a, R: Host> EndSockets<'a, R> {
             keeper: Doorkeeper::new(Networks::all()),
             peer: None,
             inbox: None,
+            asked: 0,
             served: None,
+            unplaced: None,
             drain,
             leave,
         }
@@ -102,7 +113,9 @@ impl<'a, R: Host> EndSockets<'a, R> {
             keeper: Doorkeeper::new(Networks::all()),
             peer: None,
             inbox: Some(inbox),
+            asked: 0,
             served: None,
+            unplaced: None,
             drain: None,
             leave: None,
         }
@@ -119,7 +132,7 @@ impl<'a, R: Host> EndSockets<'a, R> {
                 self.listener = Some(listener);
                 match self.prepare() {
                     Ok(()) => Happened::Listening(at),
-                    Err(fault) => fault.happened(),
+                    Err(happened) => happened,
                 }
             }
             Err(error) => failed(&error),
@@ -127,7 +140,11 @@ impl<'a, R: Host> EndSockets<'a, R> {
     }
 
     /// Listens for users.
-    fn listen_for_users(&mut self, users: Users) -> Happened {
+    #[tactic(auto, using(crate::proofs::Refusals::takes_none))]
+    fn listen_for_users(&mut self, users: Users) -> Happened
+        // As many may come as were asked for.
+        ensures { TakesCount users self.new.end result }
+    {
         match listen_at(self.rt, users.address) {
             Ok((listener, at)) => match self.open(listener, users) {
                 Ok(()) => Happened::Listening(at),
@@ -138,7 +155,9 @@ impl<'a, R: Host> EndSockets<'a, R> {
     }
 
     /// Takes the users who come to this listener.
-    fn open(&mut self, listener: TcpListener, users: Users) -> Result<(), StartFault> {
+    fn open(&mut self, listener: TcpListener, users: Users) -> Result<(), StartFault>
+        ensures { IfOk result (λ _. Takes users self.new.end) }
+    {
         let site = Site::new(self.rt, self.alloc)?;
         let Users {
             address,
@@ -154,23 +173,34 @@ impl<'a, R: Host> EndSockets<'a, R> {
     }
 
     /// Calls the peer, unless no more sessions are to begin. A link that has none is to be spared for a while.
-    fn call(&mut self, callee: Callee) -> Happened {
+    #[tactic(auto, using(crate::proofs::Refusals::meets_none))]
+    fn call(&mut self, callee: Callee) -> Happened
+        // The peer that is there is one that was called at that address.
+        ensures { MeetsCalled callee self.new.peer result }
+    {
         if is_asked(&self.leave) {
             return Happened::AllCame;
         }
         match Peer::call(self.rt, callee) {
             Ok(peer) => {
-                if let Some(inbox) = &self.inbox {
-                    inbox.note_peer(self.rt);
-                }
+                self.note_call(true);
                 self.peer = Some(peer);
                 Happened::PeerCame
             }
             Err(error) => {
-                if let Some(inbox) = &self.inbox {
-                    inbox.rest(self.rt);
-                }
+                self.note_call(false);
                 failed(&error)
+            }
+        }
+    }
+
+    /// A link has a peer, or is to be spared for a while.
+    fn note_call(&self, is_there: bool) {
+        if let Some(inbox) = &self.inbox {
+            if is_there {
+                inbox.note_peer(self.rt);
+            } else {
+                inbox.rest(self.rt);
             }
         }
     }
@@ -215,9 +245,7 @@ impl<'a, R: Host> EndSockets<'a, R> {
     fn meet<V: ProgramWatcher>(&mut self, watcher: &mut V) -> Result<Peer, Happened>
         ensures { IfOk result (MayCall self.old.keeper.from) }
     {
-        if let Err(fault) = self.watch_callers() {
-            return Err(fault.happened());
-        }
+        self.watch_callers()?;
         let keeper = &mut self.keeper;
         match (&mut self.end, &mut self.site, &mut self.callers) {
             (Some(end), Some(site), Some(callers)) if end.is_kept => {
@@ -229,7 +257,7 @@ impl<'a, R: Host> EndSockets<'a, R> {
     }
 
     /// Has a poll tell of who calls, until no more sessions are to begin.
-    fn watch_callers(&mut self) -> Result<(), StartFault>
+    fn watch_callers(&mut self) -> Result<(), Happened>
         ensures { self.new.keeper ≡ self.old.keeper }
     {
         let Some(listener) = self.listener.take() else {
@@ -238,8 +266,10 @@ impl<'a, R: Host> EndSockets<'a, R> {
         self.prepare()?;
         let is_kept = self.is_kept();
         if let Some(site) = &self.site {
-            let callers = Listening::new(listener, None, is_kept, &site.poll, PEERS)?;
-            self.callers = Some(callers.until(shared(&self.leave)));
+            match Listening::new(listener, None, is_kept, &site.poll, PEERS) {
+                Ok(callers) => self.callers = Some(callers.until(shared(&self.leave))),
+                Err(error) => return Err(failed(&error)),
+            }
         }
         Ok(())
     }
@@ -264,14 +294,18 @@ impl<'a, R: Host> EndSockets<'a, R> {
     fn serve<V: ProgramWatcher>(&mut self, session: Session, watcher: &mut V) -> Happened
         // The session that ended is the one that was asked for, at this call.
         ensures served { IsServed session (count_of (option_map (λ site. site.sessions) self.old.site)) (count_of (option_map (λ site. site.sessions) self.new.site)) self.new.served result }
-        // None ran only where there was no peer, no end of its side, or no place for it.
-        ensures unserved { IsNoEnd result → IsNone self.old.peer ⊎ (HasNoEnd self.old.end session.side ⊎ IsNone self.new.site) }
+        ensures asked { CountsOne self.old.asked self.new.asked }
+        // None ran only where there was no peer, no end of its side, or no place could be made for this one.
+        ensures unserved { IsNoEnd result → IsNone self.old.peer ⊎ (HasNoEnd self.old.end session.side ⊎ IsUnplaced self.new.asked self.new.unplaced) }
+        // It ran over the connection to the peer that was there.
+        ensures over { RanOver self.old.peer self.new.served result }
     {
+        self.asked = self.asked.saturating_add(1);
         let Some(peer) = self.peer.take() else {
             return Happened::Failed(None);
         };
-        if let Err(fault) = self.prepare() {
-            return fault.happened();
+        if let Err(happened) = self.prepare() {
+            return happened;
         }
         self.end = end_for(self.end.take(), &self.leave, session);
         let served = match (&mut self.end, &mut self.site) {
@@ -283,18 +317,30 @@ impl<'a, R: Host> EndSockets<'a, R> {
     }
 
     /// Makes a place for its sessions, where there is none yet.
-    fn prepare(&mut self) -> Result<(), StartFault>
+    fn prepare(&mut self) -> Result<(), Happened>
         ensures keeper { self.new.keeper ≡ self.old.keeper }
         ensures count { count_of (option_map (λ site. site.sessions) self.new.site) ≡ count_of (option_map (λ site. site.sessions) self.old.site) }
         ensures end { self.new.end ≡ self.old.end }
-        ensures none { IsErr result → IsNone self.new.site }
+        ensures asked { self.new.asked ≡ self.old.asked }
+        // Only where none can be made there is none.
+        ensures none { IsErr result → IsUnplaced self.old.asked self.new.unplaced }
+        ensures happened { IfErr result IsNoEnd }
+        ensures some { IsOk result → IsSome self.new.site }
     {
-        if self.site.is_none() {
-            let site = Site::new(self.rt, self.alloc)?;
-            let _ = wake_by(self.rt, &self.leave, self.alloc, &site.poll)?;
-            self.site = Some(site);
+        if self.site.is_some() {
+            return Ok(());
         }
-        Ok(())
+        match Site::for_session(self.rt, self.alloc, &self.leave, self.asked) {
+            Ok(site) => {
+                self.site = Some(site);
+                Ok(())
+            }
+            Err(unplaced) => {
+                let happened = unplaced.why.happened();
+                self.unplaced = Some(unplaced);
+                Err(happened)
+            }
+        }
     }
 
     /// Closes the user that waits, if one does. A link gives it back, so that another may serve it.
@@ -339,7 +385,7 @@ impl<'a, R: Host> EndSockets<'a, R> {
 }
 
 /// Has this poll woken, as by a user, once no more connections are to be taken.
-fn wake_by<R: Wait>(
+pub(crate) fn wake_by<R: Wait>(
     rt: &R,
     drain: &Option<Arc<Drain, Global>>,
     alloc: Global,
@@ -366,7 +412,13 @@ impl<R: Host, V: ProgramWatcher> World<V, WatcherLines> for EndSockets<'_, R> {
         ensures unwritten { let none : Option (List ℕ) = None in let zero : ℕ = 0 in (none ≡ none) × (zero ≡ zero) }
         // A session that ended is the one that was asked for, at this call.
         ensures served { ServesAsAsked deed (count_of (option_map (λ site. site.sessions) self.old.site)) (count_of (option_map (λ site. site.sessions) self.new.site)) self.new.served result }
-        ensures unserved { (session : Wanted) → deed ≡ Deed.Serve session → IsNoEnd result → IsNone self.old.peer ⊎ (HasNoEnd self.old.end session.side ⊎ IsNone self.new.site) }
+        ensures asked { (session : Wanted) → deed ≡ Deed.Serve session → CountsOne self.old.asked self.new.asked }
+        ensures unserved { (session : Wanted) → deed ≡ Deed.Serve session → IsNoEnd result → IsNone self.old.peer ⊎ (HasNoEnd self.old.end session.side ⊎ IsUnplaced self.new.asked self.new.unplaced) }
+        // It ran over the connection to the peer that was there; and a peer that was called is one at the address that was asked for.
+        ensures over { (session : Wanted) → deed ≡ Deed.Serve session → RanOver self.old.peer self.new.served result }
+        // Where it listens for users, as many may come as were asked for.
+        ensures counted { (users : Comers) → deed ≡ Deed.ListenForUsers users → TakesCount users self.new.end result }
+        ensures called { (callee : Calls) → deed ≡ Deed.Call callee → MeetsCalled callee self.new.peer result }
         // A peer that was awaited and came may call from where it does.
         ensures admitted { deed ≡ Deed.AwaitPeer → MeetsAdmitted self.old.keeper.from self.new.peer result }
         ensures from { (peers : Awaiting) → deed ≡ Deed.ListenForPeer peers → self.new.keeper.from ≡ peers.from }

@@ -1,6 +1,9 @@
 //! One of several links to the peer of a `local`, which runs in a thread of its own.
 
-ghost use Rattle.std.specs.Prelude.{◌≡◌, None, Some};
+ghost use Rattle.std.specs.Prelude.{◌≡◌, ◌⊎◌, None, Some};
+ghost use Rattle.ymx_forward.specs.Calls.{RunsOver};
+ghost use Rattle.ymx_forward.specs.Counts.{CountsOne};
+ghost use Rattle.ymx_forward.specs.Sessions.{HasNoEnd};
 
 use crate::end::EndSockets;
 use crate::host::Host;
@@ -235,8 +238,11 @@ fn serve<R: Host, V: Watcher>(
     session: Session,
     watcher: &mut V,
 ) -> Served
-    // The session that ended is the one that was asked for.
-    ensures { result.session ≡ session }
+    // The session that ended is the one that was asked for, and it ran over the connection to this peer.
+    ensures session { result.session ≡ session }
+    ensures over { RunsOver peer result }
+    // It was begun, unless there is no end of its side.
+    ensures begun { HasNoEnd (Some end) session.side ⊎ CountsOne site.entry.sessions result.number }
 {
     let mut site = site;
     match TunnelEnd::for_session(Some(end), session) {
@@ -245,6 +251,6 @@ fn serve<R: Host, V: Watcher>(
             end.refuse_waiting(watcher);
             served
         }
-        Err(none) => Served::unbegun(session, 0, Unserved::NoEnd(none)),
+        Err(none) => Served::unbegun(session, Unserved::without_end(none)),
     }
 }

@@ -1,8 +1,16 @@
 //! What a `local` with several links asks for, done over sockets and threads. A link is a connection to the peer, with a
 //! session and a thread of its own. One thread accepts the users, and brings each to the link that has the fewest.
 
-ghost use Rattle.std.specs.Prelude.{None, ⊤};
+ghost use Rattle.std.specs.Prelude.{ℕ, List, Option, [], ◌∷◌, ◌≡◌, ◌≢◌, true, None, IfOk, ⊤};
 ghost use Rattle.std.specs.Thread.{IsSend};
+ghost use Rattle.ymx_policy.specs.Past.{Adds};
+ghost use Rattle.ymx_policy.specs.declared.asks.Callee.{Callee as Calls};
+ghost use Rattle.ymx_policy.specs.declared.asks.PoolDeed.{PoolDeed as PoolAsked};
+ghost use Rattle.ymx_policy.specs.declared.asks.PoolHappened.{PoolHappened as PoolHeard};
+ghost use Rattle.ymx_policy.specs.declared.asks.Users.{Users as Comers};
+ghost use Rattle.ymx_forward.specs.Calls.{AddsCalled, Keeps};
+ghost use Rattle.ymx_forward.specs.Comers.{PoolTakes, PoolTakesCount};
+ghost use Rattle.ymx_forward.specs.Users.{is_failed};
 
 use crate::accepting::Listening;
 use crate::drain::Drain;
@@ -158,18 +166,33 @@ impl<'a, R: Host> LinkSockets<'a, R> {
     }
 
     /// Calls the peer for one more link.
-    fn call(&mut self, callee: Callee) -> PoolHappened {
+    #[tactic(auto, using(crate::proofs::Refusals::adds_called))]
+    fn call(&mut self, callee: Callee) -> PoolHappened
+        // The one more that is there is one that was called at that address.
+        ensures { AddsCalled callee self.old.peers.items self.new.peers.items result }
+    {
         match Peer::call(self.site.rt, callee) {
-            Ok(peer) => match self.peers.push(peer) {
-                Ok(()) => PoolHappened::Came,
-                Err(_) => PoolHappened::LackedMemory,
-            },
+            Ok(peer) => self.keep(peer),
             Err(error) => PoolHappened::Failed(Some(Reason::of(&error))),
         }
     }
 
+    /// Keeps a peer for a link.
+    fn keep(&mut self, peer: Peer) -> PoolHappened
+        ensures { Keeps peer self.old.peers.items self.new.peers.items result }
+    {
+        match self.peers.push(peer) {
+            Ok(()) => PoolHappened::Came,
+            Err(_) => PoolHappened::LackedMemory,
+        }
+    }
+
     /// Listens for users, and makes all that the threads of links need.
-    fn listen(&mut self, users: Users) -> PoolHappened {
+    #[tactic(auto, using(crate::proofs::Refusals::pool_takes_none))]
+    fn listen(&mut self, users: Users) -> PoolHappened
+        // As many may come as were asked for.
+        ensures { PoolTakesCount users self.new.listening result }
+    {
         match self.open(users) {
             Ok(at) => PoolHappened::Listening(at),
             Err(fault) => fault.happened_to_pool(),
@@ -177,7 +200,9 @@ impl<'a, R: Host> LinkSockets<'a, R> {
     }
 
     /// Listens for users, and makes what the threads of links need. Answers where.
-    fn open(&mut self, users: Users) -> Result<SocketAddrV4, StartFault> {
+    fn open(&mut self, users: Users) -> Result<SocketAddrV4, StartFault>
+        ensures { IfOk result (λ _. PoolTakes users self.new.listening) }
+    {
         let Users {
             address,
             count,
@@ -185,10 +210,10 @@ impl<'a, R: Host> LinkSockets<'a, R> {
         } = users;
         let (listener, at) = listen_at(self.site.rt, address)?;
         let listening = Listening::new(listener, count, is_patient, &self.site.poll, USERS)?;
-        self.listening = Some(listening.until(self.drain.take()));
         for _ in 0..self.options.links {
             self.add_link()?;
         }
+        self.listening = Some(listening.until(self.drain.take()));
         Ok(at)
     }
 
@@ -345,7 +370,10 @@ fn refuse<V: Watcher>(socket: TcpConnection, watcher: &mut V) {
 }
 
 /// Why no users come any more.
-fn last_of(listening: &mut Listening) -> PoolHappened {
+fn last_of(listening: &mut Listening) -> PoolHappened
+    // Where none can be accepted any more it isn't that all came.
+    ensures { is_failed listening.old.source ≡ true → result ≢ PoolHappened.AllCame }
+{
     if listening.has_failed() {
         PoolHappened::NobodyComes(listening.take_refusal())
     } else {
@@ -358,7 +386,17 @@ impl<R: Host, V: ProgramWatcher> PoolWorld<V, WatcherLines> for LinkSockets<'_, 
 
     ghost may = { λ _. ⊤ };
 
-    fn perform(&mut self, deed: PoolDeed, watcher: &mut V) -> PoolHappened {
+    fn perform(&mut self, deed: PoolDeed, watcher: &mut V) -> PoolHappened
+        // It can tell neither what it does nor what it tells.
+        ensures may { ⊤ }
+        ensures logged { Adds {A = PoolAsked × PoolHeard} ((deed, result) ∷ []) None None }
+        ensures untold { Adds {A = List ℕ} [] None None }
+        ensures unwritten { let none : Option (List ℕ) = None in let zero : ℕ = 0 in (none ≡ none) × (zero ≡ zero) }
+        // Where it listens for users, as many may come as were asked for.
+        ensures counted { (users : Comers) → deed ≡ PoolDeed.ListenForUsers users → PoolTakesCount users self.new.listening result }
+        // One more peer that was called for a link is one at the address that was asked for.
+        ensures called { (callee : Calls) → deed ≡ PoolDeed.Call callee → AddsCalled callee self.old.peers.items self.new.peers.items result }
+    {
         match deed {
             PoolDeed::ListenForUsers(users) => self.listen(users),
             PoolDeed::Call(callee) => self.call(callee),

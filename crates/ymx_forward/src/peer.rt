@@ -3,7 +3,7 @@
 ghost use Rattle.std.specs.Prelude.{◌≡◌, false};
 
 use crate::stream::Stream;
-use crate::system::{TcpConnection, connect, connect_within};
+use crate::system::{TcpConnection, call};
 use std::io;
 use std::net::{Net, SocketAddr, SocketAddrV4, TcpStream};
 use std::time::Duration;
@@ -20,14 +20,20 @@ pub(crate) struct Peer {
 }
 
 impl Peer {
+    ghost use Rattle.std.specs.Prelude.{IfOk};
+    ghost use Rattle.ymx_forward.specs.Calls.{IsCalled};
+
     /// Calls the peer. Behind its limit, if it has one, the fault is `TimedOut`.
-    pub(crate) fn call<R: Net<Stream = TcpStream>>(rt: &R, callee: Callee) -> io::Result<Peer> {
-        let address = SocketAddr::V4(callee.address);
-        let connection = match callee.limit {
-            Some(seconds) => connect_within(rt, address, Duration::from_secs(seconds as u64))?,
-            None => connect(rt, address)?,
+    pub(crate) fn call<R: Net<Stream = TcpStream>>(rt: &R, callee: Callee) -> io::Result<Peer>
+        // It is a connection that was made by a call of that address.
+        ensures { IfOk result (IsCalled callee) }
+    {
+        let limit = match callee.limit {
+            Some(seconds) => Some(Duration::from_secs(seconds as u64)),
+            None => None,
         };
-        Peer::over(connection)
+        let socket = call(rt, SocketAddr::V4(callee.address), limit)?;
+        Ok(Peer::new(socket))
     }
 
     /// A peer over this connection. The fault is that the system can't make it one that never waits.
@@ -47,6 +53,7 @@ impl Peer {
     /// A peer over this connection, which never waits.
     fn new(socket: TcpConnection) -> Peer
         requires { socket.is_registered ≡ false }
+        ensures { result.socket.called ≡ socket.called }
     {
         socket.send_at_once();
         let address = match socket.peer() {
@@ -80,7 +87,8 @@ impl Peer {
 
     /// Its connection, of which no poll was asked to tell.
     pub(crate) fn into_socket(self) -> TcpConnection
-        ensures { result.is_registered ≡ false }
+        ensures registered { result.is_registered ≡ false }
+        ensures called { result.called ≡ self.socket.called }
     {
         let Peer { socket, address: _ } = self;
         socket

@@ -1,10 +1,13 @@
 //! What an end with many peers at once asks for, done over sockets and threads: one thread lets peers in, and each session
 //! has one of its own, which leaves in a channel how it ended.
 
-ghost use Rattle.std.specs.Prelude.{◌≡◌, ◌≢◌, false, Some, None, ⊤};
+ghost use Rattle.std.specs.Prelude.{◌≡◌, ◌≢◌, ◌⊎◌, false, Some, None, ⊤};
 ghost use Rattle.std.specs.Thread.{IsSend};
+ghost use Rattle.ymx_forward.specs.Calls.{RunsOver};
+ghost use Rattle.ymx_forward.specs.Counts.{CountsOne};
 ghost use Rattle.ymx_forward.specs.Doors.{LetsAdmittedIn, ListensAttended};
 ghost use Rattle.ymx_forward.specs.Looks.{SeesAdmitted};
+ghost use Rattle.ymx_forward.specs.Sessions.{HasNoEnd};
 
 use crate::accepting::Listening;
 use crate::doorkeeper::{Caller, Doorkeeper};
@@ -215,8 +218,11 @@ fn serve_peer<R: Host, V: Watcher>(
     drain: Option<Arc<Drain, Global>>,
     watcher: &mut V,
 ) -> Served
-    // The session that ended is the one that was asked for.
-    ensures { result.session ≡ job.session }
+    // The session that ended is the one that was asked for, and it ran over the connection to this peer.
+    ensures session { result.session ≡ job.session }
+    ensures over { RunsOver job.peer result }
+    // It was begun, unless there is no end of its side.
+    ensures begun { HasNoEnd None job.session.side ⊎ CountsOne site.entry.sessions result.number }
 {
     let PeerJob { peer, session } = job;
     let mut site = site;
@@ -225,7 +231,7 @@ fn serve_peer<R: Host, V: Watcher>(
             let mut end = end.until(drain);
             site.serve(&mut end, peer, session, watcher)
         }
-        Err(none) => Served::unbegun(session, 0, Unserved::NoEnd(none)),
+        Err(none) => Served::unbegun(session, Unserved::without_end(none)),
     }
 }
 

@@ -269,7 +269,20 @@ fn run_untold<
     }
     match plan {
         Plan::Local(options) => run_links_untold(rt, watch, options, lines, errors),
-        Plan::Remote(options) => run_peers_untold(rt, watch, options, lines, errors),
+        Plan::Remote(options) => {
+            let Watch {
+                alloc,
+                watcher,
+                drain,
+            } = watch;
+            let watcher = Mutex::new(watcher);
+            let watch = Watch {
+                alloc,
+                watcher: &watcher,
+                drain,
+            };
+            run_peers::<_, _, _, OutletLines, _>(rt, watch, options, lines, errors)
+        }
         // it has no pool
         Plan::Link(_) => 1,
     }
@@ -326,7 +339,8 @@ fn run_end_untold<R: Host, V: ProgramWatcher + Drop, E: Outlet, L: Outlet>(
 
 // ---- many peers
 
-/// Runs a `remote` that serves many peers at once, each in a thread of its own, and tells this watcher.
+/// Runs a `remote` that serves many peers at once, and tells this watcher.
+#[tactic(auto, using(crate::proofs::Ends::loud_together))]
 fn run_peers_told<R: Host + Threads + Sync, V: ProgramWatcher + Send + Drop, E: Outlet + Send>(
     rt: &R,
     watch: Watch<V>,
@@ -345,64 +359,32 @@ fn run_peers_told<R: Host + Threads + Sync, V: ProgramWatcher + Send + Drop, E: 
     } = watch;
     let watcher = Mutex::new(watcher);
     let watcher = &watcher;
-    let plan = Plan::Remote(options);
-    match new_peers(rt, alloc, address_of(options.peer), drain) {
-        Ok((sockets, lobby)) => {
-            let mut sockets = sockets;
-            let ((), status) = join_mut(
-                rt,
-                &mut || lobby.run(rt, watcher),
-                &mut || run_peer_pool_told(rt, plan, &mut sockets, watcher, errors),
-            );
-            status
-        }
-        Err(fault) => {
-            let mut lines = Shared { rt, watcher };
-            run_unbegun::<_, _, WatcherLines, _>(rt, plan, fault, &mut lines, errors)
-        }
-    }
-}
-
-/// Runs the pool of peers, and lets the thread end that starts theirs.
-fn run_peer_pool_told<R: Host, V: ProgramWatcher, E: Outlet>(
-    rt: &R,
-    plan: Plan,
-    sockets: &mut PeerSockets<'_, R>,
-    watcher: &Mutex<V>,
-    errors: &mut E,
-) -> u8
-    requires { (terms_of plan).is_verbose ≡ true }
-    ensures ended { (lines lines_new : Option (List ℕ)) (unwritten unwritten_new : ℕ) →
-        EndsTogether (terms_of plan) result (E.contents errors.old) (E.contents errors.new) (E.failures errors.old) (E.failures errors.new) lines lines_new unwritten unwritten_new }
-    ensures good { result ≡ 0 → Keeps (E.contents errors.old) (E.contents errors.new) }
-{
+    let watch = Watch {
+        alloc,
+        watcher,
+        drain,
+    };
     let mut lines = Shared { rt, watcher };
-    let status = run_pool::<_, _, WatcherLines, _, _, OutletErrors>(
-        rt, plan, sockets, &mut lines, errors,
-    );
-    sockets.finish();
-    status
+    run_peers::<_, _, _, WatcherLines, _>(rt, watch, options, &mut lines, errors)
 }
 
-/// Runs a `remote` that serves many peers at once, each in a thread of its own, of whose connections only this watcher hears.
-fn run_peers_untold<
+/// Runs a `remote` that serves many peers at once.
+fn run_peers<
     R: Host + Threads + Sync,
     V: ProgramWatcher + Send + Drop,
+    T: Send,
+    L: Lines<T>,
     E: Outlet + Send,
-    L: Outlet + Send,
->(rt: &R, watch: Watch<V>, options: RemoteOptions, lines: &mut L, errors: &mut E) -> u8
-    requires { options.is_verbose ≡ false }
+>(rt: &R, watch: Watch<&Mutex<V>>, options: RemoteOptions, lines: &mut T, errors: &mut E) -> u8
     ensures ended { EndsTogether (terms_of (Plan.Remote options)) result (E.contents errors.old) (E.contents errors.new) (E.failures errors.old) (E.failures errors.new) (L.contents lines.old) (L.contents lines.new) (L.failures lines.old) (L.failures lines.new) }
     ensures good { result ≡ 0 → Keeps (E.contents errors.old) (E.contents errors.new) }
-    ensures silent { result ≡ 0 → Keeps (L.contents lines.old) (L.contents lines.new) }
+    ensures silent { options.is_verbose ≡ false → result ≡ 0 → Keeps (L.contents lines.old) (L.contents lines.new) }
 {
     let Watch {
         alloc,
         watcher,
         drain,
     } = watch;
-    let watcher = Mutex::new(watcher);
-    let watcher = &watcher;
     let plan = Plan::Remote(options);
     match new_peers(rt, alloc, address_of(options.peer), drain) {
         Ok((sockets, lobby)) => {
@@ -410,30 +392,27 @@ fn run_peers_untold<
             let ((), status) = join_mut(
                 rt,
                 &mut || lobby.run(rt, watcher),
-                &mut || run_peer_pool_untold(rt, plan, &mut sockets, lines, errors),
+                &mut || run_peer_pool::<_, _, L, _>(rt, plan, &mut sockets, lines, errors),
             );
             status
         }
-        Err(fault) => run_unbegun::<_, _, OutletLines, _>(rt, plan, fault, lines, errors),
+        Err(fault) => run_unbegun::<_, _, L, _>(rt, plan, fault, lines, errors),
     }
 }
 
 /// Runs the pool of peers, and lets the thread end that starts theirs.
-fn run_peer_pool_untold<R: Host, E: Outlet, L: Outlet>(
+fn run_peer_pool<R: Host, T, L: Lines<T>, E: Outlet>(
     rt: &R,
     plan: Plan,
     sockets: &mut PeerSockets<'_, R>,
-    lines: &mut L,
+    lines: &mut T,
     errors: &mut E,
 ) -> u8
-    requires { (terms_of plan).is_verbose ≡ false }
     ensures ended { EndsTogether (terms_of plan) result (E.contents errors.old) (E.contents errors.new) (E.failures errors.old) (E.failures errors.new) (L.contents lines.old) (L.contents lines.new) (L.failures lines.old) (L.failures lines.new) }
     ensures good { result ≡ 0 → Keeps (E.contents errors.old) (E.contents errors.new) }
-    ensures silent { result ≡ 0 → Keeps (L.contents lines.old) (L.contents lines.new) }
+    ensures silent { (terms_of plan).is_verbose ≡ false → result ≡ 0 → Keeps (L.contents lines.old) (L.contents lines.new) }
 {
-    let status = run_pool::<_, _, OutletLines, _, _, OutletErrors>(
-        rt, plan, sockets, lines, errors,
-    );
+    let status = run_pool::<_, T, L, _, _, OutletErrors>(rt, plan, sockets, lines, errors);
     sockets.finish();
     status
 }

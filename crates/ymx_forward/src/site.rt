@@ -1,24 +1,26 @@
 //! Where an end runs its sessions: its runtime, its allocator, and the poll that tells it of events.
 
-ghost use Rattle.std.specs.Prelude.{◌≡◌, ◌||◌, IfOk, true};
+ghost use Rattle.std.specs.Prelude.{◌≡◌, IfErr, IfOk, true};
+ghost use Rattle.ymx_forward.specs.Calls.{RunsOver};
 ghost use Rattle.ymx_forward.specs.Counts.{CountsOne};
 ghost use Rattle.ymx_forward.specs.Sessions.{Serves};
 
 use crate::closing::close;
+use crate::drain::Drain;
+use crate::end::wake_by;
 use crate::peer::Peer;
 use crate::socket::Socket;
 use crate::starting::StartFault;
 use crate::system::{NoEvents, Poll};
-use crate::tunnel::{Served, TunnelLoop, Unserved, wire_of};
+use crate::tunnel::{Served, TunnelLoop, wire_of};
 use crate::tunnel_end::{RETRY, TunnelEnd};
 use crate::watching::Watcher;
 use std::alloc::Global;
 use std::io;
 use std::net::Net;
-use std::sync::Wait;
+use std::sync::{Arc, Wait};
 use std::time::{Clock, Duration, Instant};
 use ymx_policy::{Session, SessionEnd};
-use ymx_session::NewFault;
 
 /// How many seconds a session lasts at least behind which the peer is called again at once.
 const LASTING: u64 = 1;
@@ -31,6 +33,35 @@ pub(crate) struct Site<'a, R> {
     pub(crate) poll: Poll,
     /// How many sessions it has served. It stays at the greatest `u64`.
     sessions: u64,
+}
+
+/// No place could be made for the session of this number among those that were asked for. Only [`Site::for_session`] makes one.
+#[derive(Drop)]
+pub(crate) struct Unplaced {
+    number: u64,
+    pub(crate) why: StartFault,
+}
+
+impl<'a, R: Net + Wait> Site<'a, R> {
+    /// A place for the session of this number, with a poll of its own, whose waits end where `leave` asks for that.
+    pub(crate) fn for_session(
+        rt: &'a R,
+        alloc: Global,
+        leave: &Option<Arc<Drain, Global>>,
+        number: u64,
+    ) -> Result<Site<'a, R>, Unplaced>
+        ensures sessions { IfOk result (λ site. site.sessions ≡ 0) }
+        ensures refused { IfErr result (λ none. none.number ≡ number) }
+    {
+        let site = match Site::new(rt, alloc) {
+            Ok(site) => site,
+            Err(why) => return Err(Unplaced { number, why }),
+        };
+        match wake_by(rt, leave, alloc, &site.poll) {
+            Ok(_) => Ok(site),
+            Err(why) => Err(Unplaced { number, why }),
+        }
+    }
 }
 
 impl<'a, R: Net> Site<'a, R> {
@@ -86,6 +117,8 @@ impl<R: Net + Clock + Wait> Site<'_, R> {
         // It is the one that is counted now.
         ensures number { result.number ≡ self.new.sessions }
         ensures counted { CountsOne self.old.sessions self.new.sessions }
+        // It ran over the connection to this peer.
+        ensures over { RunsOver peer result }
     {
         self.sessions = self.sessions.saturating_add(1);
         let began = Instant::now(self.rt);
@@ -98,11 +131,9 @@ impl<R: Net + Clock + Wait> Site<'_, R> {
             peer.limit_silence(patience);
         }
         watcher.peer(true);
-        let mut served = match wire_of(peer, &self.poll) {
+        let mut served = match wire_of(peer, &self.poll, self.sessions) {
             Ok(wire) => self.run(end, wire, session, watcher),
-            Err(refused) => {
-                Served::unbegun(session, self.sessions, Unserved::Unwatched(refused))
-            }
+            Err(refused) => Served::unbegun(session, refused),
         };
         watcher.peer(false);
         served.note(self.has_lasted(began), address);
@@ -121,11 +152,11 @@ impl<R: Net + Clock + Wait> Site<'_, R> {
         ensures session { result.session ≡ session }
         ensures number { result.number ≡ self.new.sessions }
         ensures kept { self.new.sessions ≡ self.old.sessions }
+        ensures over { IfOk result.finished (λ _. result.called ≡ wire.socket.called) }
     {
-        let number = self.sessions;
-        let mut tunnel = match TunnelLoop::new(self.alloc, wire, end, session.window, number) {
+        let mut tunnel = match TunnelLoop::new(self.alloc, wire, end, session, self.sessions) {
             Ok(tunnel) => tunnel,
-            Err(fault) => return Served::unbegun(session, number, Unserved::Unmade(fault)),
+            Err(refused) => return Served::unbegun(session, refused),
         };
         let served = tunnel.serve(self.rt, &mut self.poll, watcher, session);
         let mut wire = tunnel.into_wire();
@@ -151,16 +182,6 @@ impl<R: Net + Clock + Wait> Site<'_, R> {
     }
 }
 
-/// How a session ended of which nothing was done, for this.
-pub(crate) fn unserved(why: &Unserved) -> SessionEnd
-    ensures { (result.is_unwatched || result.lacked_memory) ≡ true }
-{
-    match why {
-        Unserved::Unmade(NewFault::OutOfMemory(_)) => lacking(),
-        Unserved::Unmade(_) | Unserved::Unwatched(_) | Unserved::NoEnd(_) => unwatched(),
-    }
-}
-
 /// How a session ended in which nothing went wrong.
 pub(crate) fn well() -> SessionEnd {
     SessionEnd {
@@ -176,7 +197,7 @@ pub(crate) fn well() -> SessionEnd {
 }
 
 /// How a session ended of which nothing was done, for want of memory.
-fn lacking() -> SessionEnd
+pub(crate) fn lacking() -> SessionEnd
     ensures { result.lacked_memory ≡ true }
 {
     let mut how = well();
@@ -185,7 +206,7 @@ fn lacking() -> SessionEnd
 }
 
 /// How a session ended of which nothing was done, as the system refused to watch the peer.
-fn unwatched() -> SessionEnd
+pub(crate) fn unwatched() -> SessionEnd
     ensures { result.is_unwatched ≡ true }
 {
     let mut how = well();

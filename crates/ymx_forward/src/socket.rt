@@ -162,7 +162,8 @@ impl<S: Stream + Drop> Socket<S> {
     /// A connection that was begun, and never waits. It may be there at once, as on the same machine: then it may take
     /// bytes. So may one that can't be made, so that it fails.
     pub(crate) fn begun(socket: S, origin: Origin) -> Socket<S>
-        ensures { result.is_wire ≡ false }
+        ensures wire { result.is_wire ≡ false }
+        ensures socket { result.socket ≡ socket }
     {
         let mut begun = Socket::new(socket, origin, ConnectState::Connecting, false);
         begun.look();
@@ -197,7 +198,9 @@ impl<S: Stream + Drop> Socket<S> {
     }
 
     /// Its connection.
-    pub(crate) fn connection(&self) -> &S {
+    pub(crate) fn connection(&self) -> &S
+        ensures { result.now ≡ self.now.socket }
+    {
         &self.socket
     }
 
@@ -218,6 +221,7 @@ impl<S: Stream + Drop> Socket<S> {
         requires once { S.registered self.old.socket ≡ false }
         ensures kept { ⟦<Socket<S> as Device>⟧.seen self.new ≡ ⟦<Socket<S> as Device>⟧.seen self.old }
         ensures asked { S.registered self.new.socket ≡ true }
+        ensures called { S.called self.new.socket ≡ S.called self.old.socket }
         ensures stays { self.new.is_wire ≡ self.old.is_wire }
         // It is asked under this token.
         ensures told { S.told_under self.new.socket ≡ option_map (λ _. token) (S.told_under self.old.socket) }

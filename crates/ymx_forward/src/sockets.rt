@@ -1,33 +1,19 @@
 //! Connections and listeners of the system.
 
-ghost use Rattle.std.specs.Prelude.{◌≡◌, IfOk};
+ghost use Rattle.std.specs.Prelude.{◌≡◌, ◌≢◌, true, IfOk};
 ghost use Rattle.ymx_forward.specs.Doors.{MayCall};
+ghost use Rattle.ymx_forward.specs.Users.{is_failed};
 
 use crate::accepting::Listening;
 use crate::doorkeeper::{Caller, Doorkeeper};
 use crate::peer::Peer;
 use crate::site::Site;
-use crate::system;
-use crate::system::{address_of, listen, send_at_once};
+use crate::system::{address_of, listen};
 use std::io;
-use std::io::ErrorKind;
 use std::net::{Net, SocketAddr, SocketAddrV4, TcpListener, TcpStream};
 use std::sync::Wait;
 use std::time::Clock;
 use ymx_policy::Happened;
-
-/// How often an accept whose connection went away meanwhile is made again in a row.
-const RETRIES: u32 = 1_024;
-
-/// Connects to this address. What is written goes out at once.
-pub(crate) fn connect<R: Net<Stream = TcpStream>>(
-    rt: &R,
-    address: SocketAddr,
-) -> io::Result<TcpStream> {
-    let socket = system::connect(rt, address)?;
-    send_at_once(&socket);
-    Ok(socket)
-}
 
 /// Listens at this address, and answers where: at port 0 the system chooses a port.
 pub(crate) fn listen_at<R: Net<Stream = TcpStream, Listener = TcpListener>>(
@@ -70,21 +56,13 @@ pub(crate) fn await_caller<R: Clock + Wait>(
 }
 
 /// Why no peers come any more.
-fn last_of(callers: &mut Listening) -> Happened {
+fn last_of(callers: &mut Listening) -> Happened
+    // Where none can be accepted any more it isn't that all came.
+    ensures { is_failed callers.old.source ≡ true → result ≢ Happened.AllCame }
+{
     if callers.has_failed() {
         Happened::Failed(callers.take_refusal())
     } else {
         Happened::AllCame
     }
-}
-
-/// Accepts one connection.
-pub(crate) fn accept(listener: &TcpListener) -> io::Result<TcpStream> {
-    for _ in 0..RETRIES {
-        match system::accept(listener) {
-            Err(e) if e.kind() == ErrorKind::ConnectionAborted => {}
-            accepted => return accepted,
-        }
-    }
-    Err(io::Error::from(ErrorKind::ConnectionAborted))
 }

@@ -1,6 +1,6 @@
 //! Why something can't begin.
 
-ghost use Rattle.ymx_forward.specs.Served.{IsNoEnd};
+ghost use Rattle.ymx_forward.specs.Served.{IsNoEnd, IsPoolRefusal, IsRefusal};
 
 use std::alloc::{AllocError, AllocFailed};
 use std::io;
@@ -17,11 +17,12 @@ pub(crate) enum StartFault {
 
 impl StartFault {
     /// What happened to an end.
-    pub(crate) fn happened(self) -> Happened
-        ensures { IsNoEnd result }
+    pub(crate) fn happened(&self) -> Happened
+        ensures end { IsNoEnd result }
+        ensures refusal { IsRefusal result }
     {
         match self {
-            StartFault::Unwatched(error) => failed(&error),
+            StartFault::Unwatched(error) => failed(error),
             StartFault::OutOfMemory(_) => Happened::LackedMemory,
         }
     }
@@ -35,7 +36,9 @@ impl StartFault {
     }
 
     /// What happened to a pool.
-    pub(crate) fn happened_to_pool(self) -> PoolHappened {
+    pub(crate) fn happened_to_pool(self) -> PoolHappened
+        ensures { IsPoolRefusal result }
+    {
         match self {
             StartFault::Unwatched(error) => PoolHappened::Failed(Some(Reason::of(&error))),
             StartFault::OutOfMemory(_) => PoolHappened::LackedMemory,
@@ -45,7 +48,8 @@ impl StartFault {
 
 /// The system refused, for this reason.
 pub(crate) fn failed(error: &io::Error) -> Happened
-    ensures { IsNoEnd result }
+    ensures end { IsNoEnd result }
+    ensures refusal { IsRefusal result }
 {
     Happened::Failed(Some(Reason::of(error)))
 }

@@ -173,7 +173,7 @@ impl Page {
                 return;
             }
             match self.wait() {
-                Err(e) if e.kind() != ErrorKind::Interrupted => return,
+                Err(e) if e.kind != ErrorKind::Interrupted => return,
                 _ => {}
             }
             if !is_over {

@@ -6,6 +6,7 @@ ghost use Rattle.std.specs.Prelude.{◌≡◌, false, true, ℕ, List, Option, B
 ghost use Rattle.std.specs.Io.{ReadsAtMost, WritesAtMost};
 ghost use Rattle.std.specs.Io.KnownBytes.{ReadConsumes, WriteAppends};
 ghost use Rattle.std.specs.Io.Slices.{io_slices_bytes};
+ghost use Rattle.std.specs.declared.net.socket_addr.SocketAddr.{SocketAddr as Address};
 
 use crate::system::{NoEvents, Poll};
 use std::io;
@@ -36,6 +37,13 @@ pub(crate) trait Stream {
     /// Under which token a poll was asked last to tell of it, where it can tell.
     ghost told_under: { Self → Option ℕ };
 
+    /// Whom this side called for it. None where its other side called.
+    ghost called: { Self → Option Address };
+
+    /// Whom this side called for it. None where its other side called.
+    fn called(&self) -> Option<SocketAddr>
+        ensures { result ≡ called self.now };
+
     /// Whether a poll was asked to tell of it.
     fn is_registered(&self) -> bool
         ensures { result ≡ registered self.now };
@@ -45,6 +53,7 @@ pub(crate) trait Stream {
     fn register(&mut self, poll: &Poll, token: usize) -> Result<(), NoEvents>
         requires once { registered self.old ≡ false }
         ensures registered { registered self.new ≡ true }
+        ensures called { called self.new ≡ called self.old }
         ensures bytes { (left self.new ≡ left self.old) × (had self.new ≡ had self.old) }
         ensures open { (finished self.new ≡ finished self.old) × (closed self.new ≡ closed self.old) × (aborted self.new ≡ aborted self.old) }
         ensures told { told_under self.new ≡ option_map (λ _. token) (told_under self.old) };

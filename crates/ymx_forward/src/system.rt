@@ -3,13 +3,13 @@
 //! what the system does, so this file is to be read. No other file of this crate makes such a call: the sockets that never
 //! wait are private here.
 
-ghost use Rattle.std.specs.Prelude.{◌≡◌, ◌<◌, ◌^◌, ◌==◌, false, true, length, IfOk};
-ghost use Rattle.std.specs.Io.{ReadsAtMost};
+ghost use Rattle.std.specs.Prelude.{◌≡◌, ◌<◌, ◌^◌, ◌==◌, false, length, IfOk, None, Some};
 ghost use Rattle.std.specs.Slice.Iter.{iter_rest, iter_steps};
 ghost use Rattle.std.specs.Iterator.Runs.{EveryRun, ItemsMapTo};
 ghost use Rattle.mio.specs.declared.event.event.Event.{Event as SystemEvent};
 ghost use Rattle.mio.specs.Events.{items};
 ghost use Rattle.libc.specs.Net.{SockOption};
+ghost use Rattle.ymx_forward.specs.Connections.{IsFresh};
 ghost use Rattle.ymx_forward.specs.Counts.{CountsOne};
 ghost use Rattle.ymx_forward.specs.Events.{event_of};
 
@@ -20,7 +20,7 @@ use libc::net as c;
 use mio::event::Iter;
 use mio::{Interest, Token};
 use std::alloc::Global;
-use std::io::{ErrorKind, IoSlice, Read, Write};
+use std::io::{ErrorKind, IoSlice, Write};
 use std::net::{Net, Shutdown, SocketAddr, TcpListener, TcpStream};
 use std::os::fd::AsRawFd;
 use std::time::Duration;
@@ -37,22 +37,17 @@ const BACKLOG: i32 = 4_096;
 /// The system has refused to tell of events. Only a call that it refused makes one.
 #[derive(Drop)]
 pub(crate) struct NoEvents {
-    why: io::Error,
-}
-
-impl NoEvents {
     /// What kind of error it was.
-    pub(crate) fn kind(&self) -> ErrorKind {
-        self.why.kind()
-    }
+    pub(crate) kind: ErrorKind,
+    seal: (),
 }
 
 /// What the system answered, where it was asked to tell of events.
 fn told(answer: io::Result<()>) -> Result<(), NoEvents> {
-    match answer {
-        Ok(()) => Ok(()),
-        Err(why) => Err(NoEvents { why }),
-    }
+    answer.map_err(|why| NoEvents {
+        kind: why.kind(),
+        seal: (),
+    })
 }
 
 // ---- connections that never wait
@@ -61,6 +56,8 @@ fn told(answer: io::Result<()>) -> Result<(), NoEvents> {
 /// more comes from it and was told that no more goes to it: so whatever cuts it, its other end sees a reset, and no end.
 pub(crate) struct TcpConnection {
     inner: mio::net::TcpStream,
+    /// Whom this side called for it. None where its other side called.
+    called: Option<SocketAddr>,
     /// A poll was asked to tell of it.
     is_registered: bool,
     /// It has not said that no more comes from it.
@@ -76,6 +73,7 @@ impl Drop for TcpConnection {
         }
         let TcpConnection {
             inner: _,
+            called: _,
             is_registered: _,
             gives: _,
             takes: _,
@@ -93,17 +91,26 @@ fn abort(connection: &mio::net::TcpStream) {
 impl TcpConnection {
     /// One that waits, made one that never does.
     pub(crate) fn of(connection: TcpStream) -> io::Result<TcpConnection>
-        ensures { IfOk result (λ connection. connection.is_registered ≡ false) }
+        ensures { IfOk result (IsFresh None) }
     {
-        connection.set_nonblocking(true)?;
-        Ok(TcpConnection::new(mio::net::TcpStream::from_std(connection)))
+        TcpConnection::over(connection, None)
     }
 
-    fn new(inner: mio::net::TcpStream) -> TcpConnection
-        ensures { result.is_registered ≡ false }
+    /// The same of one for which this address was called, if one was.
+    fn over(connection: TcpStream, called: Option<SocketAddr>) -> io::Result<TcpConnection>
+        ensures { IfOk result (IsFresh called) }
+    {
+        connection.set_nonblocking(true)?;
+        let inner = mio::net::TcpStream::from_std(connection);
+        Ok(TcpConnection::new(inner, called))
+    }
+
+    fn new(inner: mio::net::TcpStream, called: Option<SocketAddr>) -> TcpConnection
+        ensures { IsFresh called result }
     {
         TcpConnection {
             inner,
+            called,
             is_registered: false,
             gives: true,
             takes: true,
@@ -112,7 +119,7 @@ impl TcpConnection {
 
     /// One to a peer, which is closed and not aborted where it is dropped.
     pub(crate) fn to_peer(self) -> TcpConnection
-        ensures { result.is_registered ≡ self.is_registered }
+        ensures { result ≡ record self { gives = false; takes = false } }
     {
         let mut connection = self;
         connection.gives = false;
@@ -149,8 +156,6 @@ impl TcpConnection {
 }
 
 impl Stream for TcpConnection {
-    ghost use Rattle.std.specs.Prelude.{None};
-
     ghost left = { λ _. None };
 
     ghost had = { λ _. None };
@@ -164,6 +169,12 @@ impl Stream for TcpConnection {
     ghost registered = { λ s. s.is_registered };
 
     ghost told_under = { λ _. None };
+
+    ghost called = { λ s. s.called };
+
+    fn called(&self) -> Option<SocketAddr> {
+        self.called
+    }
 
     fn is_registered(&self) -> bool {
         self.is_registered
@@ -230,12 +241,11 @@ pub(crate) struct SystemDialer<'a, R> {
 }
 
 impl<R: Net> Dialer for SystemDialer<'_, R> {
-    ghost use Rattle.std.specs.Prelude.{None};
-
     ghost called = { λ _. None };
 
     fn begin(&mut self, address: SocketAddr) -> io::Result<TcpConnection> {
-        Ok(TcpConnection::new(mio::net::TcpStream::connect(self.rt, address)?))
+        let connection = mio::net::TcpStream::connect(self.rt, address)?;
+        Ok(TcpConnection::new(connection, Some(address)))
     }
 }
 
@@ -257,10 +267,10 @@ impl Listener {
 
     /// The next connection. Where none waits the error says so.
     pub(crate) fn next(&self) -> io::Result<TcpConnection>
-        ensures { IfOk result (λ connection. connection.is_registered ≡ false) }
+        ensures { IfOk result (IsFresh None) }
     {
         let (connection, _) = self.inner.accept()?;
-        Ok(TcpConnection::new(connection))
+        Ok(TcpConnection::new(connection, None))
     }
 }
 
@@ -367,9 +377,8 @@ pub(crate) struct Waker {
 impl Waker {
     /// One that ends the waits of this poll by an event under this token.
     pub(crate) fn new(poll: &Poll, token: usize) -> io::Result<Waker> {
-        Ok(Waker {
-            inner: mio::Waker::new(poll.inner.registry(), Token(token))?,
-        })
+        let inner = mio::Waker::new(poll.inner.registry(), Token(token))?;
+        Ok(Waker { inner })
     }
 
     /// Ends the wait that is under way, or else the next.
@@ -388,18 +397,19 @@ pub(crate) fn connect<R: Net<Stream = TcpStream>>(
     TcpStream::connect(rt, address)
 }
 
-/// Connects to this address, and waits for so long at most.
-pub(crate) fn connect_within<R: Net<Stream = TcpStream>>(
+/// Calls this address, and waits until somebody is there, or for so long at most. The connection never waits then.
+pub(crate) fn call<R: Net<Stream = TcpStream>>(
     rt: &R,
     address: SocketAddr,
-    limit: Duration,
-) -> io::Result<TcpStream> {
-    TcpStream::connect_timeout(rt, &address, limit)
-}
-
-/// What is written to this connection goes out at once.
-pub(crate) fn send_at_once(connection: &TcpStream) {
-    let _ = connection.set_nodelay(true);
+    limit: Option<Duration>,
+) -> io::Result<TcpConnection>
+    ensures { IfOk result (IsFresh (Some address)) }
+{
+    let connection = match limit {
+        Some(limit) => TcpStream::connect_timeout(rt, &address, limit)?,
+        None => TcpStream::connect(rt, address)?,
+    };
+    TcpConnection::over(connection, Some(address))
 }
 
 /// Listens at this address. Where the system refuses so long a backlog, its own stays.
@@ -421,13 +431,6 @@ pub(crate) fn address_of(listener: &TcpListener) -> io::Result<SocketAddr> {
 pub(crate) fn accept(listener: &TcpListener) -> io::Result<TcpStream> {
     let (connection, _) = listener.accept()?;
     Ok(connection)
-}
-
-/// Reads once into the front of this buffer, and says how many bytes. None, and no fault, where no more come.
-pub(crate) fn receive(mut connection: &TcpStream, buffer: &mut [u8]) -> io::Result<usize>
-    ensures { ReadsAtMost result buffer.new }
-{
-    connection.read(buffer)
 }
 
 /// Writes all of these bytes.

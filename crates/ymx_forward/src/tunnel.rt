@@ -20,7 +20,8 @@ ghost use Rattle.ymx_forward.specs.Signs.{is_sign};
 ghost use Rattle.ymx_engine.specs.Engines.{is_flushed, unframed};
 ghost use Rattle.ymx_forward.specs.Users.{IsStated, awaits_sign, can_open_later, has_no_place, is_followed, leaves_users, must_wait, user_is_due};
 ghost use Rattle.ymx_forward.specs.Offers.{BeginsFor, CallsTarget, EndsOffer, IsAnswered, NoneWaitsForPlace};
-ghost use Rattle.ymx_forward.specs.Sessions.{IsBegunFor, IsUnserved, free_target, has_failed, is_said, rule_of};
+ghost use Rattle.ymx_forward.specs.Sessions.{IsBegunFor, IsUnmade, IsUnserved, asked_to_go, free_target, has_failed, is_said, rule_of};
+ghost use Rattle.ymx_policy.specs.declared.asks.Session.{Session as Wanted};
 ghost use Rattle.ymx_law_session.specs.Limits.{IsWithin};
 ghost use Rattle.ymx_forward.specs.Sides.{role_at};
 ghost use Rattle.ymx_model.specs.session.Sessions.{is_running, new_session};
@@ -31,7 +32,7 @@ use crate::dialing::Dialer;
 use crate::inbox::Places;
 use crate::peer::Peer;
 use crate::silence::{Due, Silence, is_sign, shorter};
-use crate::site::unserved;
+use crate::site::{lacking, unwatched};
 use crate::socket::Socket;
 use crate::stillness::Stillness;
 use crate::stream::Stream;
@@ -111,15 +112,46 @@ pub struct Finished {
     was_left: bool,
 }
 
-/// Why no loop of a session came to its end. What it holds only the call makes that was refused.
+/// Why no loop of a session came to its end. Only a call that was refused makes one, and it stands for the session of this
+/// number alone.
 #[derive(Drop)]
-pub(crate) enum Unserved {
+pub(crate) struct Unserved {
+    /// The session's number among those of its place. There was none where it is 0.
+    number: u64,
+    why: Refused,
+}
+
+/// What was refused to a session.
+#[derive(Drop)]
+enum Refused {
     /// It is the client's, and there is no end to which users come.
     NoEnd(NoEnd),
     /// The system refused to tell of events.
     Unwatched(NoEvents),
     /// It could not be made.
     Unmade(NewFault),
+}
+
+impl Unserved {
+    /// A client's session has no end.
+    pub(crate) fn without_end(none: NoEnd) -> Unserved
+        ensures { (session : Wanted) → asked_to_go session.side ≡ None → IsUnserved session result }
+    {
+        Unserved {
+            number: 0,
+            why: Refused::NoEnd(none),
+        }
+    }
+
+    /// How such a session ended, of which nothing was done.
+    fn end(&self) -> SessionEnd
+        ensures { (result.is_unwatched || result.lacked_memory) ≡ true }
+    {
+        match &self.why {
+            Refused::Unmade(NewFault::OutOfMemory(_)) => lacking(),
+            Refused::Unmade(_) | Refused::Unwatched(_) | Refused::NoEnd(_) => unwatched(),
+        }
+    }
 }
 
 /// How a session ended that was asked for. [`TunnelLoop::serve`] makes one where the session ran, and else nothing but
@@ -135,24 +167,29 @@ pub(crate) struct Served {
     finished: Result<Finished, Unserved>,
     /// Its peer gave a sign of life, or wasn't to give one.
     was_heard: bool,
+    /// Whom this side called for the connection that carried it. None where the peer called, or none carried it.
+    called: Option<SocketAddr>,
     ghost ran: { is_err finished ≡ true → (how.is_unwatched || how.lacked_memory) ≡ true },
 }
 
 impl Served {
     /// This session could not begin, for this reason.
-    pub(crate) fn unbegun(session: Asked, number: u64, why: Unserved) -> Served
+    pub(crate) fn unbegun(session: Asked, why: Unserved) -> Served
         // One that could not be made is none that can be, or there was no memory for it.
         requires { IsUnserved session why }
         ensures session { result.session ≡ session }
-        ensures number { result.number ≡ number }
+        // It is the one to which that was refused.
+        ensures number { result.number ≡ why.number }
+        ensures unbegun { is_err result.finished ≡ true }
     {
-        let how = unserved(&why);
+        let how = why.end();
         Served {
             session,
-            number,
+            number: why.number,
             how,
             finished: Err(why),
             was_heard: false,
+            called: None,
         }
     }
 
@@ -160,6 +197,8 @@ impl Served {
     pub(crate) fn note(&mut self, has_lasted: bool, peer: Option<SocketAddrV4>)
         ensures session { self.new.session ≡ self.old.session }
         ensures number { self.new.number ≡ self.old.number }
+        ensures finished { self.new.finished ≡ self.old.finished }
+        ensures called { self.new.called ≡ self.old.called }
     {
         self.how.has_lasted = has_lasted;
         self.how.peer = peer;
@@ -187,6 +226,8 @@ pub(crate) struct TunnelLoop<'a> {
     tunnel_end: &'a mut TunnelEnd,
     /// Its number among the sessions of its place.
     number: u64,
+    /// Whom this side called for its wire. None where the peer called.
+    called: Option<SocketAddr>,
     /// How many bytes connections have given since the wire was last written to.
     unwritten: u64,
     /// Those who watch were told that the peer has come.
@@ -210,28 +251,41 @@ pub(crate) struct TunnelLoop<'a> {
 impl<'a> TunnelLoop<'a> {
     // ---- how it begins
 
-    /// A session over this wire that has moved nothing. The fault is that of a session that can't be made.
+    /// The session of this number that was asked for, over this wire, which has moved nothing. The fault is that it can't be
+    /// made.
     pub(crate) fn new(
         alloc: Global,
         wire: Socket,
         tunnel_end: &'a mut TunnelEnd,
-        window: u32,
+        asked: Asked,
         number: u64,
-    ) -> Result<TunnelLoop<'a>, NewFault>
-        // Its session is a new one of this side and this window.
-        ensures session { IfOk result (λ made. made.tunnel.engine.session ≡ new_session (role_at tunnel_end.old.side) window (first_id (role_at tunnel_end.old.side) 0)) }
+    ) -> Result<TunnelLoop<'a>, Unserved>
+        // Its session is a new one of this side and of the window that was asked for.
+        ensures session { IfOk result (λ made. made.tunnel.engine.session ≡ new_session (role_at tunnel_end.old.side) asked.window (first_id (role_at tunnel_end.old.side) 0)) }
         // Its tunnel forgets nobody who can be served.
         ensures serves { IfOk result (λ made. Serving made.tunnel) }
         ensures end { IfOk result (λ made. made.tunnel_end.now ≡ tunnel_end.old) }
         ensures number { IfOk result (λ made. made.number ≡ number) }
+        ensures called { IfOk result (λ made. made.called ≡ wire.socket.called) }
         // It can't be made with this window, or there was no memory for it.
-        ensures refused { IfErr result (λ fault. IsNewFault (role_at tunnel_end.old.side) (record { window = window; first = 0 }) fault) }
+        ensures refused { IfErr result (λ fault. IsUnmade (role_at tunnel_end.old.side) asked fault.why) }
+        ensures fault { IfErr result (λ fault. fault.number ≡ number) }
     {
-        let session = new_session(alloc, role_of(&tunnel_end.side), window)?;
+        let called = wire.connection().called();
+        let tunnel = match new_tunnel(alloc, wire, role_of(&tunnel_end.side), asked.window) {
+            Ok(tunnel) => tunnel,
+            Err(fault) => {
+                return Err(Unserved {
+                    number,
+                    why: Refused::Unmade(fault),
+                });
+            }
+        };
         Ok(TunnelLoop {
-            tunnel: Tunnel::new(alloc, session, wire)?,
+            tunnel,
             tunnel_end,
             number,
+            called,
             unwritten: 0,
             is_coming_told: false,
             is_loss_told: false,
@@ -263,6 +317,7 @@ impl<'a> TunnelLoop<'a> {
         requires begun { IsBegunFor session self.old.tunnel_end.now self.old.tunnel }
         ensures session { result.session ≡ session }
         ensures number { result.number ≡ self.old.number }
+        ensures called { result.called ≡ self.old.called }
         ensures runs { Runs self.old.tunnel self.new.tunnel }
         ensures over { IfOk result.finished (λ finished. finished.was_left ≡ false → IsOver self.new.tunnel) }
         ensures lost { IfOk result.finished (λ finished. finished.was_left ≡ true → WasLost self.old.tunnel self.new.tunnel) }
@@ -270,9 +325,13 @@ impl<'a> TunnelLoop<'a> {
         ensures away { result.how.is_peer_away ≡ self.new.tunnel.engine.session.away.there }
     {
         let number = self.number;
+        let called = self.called;
         let finished = match self.run(rt, poll, watcher, session.is_followed) {
             Ok(finished) => Ok(finished),
-            Err(refused) => Err(Unserved::Unwatched(refused)),
+            Err(refused) => Err(Unserved {
+                number,
+                why: Refused::Unwatched(refused),
+            }),
         };
         let how = self.end(finished.is_err());
         Served {
@@ -281,6 +340,7 @@ impl<'a> TunnelLoop<'a> {
             how,
             finished,
             was_heard: self.is_heard,
+            called,
         }
     }
 
@@ -965,7 +1025,9 @@ impl<'a> TunnelLoop<'a> {
         poll: &Poll,
         watcher: &mut V,
     )
-        requires { IsSome (free_target self.old.tunnel_end.now.side (length self.old.tunnel.lines.by_id)) }
+        requires free { IsSome (free_target self.old.tunnel_end.now.side (length self.old.tunnel.lines.by_id)) }
+        // The connection was begun to that target.
+        requires to { socket.called ≡ free_target self.old.tunnel_end.now.side (length self.old.tunnel.lines.by_id) }
         ensures runs { Runs self.old.tunnel self.new.tunnel }
         ensures end { self.new.tunnel_end.now ≡ self.old.tunnel_end.now }
         ensures answered { EndsOffer true self.old.tunnel self.new.tunnel }
@@ -994,7 +1056,9 @@ impl<'a> TunnelLoop<'a> {
     /// Accepts the stream that came first for this connection.
     fn accept(&mut self, socket: Socket, poll: &Poll) -> Result<Option<u32>, NotJoined>
         // Fewer are served than may be at once.
-        requires { IsSome (free_target self.old.tunnel_end.now.side (length self.old.tunnel.lines.by_id)) }
+        requires free { IsSome (free_target self.old.tunnel_end.now.side (length self.old.tunnel.lines.by_id)) }
+        // The connection was begun to the target.
+        requires to { socket.socket.called ≡ free_target self.old.tunnel_end.now.side (length self.old.tunnel.lines.by_id) }
         ensures runs { Runs self.old.tunnel self.new.tunnel }
         ensures end { self.new.tunnel_end.now ≡ self.old.tunnel_end.now }
         ensures answered { IsAnswered result self.old.tunnel self.new.tunnel }
@@ -1223,6 +1287,21 @@ fn new_session(alloc: Global, role: Role, window: u32) -> Result<Session, NewFau
     Session::new(alloc, role, Config { window, first: 0 })
 }
 
+/// A tunnel with a new session over this wire, of which nothing was moved.
+fn new_tunnel(
+    alloc: Global,
+    wire: Socket,
+    role: Role,
+    window: u32,
+) -> Result<Tunnel<Socket, Socket>, NewFault>
+    ensures session { IfOk result (λ tunnel. tunnel.engine.session ≡ new_session role window (first_id role 0)) }
+    ensures serves { IfOk result Serving }
+    ensures refused { IfErr result (λ fault. IsNewFault role (record { window = window; first = 0 }) fault) }
+{
+    let session = new_session(alloc, role, window)?;
+    Ok(Tunnel::new(alloc, session, wire)?)
+}
+
 /// What an event says of a socket. One that fails may be used at once, so that it says so.
 fn readiness_of(event: Event) -> Readiness
     ensures { result ≡ readiness_of event }
@@ -1235,17 +1314,29 @@ fn readiness_of(event: Event) -> Readiness
     }
 }
 
-/// The connection to the peer, of whose events the poll tells. The fault is that the system refuses.
-pub(crate) fn wire_of(peer: Peer, poll: &Poll) -> Result<Socket, NoEvents>
-    ensures { IfOk result (λ wire. wire.is_wire ≡ true) }
+/// The connection to the peer, of whose events the poll tells. The fault is that the system refuses it to the session of this
+/// number.
+pub(crate) fn wire_of(peer: Peer, poll: &Poll, number: u64) -> Result<Socket, Unserved>
+    ensures wire { IfOk result (λ wire. wire.is_wire ≡ true) }
+    // It is the connection to this peer.
+    ensures called { IfOk result (λ wire. wire.socket.called ≡ peer.socket.called) }
+    ensures refused { (session : Wanted) → IfErr result (IsUnserved session) }
+    ensures number { IfErr result (λ fault. fault.number ≡ number) }
 {
-    watched(peer.into_socket(), poll)
+    match watched(peer.into_socket(), poll) {
+        Ok(wire) => Ok(wire),
+        Err(refused) => Err(Unserved {
+            number,
+            why: Refused::Unwatched(refused),
+        }),
+    }
 }
 
 /// The wire over this stream, of whose events the poll tells under the wire's token. The fault is that the system refuses.
 fn watched<S: Stream + Drop>(stream: S, poll: &Poll) -> Result<Socket<S>, NoEvents>
     requires once { S.registered stream ≡ false }
     ensures wire { IfOk result (λ wire. wire.is_wire ≡ true) }
+    ensures called { IfOk result (λ wire. S.called wire.socket ≡ S.called stream) }
     ensures told { IfOk result (λ wire. S.told_under wire.socket ≡ option_map (λ _. wire_token) (S.told_under stream)) }
 {
     let mut wire = Socket::wire(stream);

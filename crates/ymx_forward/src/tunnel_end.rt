@@ -1,10 +1,10 @@
 //! One end of a tunnel, through all its sessions.
 
-ghost use Rattle.std.specs.Prelude.{◌≡◌, IfErr, IfOk, None, is_some};
+ghost use Rattle.std.specs.Prelude.{◌≡◌, ◌≢◌, true, IfErr, IfOk, None, Some, is_some};
 ghost use Rattle.ymx_policy.specs.declared.asks.Session.{Session as Asked};
 ghost use Rattle.ymx_forward.specs.Doors.{MayCall};
 ghost use Rattle.ymx_forward.specs.Sessions.{AreLimitsOf, HasNoEnd, Serves, asked_to_go, goes_to, has_failed};
-ghost use Rattle.ymx_forward.specs.Users.{comes_to, may_wait};
+ghost use Rattle.ymx_forward.specs.Users.{comes_at_most, comes_to, may_wait};
 
 use crate::accepting::Listening;
 use crate::doorkeeper::{Caller, Doorkeeper};
@@ -111,7 +111,9 @@ impl TunnelEnd {
         listening: Listening,
         users: Option<SocketAddrV4>,
         is_kept: bool,
-    ) -> TunnelEnd {
+    ) -> TunnelEnd
+        ensures { comes_at_most result ≡ listening.left }
+    {
         TunnelEnd {
             side: Side::Local(listening),
             is_kept,
@@ -402,7 +404,11 @@ impl TunnelEnd {
     }
 
     /// Why no more connections come: all have come that were to, or none can be accepted. None where some may come.
-    pub(crate) fn no_users(&mut self) -> Option<Happened> {
+    pub(crate) fn no_users(&mut self) -> Option<Happened>
+        // Where none can be accepted any more it isn't that all came.
+        ensures failed { has_failed self.old.side ≡ true → result ≢ Some Happened.AllCame }
+        ensures same { has_failed self.new.side ≡ has_failed self.old.side }
+    {
         match &mut self.side {
             Side::Local(listening) if !listening.is_over() => None,
             Side::Local(listening) if listening.has_failed() => {

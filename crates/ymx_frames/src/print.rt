@@ -9,8 +9,8 @@ ghost use Rattle.ymx_frames.specs.Outputs.{IsWhole, Prints};
 use crate::printer::Printer;
 use std::alloc::Global;
 use std::sync::Wait;
-use ymx_model::{Inlet, Outlet, push_all};
 use ymx_memory::{RefusedAllocation, zeros};
+use ymx_model::{Inlet, Outlet, push_all};
 
 /// How the printing of frames ended.
 #[derive(Clone, Copy, Debug, PartialEq, Eq)]

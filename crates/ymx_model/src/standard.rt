@@ -2,9 +2,9 @@
 
 ghost use Rattle.std.specs.Prelude.{◌≡◌, ◌+◌, ◌<◌, ◌-◌, ◌^◌, true};
 
+use crate::device::{DeviceFault, Inlet, Outlet};
 use crate::retrying::{read, write};
 use std::io::{Read, Write};
-use crate::device::{DeviceFault, Inlet, Outlet};
 
 /// A reader as an inlet.
 #[derive(Drop)]

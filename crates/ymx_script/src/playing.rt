@@ -11,8 +11,8 @@ ghost use Rattle.ymx_script.specs.Scripts.{IsTextPart};
 use crate::lines::{Lines, ScriptEnd};
 use std::alloc::Global;
 use std::sync::Wait;
-use ymx_model::{Inlet, Outlet, push_all};
 use ymx_memory::zeros;
+use ymx_model::{Inlet, Outlet, push_all};
 
 /// Bytes read at once.
 const INPUT: usize = 65_536;
