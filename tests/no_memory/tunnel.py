@@ -54,7 +54,7 @@ REASON = re.compile(r"^ymx: --[a-z]+(?: 127\.0\.0\.1:[0-9]+)?: .*\n(?=ymx: canno
 POLL = "FAIL_POLL_AT"
 # What refuses the start of a thread.
 THREAD = "FAIL_THREAD_AT"
-# How a run ends in which no thread could be made for a peer.
+# How a run ends in which no thread could be made for a peer, or none that starts those of peers.
 NO_THREAD = "no thread"
 # What `ymx selftest` prints.
 LINES = [f"connection {number}: {size} bytes echoed\n" for number, size in enumerate([0, 1, 300_000], 1)]
@@ -262,6 +262,9 @@ def judge(name, variable, near, far, questions, answer, sides):
     refused = {"local": [(1, OUT_OF_MEMORY)], "remote": [(1, OUT_OF_MEMORY)]}
     cannot_listen = (1, f"ymx: cannot listen at 127.0.0.1:{sides[0].port}\n")
     if name == "remote --keep" and variable != POLL and (near, far, questions, answer) == (good, good, [], b""):
+        return NO_THREAD
+    if name == "remote --keep" and variable != POLL and (near, far, questions, answer) == (unreached, cannot_listen, [], b""):
+        # none starts others, so it listens for nobody
         return NO_THREAD
     if name == "local --links 2" and variable != POLL and near == unreached and far == good:
         assert (questions, answer) == ([], b""), "a user was served without a thread"

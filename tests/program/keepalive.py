@@ -9,6 +9,7 @@ import ctypes
 import os
 import socket
 import sys
+import time
 
 import raw
 from raw import ANY, Program, accept, call, free_place, listen, take
@@ -87,6 +88,9 @@ def told_of_caller(wanted, *words):
     local = Program("local", "-v", "--keep", "--listen", ANY, "--bind", peers, *words)
     places = {local.place(), local.place()} - {peers}
     remote = Program("remote", "-v", "--peer", peers, "--target", address, *words)
+    # a user who comes before the peer is closed
+    while not connections(local.process):
+        time.sleep(0.01)
     user = call(places.pop())
     user.sendall(b"?")
     other = accept(target)
