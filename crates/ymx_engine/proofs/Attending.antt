@@ -18,7 +18,7 @@ use Rattle.ymx_engine.specs.Tunnels.{Tunnel}
 use Rattle.ymx_engine.specs.Turns.{Line, line_of, Extends, IsBehind, IsIdle, LeavesQueues}
 use Rattle.ymx_engine.specs.Ways.{is_over}
 use Rattle.ymx_engine.specs.Wires.{is_of_flush, has_starved}
-use Rattle.ymx_engine.specs.Work.{Attends, ComesNearer, HadTurn, HasLeft, ServesOne, ServesFirst, Reads, Writes, HasRead, HasWritten, may_have_bytes}
+use Rattle.ymx_engine.specs.Work.{Attends, ComesNearer, HadTurn, HasLeft, ServesOne, ServesFirst, Reads, WasOver, Writes, HasRead, HasWritten, may_have_bytes}
 use Rattle.ymx_engine.proofs.Carrying.{memory_then, memory_same}
 use Rattle.ymx_engine.proofs.Entries.{eq_ids}
 use Rattle.ymx_engine.proofs.Queueing.{extends_same, keeps_same, keeps_then}
@@ -193,9 +193,14 @@ reads_then a b c x m own wire over memory =
           let all = ap length both.1 in
           let long = length-append x.moves.came m.came in
           omega (arith, whole, all, long);
+      over = λ h. still (x.over (sym over ∙ h));
       memory = memory_then a.has_lacked_memory b.has_lacked_memory c.has_lacked_memory x.moves.events m.events both.0.events both.3 x.memory memory;
     }
   where
+    still : (a.is_wire_over ≡ true) ⊎ WasOver a b → (a.is_wire_over ≡ true) ⊎ WasOver a c
+    still (inl h) = inl h
+    still (inr w) = inr (record { between = w.between; before = w.before; over = w.over; behind = moves_then w.between b c w.behind m })
+
     by : {came : List ℕ} → came ≡ x.moves.came ++ m.came → (has_bytes x.moves.came ≡ true) ⊎ (may_have_bytes b ≡ false) → (has_bytes came ≡ true) ⊎ (may_have_bytes c ≡ false)
     by e (inl some) = inl (ap has_bytes e ∙ some_before x.moves.came m.came some)
     by e (inr none) = inr (same_may b c wire over ∙ none)

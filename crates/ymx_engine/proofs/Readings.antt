@@ -32,7 +32,8 @@ use Rattle.ymx_engine.specs.Tunnels.{Tunnel}
 use Rattle.ymx_engine.specs.Turns.{Line, Lines, line_of, Awaits, Extends, SameLines, SameQueues, Puts, AddsTurn, KeepsLines}
 use Rattle.ymx_engine.specs.Ways.{is_over, is_open, may_push, ways_after}
 use Rattle.ymx_engine.specs.Wires.{HandlesIn, TakesIn, has_starved}
-use Rattle.ymx_engine.specs.Work.{Reads, may_have_bytes}
+use Rattle.ymx_engine.specs.Moves.{Moves}
+use Rattle.ymx_engine.specs.Work.{Reads, WasOver, may_have_bytes}
 use Rattle.ymx_engine.proofs.Advancing.{feeds_some_so, offers_front}
 use Rattle.ymx_engine.proofs.Attending.{attends_on, runs_on}
 use Rattle.ymx_engine.proofs.Carrying.{pulled_so, handles_none_so, loses_in_so, memory_same}
@@ -42,7 +43,7 @@ use Rattle.ymx_engine.proofs.Filling.{filled_room}
 use Rattle.ymx_engine.proofs.Queueing.{adds_behind_same, line_put_there, puts_then_same, extends_same, extends_added, keeps_then, others_put}
 use Rattle.ymx_engine.proofs.Listing.{reads_reading}
 use Rattle.ymx_engine.proofs.Quiet.{both}
-use Rattle.ymx_engine.proofs.Running.{SameSeen, moves_read_so, moves_handled, moves_passed_so, puts_look}
+use Rattle.ymx_engine.proofs.Running.{SameSeen, moves_same, moves_read_so, moves_handled, moves_passed_so, puts_look}
 use Rattle.ymx_engine.proofs.Tending.{serving_fed, serving_alike, serving_with, served_waits, but_of}
 use Rattle.ymx_engine.proofs.WaysAfter.{to_peer_was, from_peer_was, stop_breaks_to, stop_breaks_from}
 
@@ -108,14 +109,19 @@ whole_given r buffer a b x room may near =
 
 -- the wire was called for bytes, and what it said was heard
 reads_pulled : (r : Pulled) (buffer : List ℕ) (a m b : Tunnel) → a.engine.incoming ≡ [] → IsPulled r buffer a.wire m.wire → one_read ≤ length buffer → m.engine.session ≡ a.engine.session → m.engine.outgoing ≡ a.engine.outgoing →
-    m.engine.incoming ≡ take (pulled_count r) buffer → (h : HandlesIn (is_end r || is_pull_failure r) m.engine b.engine) × (has_starved h.events ≡ false) → b.has_lacked_memory ≡ a.has_lacked_memory → b.wire ≡ m.wire → SameSeen a b → (gives r ≡ false → may_have_bytes b ≡ false) → Reads a b
-reads_pulled r buffer a m b none x room session outgoing incoming heard memory wire same off =
+    m.engine.incoming ≡ take (pulled_count r) buffer → (h : HandlesIn (is_end r || is_pull_failure r) m.engine b.engine) × (has_starved h.events ≡ false) → b.has_lacked_memory ≡ a.has_lacked_memory → b.wire ≡ m.wire → SameSeen a b → (gives r ≡ false → may_have_bytes b ≡ false) →
+    (b.is_wire_over ≡ true → (a.is_wire_over ≡ true) ⊎ (is_running b.engine.session.status ≡ false)) → Reads a b
+reads_pulled r buffer a m b none x room session outgoing incoming heard memory wire same off over =
     let y : IsPulled r buffer a.wire b.wire = subst (IsPulled r buffer a.wire) (sym wire) x in
     let t : TakesIn r a.engine m.engine a.wire b.wire = record { buffer = buffer; pulled = y; incoming = incoming; outgoing = outgoing; session = session } in
     let moved = pulled_so r a.engine m.engine b.engine a.wire b.wire none t heard.0 in
     let moves = moves_read_so a b 1 moved.0 same in
-    record { moves = moves.0; own = ap (list_all (λ (e : Event × Reply). is_of_reading e.0)) moves.2 ∙ reads_reading (moved.0).events (moved.0).own; asks = λ fed may. by (moves.0).came (moves.1 ∙ moved.1) (gives r) refl; fills = λ fed may on near. let whole = whole_given r buffer a b y room on near in let came = ap length (moves.1 ∙ moved.1) in omega (arith, whole, came); memory = memory_same a.has_lacked_memory b.has_lacked_memory (moves.0).events memory (ap has_starved (moves.2 ∙ moved.2) ∙ heard.1) }
+    record { moves = moves.0; own = ap (list_all (λ (e : Event × Reply). is_of_reading e.0)) moves.2 ∙ reads_reading (moved.0).events (moved.0).own; asks = λ fed may. by (moves.0).came (moves.1 ∙ moved.1) (gives r) refl; fills = λ fed may on near. let whole = whole_given r buffer a b y room on near in let came = ap length (moves.1 ∙ moved.1) in omega (arith, whole, came); over = λ h. was moves.0 (over h); memory = memory_same a.has_lacked_memory b.has_lacked_memory (moves.0).events memory (ap has_starved (moves.2 ∙ moved.2) ∙ heard.1) }
   where
+    was : Moves a b → (a.is_wire_over ≡ true) ⊎ (is_running b.engine.session.status ≡ false) → (a.is_wire_over ≡ true) ⊎ WasOver a b
+    was to (inl h) = inl h
+    was to (inr lost) = inr (record { between = b; before = to; over = lost; behind = moves_same b })
+
     by : (came : List ℕ) → came ≡ take (pulled_count r) buffer → (g : Bool) → gives r ≡ g → (has_bytes came ≡ true) ⊎ (may_have_bytes b ≡ false)
     by came is true g = inl (ap has_bytes is ∙ some_given r buffer a.wire m.wire x (omega (arith, room)) g)
     by came is false g = inr (off g)
@@ -158,18 +164,18 @@ rests_pulled r buffer a b x same = record {
 
 -- it gave some, or has none yet
 pub reads_gave : (r : Pulled) (buffer : List ℕ) (a b : Tunnel) → a.engine.incoming ≡ [] → IsPulled r buffer a.wire b.wire → one_read ≤ length buffer → b.engine.session ≡ a.engine.session → b.engine.outgoing ≡ a.engine.outgoing →
-    b.engine.incoming ≡ take (pulled_count r) buffer → ((n : ℕ) × (r ≡ pulled.Gave n)) ⊎ (r ≡ pulled.NotNow) → b.lines ≡ a.lines → b.has_lacked_memory ≡ a.has_lacked_memory → Reads a b × Runs a b
-reads_gave r buffer a b none x room session outgoing incoming is lines memory =
+    b.engine.incoming ≡ take (pulled_count r) buffer → ((n : ℕ) × (r ≡ pulled.Gave n)) ⊎ (r ≡ pulled.NotNow) → b.lines ≡ a.lines → b.has_lacked_memory ≡ a.has_lacked_memory → b.is_wire_over ≡ a.is_wire_over → Reads a b × Runs a b
+reads_gave r buffer a b none x room session outgoing incoming is lines memory over =
     runs_gave a b (reads_pulled r buffer a b b none x room session outgoing incoming (subst (λ (v : Bool). (h : HandlesIn v b.engine b.engine) × (has_starved h.events ≡ false)) (sym (goes_on r is)) (handles_none_so b.engine)) memory refl
-    (λ id. ap (λ (v : Lines). option_map (λ (l : Line). l.seen) (line_of id v)) lines) (λ h. none_to_read b (pulled_off r buffer a.wire b.wire x h))) session lines
+    (λ id. ap (λ (v : Lines). option_map (λ (l : Line). l.seen) (line_of id v)) lines) (λ h. none_to_read b (pulled_off r buffer a.wire b.wire x h)) (λ h. inl (sym over ∙ h))) session lines
 
 -- it ended or failed, and the session heard of it
 pub reads_lost : (r : Pulled) (buffer : List ℕ) (a m b : Tunnel) → a.engine.incoming ≡ [] → IsPulled r buffer a.wire m.wire → one_read ≤ length buffer → m.engine.session ≡ a.engine.session → m.engine.outgoing ≡ a.engine.outgoing →
     m.engine.incoming ≡ take (pulled_count r) buffer → (r ≡ pulled.Ended) ⊎ (r ≡ pulled.Failed) → m.lines ≡ a.lines → b.wire ≡ m.wire → b.is_wire_over ≡ true → Gives in_turn m.engine.session event.FeedEnd reply.Done b.engine.session → KeepsWire m.engine b.engine →
-    KeepsLines m.lines b.lines → (Serving m → Serving b) → b.has_lacked_memory ≡ a.has_lacked_memory → Reads a b × (Runs a b × Rests a b)
-reads_lost r buffer a m b none x room session outgoing incoming is lines wire over g keeps later serves memory =
+    KeepsLines m.lines b.lines → (Serving m → Serving b) → b.has_lacked_memory ≡ a.has_lacked_memory → is_running b.engine.session.status ≡ false → Reads a b × (Runs a b × Rests a b)
+reads_lost r buffer a m b none x room session outgoing incoming is lines wire over g keeps later serves memory lost =
     let heard = loses_in_so m.engine b.engine m.engine.session refl g keeps.incoming keeps.outgoing in
-    let reads = reads_pulled r buffer a m b none x room session outgoing incoming (subst (λ (v : Bool). (h : HandlesIn v m.engine b.engine) × (has_starved h.events ≡ false)) (sym (ends r is)) heard) memory wire (λ id. same_seen m b later id ∙ ap (λ (v : Lines). option_map (λ (l : Line). l.seen) (line_of id v)) lines) (λ h. over_to_read b over) in
+    let reads = reads_pulled r buffer a m b none x room session outgoing incoming (subst (λ (v : Bool). (h : HandlesIn v m.engine b.engine) × (has_starved h.events ≡ false)) (sym (ends r is)) heard) memory wire (λ id. same_seen m b later id ∙ ap (λ (v : Lines). option_map (λ (l : Line). l.seen) (line_of id v)) lines) (λ h. over_to_read b over) (λ h. inr lost) in
     let kept : KeepsLines a.lines b.lines = subst (λ (v : Lines). KeepsLines v b.lines) lines later in (
       reads,
       (runs_on a b reads.moves (λ h. serves (serving_alike a m session lines h)) kept.queues, rests_pulled r buffer a b (subst (IsPulled r buffer a.wire) (sym wire) x) kept.lines),
@@ -180,7 +186,7 @@ pub reads_none : (a : Tunnel) → (a.engine.incoming ≡ [] → may_have_bytes a
 reads_none a h =
     let none = handles_none_so a.engine in
     let moved = moves_handled a a none.0 refl (λ id. refl) in
-    record { moves = moved.0; own = moved.1; asks = λ fed may. absurd (h fed may); fills = λ fed may on near. absurd (h fed may); memory = memory_same a.has_lacked_memory a.has_lacked_memory (moved.0).events refl (ap has_starved moved.2 ∙ none.1) }
+    record { moves = moved.0; own = moved.1; asks = λ fed may. absurd (h fed may); fills = λ fed may on near. absurd (h fed may); over = λ h. inl h; memory = memory_same a.has_lacked_memory a.has_lacked_memory (moved.0).events refl (ap has_starved moved.2 ∙ none.1) }
 
 pub reads_from : (a b c : Tunnel) → a ≡ b → Reads a c → Reads b c
 reads_from a b c e x = subst (λ (v : Tunnel). Reads v c) e x

@@ -48,14 +48,23 @@ takes_more t = t.is_wire_over || (length t.engine.outgoing == 0) || t.wire.marks
 
 -- ---- one step
 
+-- the session was over somewhere between these two
+pub record WasOver (old new : Tunnel) : Type 0 where
+  pub between : Tunnel
+  pub before : Moves old between
+  pub over : is_running between.engine.session.status ≡ false
+  pub behind : Moves between new
+
 -- The wire was read, and nothing else happened: what it gave was fed, or went to the devices of its streams, of which one that failed
 -- had its stream reset. Where nothing waited to be fed and the wire might have bytes, some came, or it may have none now; and where it
--- may have more still, a whole read came, unless its end is near. It has lacked memory where it had, or where a feed did now.
+-- may have more still, a whole read came, unless its end is near. It is read no more only where it wasn't before, or where the session
+-- was over. It has lacked memory where it had, or where a feed did now.
 pub record Reads (old new : Tunnel) : Type 0 where
   pub moves : Moves old new
   pub own : list_all (λ e. is_of_reading e.0) moves.events ≡ true
   pub asks : old.engine.incoming ≡ [] → may_have_bytes old ≡ true → (has_bytes moves.came ≡ true) ⊎ (may_have_bytes new ≡ false)
   pub fills : old.engine.incoming ≡ [] → may_have_bytes old ≡ true → may_have_bytes new ≡ true → new.wire.marks.is_closing ≡ false → one_read ≤ length moves.came
+  pub over : new.is_wire_over ≡ true → (old.is_wire_over ≡ true) ⊎ WasOver old new
   pub memory : new.has_lacked_memory ≡ (old.has_lacked_memory || has_starved moves.events)
 
 -- What was due was written to the wire, and nothing else happened. Where it might take bytes and some waited or were due, it took

@@ -28,31 +28,31 @@ pub returns-in-Gave-clause-runs : goal.returns-in-Gave-clause-runs
 returns-in-Gave-clause-runs g c =
     let none = empty_of c.waiting.result.now c.self.inside.incoming c.is_empty.result c.is_empty.ensures c.waiting.ensures c.if-not-is_empty.false in
     let x = c.pull_from.ensures in
-    runs_from _ _ _ c.self.view_is (reads_gave c.pull_from.result x.0 _ _ none x.2 x.1 refl refl x.3 c.in-Gave.is refl refl).1
+    runs_from _ _ _ c.self.view_is (reads_gave c.pull_from.result x.0 _ _ none x.2 x.1 refl refl x.3 c.in-Gave.is refl refl refl).1
 
 pub returns-in-Gave-clause-reads : goal.returns-in-Gave-clause-reads
 returns-in-Gave-clause-reads g c =
     let none = empty_of c.waiting.result.now c.self.inside.incoming c.is_empty.result c.is_empty.ensures c.waiting.ensures c.if-not-is_empty.false in
     let x = c.pull_from.ensures in
-    reads_from _ _ _ c.self.view_is (reads_gave c.pull_from.result x.0 _ _ none x.2 x.1 refl refl x.3 c.in-Gave.is refl refl).0
+    reads_from _ _ _ c.self.view_is (reads_gave c.pull_from.result x.0 _ _ none x.2 x.1 refl refl x.3 c.in-Gave.is refl refl refl).0
 
 pub returns-in-Ended-clause-runs : goal.returns-in-Ended-clause-runs
 returns-in-Ended-clause-runs g c =
     let none = empty_of c.waiting.result.now c.self.inside.incoming c.is_empty.result c.is_empty.ensures c.waiting.ensures c.if-not-is_empty.false in
     let x = c.pull_from.ensures in
     let l = c.lose.ensures in
-    runs_from _ _ _ c.self.view_is (reads_lost c.pull_from.result x.0 _ _ _ none x.2 x.1 refl refl x.3 c.in-Ended.is refl l.wire l.over l.event l.bytes l.lines l.serves l.memory).1.0
+    runs_from _ _ _ c.self.view_is (reads_lost c.pull_from.result x.0 _ _ _ none x.2 x.1 refl refl x.3 c.in-Ended.is refl l.wire l.over l.event l.bytes l.lines l.serves l.memory l.lost).1.0
 
 pub returns-in-Ended-clause-rests : goal.returns-in-Ended-clause-rests
 returns-in-Ended-clause-rests g c =
     let none = empty_of c.waiting.result.now c.self.inside.incoming c.is_empty.result c.is_empty.ensures c.waiting.ensures c.if-not-is_empty.false in
     let x = c.pull_from.ensures in
     let l = c.lose.ensures in
-    rests_from _ _ _ c.self.view_is (reads_lost c.pull_from.result x.0 _ _ _ none x.2 x.1 refl refl x.3 c.in-Ended.is refl l.wire l.over l.event l.bytes l.lines l.serves l.memory).1.1
+    rests_from _ _ _ c.self.view_is (reads_lost c.pull_from.result x.0 _ _ _ none x.2 x.1 refl refl x.3 c.in-Ended.is refl l.wire l.over l.event l.bytes l.lines l.serves l.memory l.lost).1.1
 
 pub returns-in-Ended-clause-reads : goal.returns-in-Ended-clause-reads
 returns-in-Ended-clause-reads g c =
     let none = empty_of c.waiting.result.now c.self.inside.incoming c.is_empty.result c.is_empty.ensures c.waiting.ensures c.if-not-is_empty.false in
     let x = c.pull_from.ensures in
     let l = c.lose.ensures in
-    reads_from _ _ _ c.self.view_is (reads_lost c.pull_from.result x.0 _ _ _ none x.2 x.1 refl refl x.3 c.in-Ended.is refl l.wire l.over l.event l.bytes l.lines l.serves l.memory).0
+    reads_from _ _ _ c.self.view_is (reads_lost c.pull_from.result x.0 _ _ _ none x.2 x.1 refl refl x.3 c.in-Ended.is refl l.wire l.over l.event l.bytes l.lines l.serves l.memory l.lost).0
