@@ -33,6 +33,7 @@ pub mod Readings
 pub mod Tending
 pub mod Resting
 pub mod Partaking
+mod Placing
 pub mod Turned
 pub mod Entering
 pub mod Flushing

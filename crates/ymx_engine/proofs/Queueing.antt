@@ -159,6 +159,10 @@ keeps_added id a b same x = keeps_grown a b same (extends_added id a b x) x.miss
 pub keeps_queues : (a b : Lines) → SameLines a b → SameQueues a b → KeepsLines a b
 keeps_queues a b same x = keeps_grown a b same (extends_queues a b x) (λ h. x.missed ∙ h) x.held
 
+-- only the turns are others that a frame waits for
+pub keeps_counted : (a : Lines) (turns : Option ℕ) → KeepsLines a (record a { turns_to_place = turns })
+keeps_counted a turns = keeps_queues a (record a { turns_to_place = turns }) (λ id. refl) (record { fresh = refl; busy = refl; held = refl; flag = refl; missed = refl })
+
 -- one that was held back was let go of, and waits for a turn now
 pub keeps_let_go : (id : ℕ) (a b c : Lines) → SameLines a b → Extends a b → b.missed ≡ a.missed → a.held ≡ id ∷ b.held → SameLines b c → AddsTurn id b c → (IsSome (line_of id b) → Awaits id c) → KeepsLines a c
 keeps_let_go id a b c same x missed first after turn own =

@@ -1,9 +1,11 @@
 -- Whose turn it is, and that each that waits comes nearer to its own.
-use Rattle.std.proofs.Common.{◌≡◌, ◌⊎◌, inl, inr, ℕ, zero, suc, ◌+◌, ◌*◌, ◌<◌, ◌≤◌, ◌==◌, List, [], ◌∷◌, ◌++◌, length, Bool, true, false, ◌&&◌, ◌||◌, not, Some, refl, sym, ap, ◌∙◌, subst, arith}
-use Rattle.std.specs.Prelude.{nat_eq, slice_get, Contains, if◌then◌else◌}
+use Rattle.std.proofs.Common.{◌≡◌, ◌⊎◌, inl, inr, ℕ, zero, suc, ◌+◌, ◌-◌, ◌*◌, ◌<◌, ◌≤◌, ◌==◌, List, [], ◌∷◌, ◌++◌, length, Bool, true, false, ◌&&◌, ◌||◌, not, Some, min, refl, sym, ap, ◌∙◌, subst, arith}
+use Rattle.std.specs.Prelude.{nat_eq, slice_get, Contains, if◌then◌else◌, option_map}
+use Rattle.std.specs.Option.{option_map_or}
+use Rattle.std.proofs.lemmas.Grind.{common_steps}
 use Rattle.std.proofs.lemmas.Option.{slice_get_within}
 use Rattle.std.proofs.lemmas.Bool.Decides.{nat_tests}
-use Rattle.ymx_engine.specs.Turns.{Lines, Waits, IsIdle, IsBehind, HasTurnSoon, IsFirst, TakesTurn, takes_busy, Extends, LeavesQueues}
+use Rattle.ymx_engine.specs.Turns.{Lines, Waits, IsIdle, IsBehind, HasTurnSoon, IsFirst, TakesTurn, takes_busy, turns_of_all, turns_left, Extends, LeavesQueues}
 use Rattle.ymx_engine.proofs.Entries.{some_is, no_some}
 use Rattle.ymx_engine.proofs.Marking.{Taken}
 use Rattle.ymx_engine.proofs.Once.{stands_at, without_place, without_stands}
@@ -51,8 +53,8 @@ fresh_taken flag f g rest id other n turn first (suc place, inl (at, is)) =
 
 -- the queue whose turn it is was said, and its first was taken
 pub takes_turn : (id : ℕ) (old new : Lines) → (takes_busy old ≡ true → (old.busy ≡ id ∷ new.busy) × (new.fresh ≡ old.fresh) × (new.is_for_busy ≡ false)) →
-    (takes_busy old ≡ false → (old.fresh ≡ id ∷ new.fresh) × (new.busy ≡ old.busy) × (new.is_for_busy ≡ true)) → TakesTurn id old new
-takes_turn id old new busy fresh = by (takes_busy old) refl
+    (takes_busy old ≡ false → (old.fresh ≡ id ∷ new.fresh) × (new.busy ≡ old.busy) × (new.is_for_busy ≡ true)) → new.turns_to_place ≡ option_map (λ n. n - 1) old.turns_to_place → TakesTurn id old new
+takes_turn id old new busy fresh counted = by (takes_busy old) refl
   where
     by : (b : Bool) → takes_busy old ≡ b → TakesTurn id old new
     by true t =
@@ -61,6 +63,7 @@ takes_turn id old new busy fresh = by (takes_busy old) refl
           first = subst (λ (b : Bool). IsFirst b id old new) (sym t) (took.0, took.1);
           comes = λ other n far. subst (λ (b : Bool). Sooner b new.fresh new.busy id other n) (sym took.2) (subst (λ (v : List ℕ). Sooner false v new.busy id other n) (sym took.1)
               (busy_taken old.is_for_busy old.fresh old.busy new.busy id other n t took.0 far));
+          counted = counted;
         }
     by false t =
         let took = fresh t in
@@ -68,7 +71,15 @@ takes_turn id old new busy fresh = by (takes_busy old) refl
           first = subst (λ (b : Bool). IsFirst b id old new) (sym t) (took.0, took.1);
           comes = λ other n far. subst (λ (b : Bool). Sooner b new.fresh new.busy id other n) (sym took.2) (subst (λ (v : List ℕ). Sooner true new.fresh v id other n) (sym took.1)
               (fresh_taken old.is_for_busy old.fresh old.busy new.fresh id other n t took.0 far));
+          counted = counted;
         }
+
+-- a frame that waits for a place waits as before where the turns are counted that it waits for
+capped : (q n : ℕ) → min q (min q n) ≡ min q n
+capped q n = grind (arith, common_steps)
+
+pub turns_kept : (a : Lines) → turns_left (record a { turns_to_place = Some (turns_left a) }) ≡ turns_left a
+turns_kept a = capped (turns_of_all a) (option_map_or (λ n. n) a.turns_to_place (turns_of_all a))
 
 pub turn_from : (id : ℕ) (a b c : Lines) → a ≡ b → TakesTurn id a c → TakesTurn id b c
 turn_from id a b c e x = subst (λ (t : Lines). TakesTurn id t c) e x

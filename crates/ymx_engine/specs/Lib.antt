@@ -8,6 +8,7 @@ pub mod Entries
 pub mod Refusals
 pub mod Wires
 pub mod Passes
+pub mod Places
 pub mod Tunnels
 pub mod Lives
 pub mod Serves

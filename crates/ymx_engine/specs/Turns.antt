@@ -1,5 +1,5 @@
 -- The connections of a tunnel, and whose turns come (this project's own).
-use Rattle.std.specs.Prelude.{ℕ, ◌≡◌, ◌⊎◌, ◌∷◌, ◌++◌, ◌==◌, ◌+◌, ◌*◌, ◌<◌, ◌&&◌, ◌||◌, not, length, List, [], Bool, true, false, if◌then◌else◌, Option, Some, option_map, nat_eq, cond, Contains, IsSome, slice_get}
+use Rattle.std.specs.Prelude.{ℕ, ◌≡◌, ◌⊎◌, ◌∷◌, ◌++◌, ◌==◌, ◌+◌, ◌-◌, ◌*◌, ◌<◌, ◌&&◌, ◌||◌, not, length, List, [], Bool, true, false, if◌then◌else◌, Option, Some, option_map, nat_eq, cond, min, Contains, IsSome, slice_get}
 use Rattle.std.specs.Map.{lookup}
 use Rattle.std.specs.Option.{option_map_or}
 use Rattle.ymx_engine.specs.declared.device.Readiness.{Readiness}
@@ -20,8 +20,8 @@ pub record Entry : Type 0 where
 
 -- The connections by stream id; those that wait for a turn, which had none since they came to have something to move, or
 -- have more to move; those that are held back; whether the next turn is of those that have more; whether one more may be
--- queued, and one more kept, without memory; and whether a turn was missed, as its queue had no room and memory for it was
--- refused.
+-- queued, and one more kept, without memory; whether a turn was missed, as its queue had no room and memory for it was
+-- refused; and for how many turns at most the next frame of the wire waits, where it lacks a place.
 pub record Lines : Type 0 where
   pub by_id : List (ℕ × Entry)
   pub fresh : List ℕ
@@ -31,6 +31,7 @@ pub record Lines : Type 0 where
   pub has_room : Bool
   pub has_place : Bool
   pub missed : Bool
+  pub turns_to_place : Option ℕ
 
 -- the connection of this stream
 abbrev pub line_of : ℕ → Lines → Option Line
@@ -84,10 +85,25 @@ abbrev pub IsFirst : (busy : Bool) → (id : ℕ) → (old new : Lines) → Type
 IsFirst true id old new = (old.busy ≡ id ∷ new.busy) × (new.fresh ≡ old.fresh)
 IsFirst false id old new = (old.fresh ≡ id ∷ new.fresh) × (new.busy ≡ old.busy)
 
--- This one had its turn, as the first of the queue whose turn it was. Each other that waited has fewer before it now.
+-- how many connections wait for a turn, as far as 64 bits count
+abbrev pub queued_count : Lines → ℕ
+queued_count t = min (length t.fresh + length t.busy) 18446744073709551615
+
+-- within so many turns each that waits has had its own, as the two queues take turns
+abbrev pub turns_of_all : Lines → ℕ
+turns_of_all t = min (2 * queued_count t) 18446744073709551615
+
+-- For how many turns a frame that lacks a place still waits: until each connection that waited for a turn as the frame came to wait has
+-- had it, and for none where no connection waits.
+abbrev pub turns_left : Lines → ℕ
+turns_left t = min (turns_of_all t) (option_map_or (λ n. n) t.turns_to_place (turns_of_all t))
+
+-- This one had its turn, as the first of the queue whose turn it was. Each other that waited has fewer before it now. A frame that
+-- lacks a place waits for one turn less.
 pub record TakesTurn (id : ℕ) (old new : Lines) : Type 0 where
   pub first : IsFirst (takes_busy old) id old new
   pub comes : (other n : ℕ) → IsBehind other n old → (other ≡ id) ⊎ ((m : ℕ) × (m < n) × IsBehind other m new)
+  pub counted : new.turns_to_place ≡ option_map (λ n. n - 1) old.turns_to_place
 
 -- ---- what changes
 

@@ -137,14 +137,23 @@ impl Block {
         fed
     }
 
-    /// The session is fed what waits up to a payload that may be passed on, and what it takes waits no more.
-    pub(crate) fn feed_to_payload(&mut self, session: &mut Session, touched: &mut Touched) -> Fed
+    /// The session is fed the first of the bytes that wait, so many at most, up to a payload that may be passed on. What it takes
+    /// waits no more.
+    pub(crate) fn feed_to_payload(
+        &mut self,
+        session: &mut Session,
+        most: usize,
+        touched: &mut Touched,
+    ) -> Fed
         ensures fed { FeedsSome session.old self.old result session.new }
+        ensures few { result.taken ≤ most }
         ensures rest { self.new ≡ drop result.taken self.old }
-        ensures stops { result.taken < length self.old → (is_stuck session.new ≡ true) ⊎ IsSome (passing session.new) }
+        ensures stops { result.taken < most → result.taken < length self.old → (is_stuck session.new ≡ true) ⊎ IsSome (passing session.new) }
         ensures notes { NotesChanges session.old session.new touched.new }
     {
-        let fed = session.feed_to_payload(self.waiting(), touched);
+        let waiting = self.waiting();
+        let front = &waiting[..most.min(waiting.len())];
+        let fed = session.feed_to_payload(front, touched);
         self.drop_front(fed.taken);
         fed
     }

@@ -1,13 +1,13 @@
 //! The connections of a tunnel by stream id, each with its device, and whose turn comes.
 
-ghost use Rattle.std.specs.Prelude.{ℕ, ◌≡◌, ◌<◌, ◌≤◌, ◌⊎◌, ◌+◌, ◌∷◌, ◌==◌, ◌&&◌, ◌||◌, if◌then◌else◌, not, [], length, nat_eq, min, slice_get, is_some, option_map, true, false, None, Some, Contains, OnOk, OnErr, IsOk, IfSome, IfNone, IsSome, MatchOption};
+ghost use Rattle.std.specs.Prelude.{ℕ, ◌≡◌, ◌<◌, ◌≤◌, ◌⊎◌, ◌+◌, ◌-◌, ◌∷◌, ◌==◌, ◌&&◌, ◌||◌, if◌then◌else◌, not, [], length, nat_eq, nat_lt, min, slice_get, is_some, option_map, true, false, None, Some, Contains, OnOk, OnErr, IsOk, IfSome, IfNone, IsSome, MatchOption};
 ghost use Rattle.std.specs.List.{list_any};
 ghost use Rattle.std.specs.Map.{lookup, keys_of};
 ghost use Rattle.std.specs.VecDeque.{deque_len, deque_capacity};
 ghost use Rattle.ymx_session.specs.Touched.{is_noted, nothing_noted};
 ghost use Rattle.ymx_engine.specs.Entries.{Rewrites};
 ghost use Rattle.ymx_engine.specs.Ways.{is_over, new_ways};
-ghost use Rattle.ymx_engine.specs.Turns.{Line as LineValue, line_of, look, ways_of, held_mark, queue_mark, is_idle, Puts, SameLines, SameQueues, KeepsLines, Adds, Notes, Waits, Awaits, Attended, IsIdle, StaysOrAdds, WaitsAlone, AddsTurn, TakesTurn, Extends, StaysMissed, LeavesQueues, StandsBehind, without};
+ghost use Rattle.ymx_engine.specs.Turns.{Line as LineValue, line_of, look, ways_of, held_mark, queue_mark, is_idle, Puts, SameLines, SameQueues, KeepsLines, Adds, Notes, Waits, Awaits, Attended, IsIdle, StaysOrAdds, WaitsAlone, AddsTurn, TakesTurn, Extends, StaysMissed, LeavesQueues, StandsBehind, turns_left, without};
 
 use crate::device::{Device, Readiness};
 use crate::ways::Ways;
@@ -62,6 +62,8 @@ pub(crate) struct Lines<D: Device + Drop> {
     /// A queue had no room for one that was to wait for a turn, and memory for it was refused. Memory for a turn of each
     /// is taken before it is added, so this never is.
     missed: Option<RefusedAllocation>,
+    /// For how many turns at most the next frame of the wire waits, where it lacks a place.
+    turns_to_place: Option<usize>,
 }
 
 impl<D: Device + Drop> Model for Lines<D> {
@@ -74,7 +76,7 @@ impl<D: Device + Drop> Model for Lines<D> {
 
     ghost use Rattle.ymx_engine.specs.Entries.{entries_seen};
 
-    ghost view = { λ l. record { by_id = entries_seen D.seen l.by_id.entries; fresh = l.fresh.items; busy = l.busy.items; held = l.held.items; is_for_busy = l.is_for_busy; has_room = nat_lt (deque_len l.fresh) (deque_capacity l.fresh) && nat_lt (deque_len l.busy) (deque_capacity l.busy); has_place = nat_lt 0 (spare l.by_id); missed = is_some l.missed } };
+    ghost view = { λ l. record { by_id = entries_seen D.seen l.by_id.entries; fresh = l.fresh.items; busy = l.busy.items; held = l.held.items; is_for_busy = l.is_for_busy; has_room = nat_lt (deque_len l.fresh) (deque_capacity l.fresh) && nat_lt (deque_len l.busy) (deque_capacity l.busy); has_place = nat_lt 0 (spare l.by_id); missed = is_some l.missed; turns_to_place = l.turns_to_place } };
 
     ghost invariant = { λ l. AreListed (entries_seen D.seen l.by_id.entries) l.fresh.items l.busy.items × AreHeld (entries_seen D.seen l.by_id.entries) l.held.items };
 }
@@ -94,6 +96,7 @@ impl<D: Device + Drop> Lines<D> {
             held: VecDeque::new(alloc),
             is_for_busy: false,
             missed: None,
+            turns_to_place: None,
         }
     }
 
@@ -227,6 +230,29 @@ impl<D: Device + Drop> Lines<D> {
         self.fresh.len().saturating_add(self.busy.len())
     }
 
+    /// For how many turns a frame that lacks a place still waits: until each connection that waited for a turn as the frame came to
+    /// wait has had it, and for none where no connection waits.
+    fn turns_left(&self) -> usize
+        ensures { result ≡ turns_left self.now }
+    {
+        let of_all = self.queued_count().saturating_mul(2);
+        match self.turns_to_place {
+            Some(turns) => of_all.min(turns),
+            None => of_all,
+        }
+    }
+
+    /// Whether the next frame of the wire, which may lack a place, waits for a turn of a connection.
+    pub(crate) fn puts_off(&mut self, lacks_place: bool) -> bool
+        ensures waits { result ≡ (lacks_place && nat_lt 0 (turns_left self.old)) }
+        // So many turns it waits, at most.
+        ensures counts { self.new ≡ record self.old { turns_to_place = if lacks_place then Some (turns_left self.old) else None } }
+    {
+        let left = self.turns_left();
+        self.turns_to_place = lacks_place.then_some(left);
+        lacks_place && left > 0
+    }
+
     /// Whether none waits for a turn.
     pub(crate) fn is_idle(&self) -> bool
         ensures { result ≡ is_idle self.now }
@@ -328,6 +354,7 @@ impl<D: Device + Drop> Lines<D> {
     {
         let id = pop(&mut self.fresh, &mut self.busy, &mut self.is_for_busy)?;
         note_turn(&mut self.by_id, id);
+        self.turns_to_place = one_less(self.turns_to_place);
         Some(id)
     }
 
@@ -380,8 +407,26 @@ impl<D: Device + Drop> Lines<D> {
         }
     }
 
+    /// Bytes of the peer were fed: those that they touched have something to move, and the next frame has not waited for a place.
+    pub(crate) fn hear_touched(&mut self, touched: &mut Touched)
+        ensures keeps { KeepsLines self.old self.new }
+        ensures all { (id : ℕ) → is_noted id touched.old ≡ true → IsSome (line_of id self.old) → Awaits id self.new }
+        ensures cleared { touched.new ≡ nothing_noted touched.old.blind }
+        ensures anew { self.new.turns_to_place ≡ None }
+    {
+        self.enqueue_touched(touched);
+        self.count_anew();
+    }
+
+    /// The next frame has not waited for a place.
+    fn count_anew(&mut self)
+        ensures { self.new ≡ record self.old { turns_to_place = None } }
+    {
+        self.turns_to_place = None;
+    }
+
     /// Those that bytes of the peer touched have something to move.
-    pub(crate) fn enqueue_touched(&mut self, touched: &mut Touched)
+    fn enqueue_touched(&mut self, touched: &mut Touched)
         ensures keeps { KeepsLines self.old self.new }
         ensures all { (id : ℕ) → is_noted id touched.old ≡ true → IsSome (line_of id self.old) → Awaits id self.new }
         // No other comes to wait for a turn.
@@ -446,6 +491,16 @@ fn leave_queue(queue: &mut VecDeque<u32>, id: u32)
     ensures { queue.new.items ≡ without id queue.old.items }
 {
     queue.retain(|other| *other != id);
+}
+
+/// One turn less, if some are counted.
+fn one_less(turns: Option<usize>) -> Option<usize>
+    ensures { result ≡ option_map (λ n. n - 1) turns }
+{
+    match turns {
+        Some(count) => Some(count.saturating_sub(1)),
+        None => None,
+    }
 }
 
 /// This one waits for no turn.

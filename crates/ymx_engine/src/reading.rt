@@ -1,6 +1,6 @@
 //! What comes over the wire of a tunnel: it is fed to the session, or goes straight to the devices that take it.
 
-ghost use Rattle.std.specs.Prelude.{ℕ, ◌≡◌, ◌+◌, ◌⊎◌, ◌<◌, ◌≤◌, ◌&&◌, ◌||◌, nat_lt, nat_le, [], length, true, false, IfSome, IfNone, IsSome};
+ghost use Rattle.std.specs.Prelude.{ℕ, ◌≡◌, ◌+◌, ◌⊎◌, ◌<◌, ◌≤◌, ◌&&◌, ◌||◌, nat_lt, nat_le, if◌then◌else◌, [], length, true, false, None, Some, IfSome, IfNone, IsSome};
 ghost use Rattle.std.specs.Option.{option_map_or};
 ghost use Rattle.ymx_machine.specs.declared.types.Reply.TheVariants as reply;
 ghost use Rattle.ymx_model.specs.declared.types.Event.TheVariants as event;
@@ -9,25 +9,33 @@ ghost use Rattle.ymx_model.specs.session.Feeds.{is_stuck};
 ghost use Rattle.ymx_model.specs.session.Histories.{Gives};
 ghost use Rattle.ymx_model.specs.session.Sessions.{is_running};
 ghost use Rattle.ymx_session.specs.Passing.{passing};
-ghost use Rattle.ymx_engine.specs.Engines.{IsFedOrStuck, KeepsWire};
+ghost use Rattle.ymx_engine.specs.Engines.{KeepsWire};
 ghost use Rattle.ymx_engine.specs.Moves.{Moves};
 ghost use Rattle.ymx_engine.specs.Passes.{IsRow, row_len};
+ghost use Rattle.ymx_engine.specs.Places.{is_put_off, may_open, lacks_place, begun, feed_limit, IsFedOrWaits};
 ghost use Rattle.ymx_engine.specs.Runs.{Runs, Stays, Rests};
 ghost use Rattle.ymx_engine.specs.Served.{Serving};
 ghost use Rattle.ymx_engine.specs.Steps.{Keeps, ReadsOn, StaysOver};
-ghost use Rattle.ymx_engine.specs.Turns.{line_of, Awaits, KeepsLines};
+ghost use Rattle.ymx_engine.specs.Turns.{line_of, Awaits, KeepsLines, turns_left};
 ghost use Rattle.ymx_engine.specs.Ways.{may_push};
 ghost use Rattle.ymx_engine.specs.Work.{Reads};
 
 use crate::device::{Device, Pulled};
-use crate::row::{Row, row_of};
+use crate::row::{HEADER, Row, row_of};
 use crate::tunnel::Tunnel;
+use ymx_header::{TYPE_PING, decode};
 use ymx_model::Status;
 
 impl<D: Device + Drop, W: Device + Drop> Tunnel<D, W> {
     /// Reads from the wire once, where all that it gave before was fed, and feeds what waits. Payload of which `least` bytes
     /// of one frame wait, or a row of whole frames that fills a call, goes straight to the device that takes it. Once the wire
-    /// has ended or failed the session is lost. This call alone lacks memory, as `has_lacked_memory` tells: where a feed rejects
+    /// has ended or failed the session is lost.
+    ///
+    /// A frame that opens a stream waits where 1,024 streams are there, and with it all behind it, as long as a connection waits for
+    /// a turn in which it may make place: until each that waits for one as the frame comes has had it. So no stream is rejected for
+    /// one that has ended before it.
+    ///
+    /// This call alone lacks memory, as `has_lacked_memory` tells: where a feed rejects
     /// a stream of the peer's for want of it.
     pub fn read_wire(&mut self, least: usize)
         ensures runs { Runs self.old self.new }
@@ -35,8 +43,8 @@ impl<D: Device + Drop, W: Device + Drop> Tunnel<D, W> {
         ensures rests { Rests self.old self.new }
         // Where nothing waits to be fed and the wire may have bytes, it gives some, or may have none now.
         ensures reads { Reads self.old self.new }
-        // All that waits is fed, as far as the session takes it now.
-        ensures fed { IsFedOrStuck self.new.engine }
+        // All that waits is fed, as far as the session takes it now, and the next frame doesn't wait for a place.
+        ensures fed { IsFedOrWaits self.new }
     {
         self.pull_wire();
         // each row that is passed on has a byte at least
@@ -82,7 +90,7 @@ impl<D: Device + Drop, W: Device + Drop> Tunnel<D, W> {
     }
 
     /// Feeds what waits up to a row of payload that is worth a call of its device, which may take some. `None` where all that
-    /// can be fed now was fed.
+    /// can be fed now was fed, or where the next frame waits for a place.
     ///
     /// Payload goes into its stream's ring where its device may not take bytes now, or where a call of it is not worth
     /// making. It is worth one where `least` bytes of the frame wait, or where a row fills a call.
@@ -90,13 +98,18 @@ impl<D: Device + Drop, W: Device + Drop> Tunnel<D, W> {
         ensures keeps { Keeps self.old self.new }
         // It stops where a row may be passed on, or where the session takes no more now.
         ensures row { IfSome result (λ row. IsRow row self.new.engine.incoming self.new.engine.session × (0 < row.first)) }
-        ensures rest { IfNone result (IsFedOrStuck self.new.engine) }
+        ensures rest { IfNone result (IsFedOrWaits self.new) }
         ensures few { length self.new.engine.incoming ≤ length self.old.engine.incoming }
     {
         // each turn that goes on feeds a byte at least
         let turns = self.incoming.waiting().len().max(1);
         'payload: for turn in 0..turns {
-            self.feed_to_payload();
+            if self.puts_off_next() {
+                return None;
+            }
+            if self.feed_to_payload() {
+                continue 'payload;
+            }
             let Some(row) = row_of(&self.session, self.incoming.waiting()) else {
                 return None;
             };
@@ -118,17 +131,74 @@ impl<D: Device + Drop, W: Device + Drop> Tunnel<D, W> {
             && self.lines.may_push(row.id)
     }
 
-    /// Feeds what waits up to a payload that may be passed on.
-    fn feed_to_payload(&mut self)
+    /// Whether the next frame waits for a place.
+    fn puts_off_next(&mut self) -> bool
+        ensures exact { result ≡ is_put_off self.old }
+        ensures same { is_put_off self.new ≡ is_put_off self.old }
         ensures keeps { Keeps self.old self.new }
-        ensures rest { (self.new.engine.incoming ≡ []) ⊎ ((is_stuck self.new.engine.session ≡ true) ⊎ IsSome (passing self.new.engine.session)) }
-        ensures few { length self.new.engine.incoming ≤ length self.old.engine.incoming }
+        ensures engine { self.new.engine ≡ self.old.engine }
+        // So many turns it waits, at most.
+        ensures counts { self.new.lines.turns_to_place ≡ (if lacks_place self.old.engine then Some (turns_left self.old.lines) else None) }
     {
+        let lacks_place = self.lacks_place();
+        self.lines.puts_off(lacks_place)
+    }
+
+    /// Whether a frame comes next that may open a stream, and there is no place for one.
+    fn lacks_place(&self) -> bool
+        ensures { result ≡ lacks_place self.now.engine }
+    {
+        self.session.records_left() == 0
+            && matches!(self.session.header_begun(), Some(0))
+            && may_open(self.incoming.waiting())
+    }
+
+    /// How many bytes are fed at once, so that nothing follows the header that takes the last place.
+    fn feed_limit(&self) -> usize
+        ensures exact { result ≡ feed_limit self.now.engine.session }
+        ensures some { 0 < result }
+    {
+        let payload = self.session.payload_left() as usize;
+        let places = self.session.records_left();
+        if payload == 0 {
+            HEADER * places.max(1) - self.begun()
+        } else {
+            payload + HEADER * places
+        }
+    }
+
+    /// How many bytes have come of a header that isn't whole.
+    fn begun(&self) -> usize
+        ensures exact { result ≡ begun self.now.engine.session }
+        ensures few { result < 12 }
+    {
+        match self.session.header_begun() {
+            Some(count) => count,
+            None => 0,
+        }
+    }
+
+    /// Feeds what waits up to a payload that may be passed on, or to where the places may be taken. Whether it stopped there, and
+    /// more waits.
+    fn feed_to_payload(&mut self) -> bool
+        // Where none waits for a place.
+        requires placed { is_put_off self.old ≡ false }
+        ensures keeps { Keeps self.old self.new }
+        ensures goes_on { result ≡ true → length self.new.engine.incoming < length self.old.engine.incoming }
+        ensures rest { result ≡ false → (self.new.engine.incoming ≡ []) ⊎ ((is_stuck self.new.engine.session ≡ true) ⊎ IsSome (passing self.new.engine.session)) }
+        ensures few { length self.new.engine.incoming ≤ length self.old.engine.incoming }
+        ensures limit { length self.old.engine.incoming ≤ length self.new.engine.incoming + feed_limit self.old.engine.session }
+    {
+        let limit = self.feed_limit();
         let fed = self
             .incoming
-            .feed_to_payload(&mut self.session, &mut self.touched);
-        self.lines.enqueue_touched(&mut self.touched);
+            .feed_to_payload(&mut self.session, limit, &mut self.touched);
+        self.lines.hear_touched(&mut self.touched);
         self.hear_fed(fed.no_memory.get() > 0);
+        if fed.taken < limit {
+            return false;
+        }
+        !self.incoming.waiting().is_empty()
     }
 
     /// Feeds the first of the bytes that wait, so many at most.
@@ -140,7 +210,7 @@ impl<D: Device + Drop, W: Device + Drop> Tunnel<D, W> {
         let fed = self
             .incoming
             .feed_some(&mut self.session, count, &mut self.touched);
-        self.lines.enqueue_touched(&mut self.touched);
+        self.lines.hear_touched(&mut self.touched);
         self.hear_fed(fed.no_memory.get() > 0);
     }
 
@@ -202,4 +272,15 @@ impl<D: Device + Drop, W: Device + Drop> Tunnel<D, W> {
         self.incoming.drop_front(taken);
         taken
     }
+}
+
+/// Whether the first frame of these bytes may open a stream: it does, or its header isn't whole yet.
+fn may_open(waits: &[u8]) -> bool
+    ensures { result ≡ may_open waits.now }
+{
+    let Some(header) = waits.first_chunk::<HEADER>() else {
+        return !waits.is_empty();
+    };
+    let header = decode(header);
+    header.kind < TYPE_PING && header.has_syn()
 }

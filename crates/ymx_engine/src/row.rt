@@ -12,7 +12,7 @@ use std::io::IoSlice;
 use ymx_session::Session;
 
 /// How many bytes a header has.
-const HEADER: usize = 12;
+pub(crate) const HEADER: usize = 12;
 
 /// For fewer bytes in a row a call of the device is not worth making.
 const LEAST_IN_ROW: usize = 4_096;

@@ -75,3 +75,8 @@ stream_ids s = held_ids [] s.table.entries
 abbrev pub header_begun : Incoming → Option ℕ
 header_begun (Head bytes) = Some (length bytes)
 header_begun (Payload id missing fin stray) = None
+
+-- how many bytes are still to come of the payload that is under way
+abbrev pub payload_left : Incoming → ℕ
+payload_left (Head bytes) = 0
+payload_left (Payload id missing fin stray) = missing

@@ -25,7 +25,7 @@ returns-clause-lines g c = λ other.
     rewrites_keeps (λ (e : Entry). e.line) c.in_ok-id.id (λ (e : Entry). record e { is_queued = false }) _ _ (λ e. refl) r other ∙ ap (line_of other) c.self.view_is
 
 pub returns-clause-some : goal.returns-clause-some
-returns-clause-some g c = turn_from _ _ _ _ c.self.view_is (takes_turn c.in_ok-id.id _ _ c.in_ok-id.ensures.busy c.in_ok-id.ensures.fresh)
+returns-clause-some g c = turn_from _ _ _ _ c.self.view_is (takes_turn c.in_ok-id.id _ _ c.in_ok-id.ensures.busy c.in_ok-id.ensures.fresh c.one_less-self-inside.ensures)
 
 pub returns-clause-there : goal.returns-clause-there
 returns-clause-there g c =

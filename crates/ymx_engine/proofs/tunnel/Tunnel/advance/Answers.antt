@@ -1,12 +1,24 @@
-use Rattle.std.proofs.Common.{◌≡◌, ◌∙◌, ◌+◌, ◌<◌, ◌≤◌, length, false, ap, sym, arith}
+use Rattle.std.proofs.Common.{◌≡◌, ◌∙◌, ◌+◌, ◌<◌, ◌≤◌, length, false, ap, sym, arith, inl}
 use Rattle.ymx_model.specs.session.Feeds.{is_stuck}
+use Rattle.ymx_engine.specs.Engines.{Engine}
 use Rattle.ymx_engine.specs.Tunnels.{Tunnel}
 use Rattle.ymx_engine.proofs.Attending.{keeps_none, keeps_on}
 use Rattle.ymx_engine.proofs.Feeding.{takes_payload}
+use Rattle.ymx_engine.proofs.Placing.{fed_or_stuck}
 use Rattle.ymx_engine.proofs.tunnel.Tunnel.advance.Goals as goal
 
 pub payload-init : goal.payload-init
 payload-init g c = record { keeps = keeps_none _; few = omega arith }
+
+pub returns-then-puts_off_next-clause-keeps : goal.returns-then-puts_off_next-clause-keeps
+returns-then-puts_off_next-clause-keeps g c = keeps_on _ _ _ c.payload.invariant.keeps c.puts_off_next.ensures.keeps
+
+pub payload-preserved-then-feed_to_payload : goal.payload-preserved-then-feed_to_payload
+payload-preserved-then-feed_to_payload g c =
+    let fewer = c.feed_to_payload.ensures.goes_on c.if-feed_to_payload.true in
+    let same : length c.puts_off_next.new.self.engine.incoming ≡ length c.payload.self.engine.incoming = ap (λ (e : Engine). length e.incoming) c.puts_off_next.ensures.engine in
+    let before = c.payload.invariant.few in
+    record { keeps = keeps_on _ _ _ c.payload.invariant.keeps (keeps_on _ _ _ c.puts_off_next.ensures.keeps c.feed_to_payload.ensures.keeps); few = omega (arith, fewer, same, before) }
 
 pub payload-preserved : goal.payload-preserved
 payload-preserved g c =
@@ -17,15 +29,22 @@ payload-preserved g c =
     let waits : length c.waiting-in-payload.result.now ≡ length c.feed_to_payload.new.self.engine.incoming = ap length (c.waiting-in-payload.ensures ∙ ap (λ (t : Tunnel). t.engine.incoming) view) in
     let some : 0 < length c.waiting-in-payload.result.now = c.in-Some.ensures.waits in
     let fewer : length c.feed_front.new.self.engine.incoming < length c.feed_to_payload.new.self.engine.incoming = c.feed_front.ensures.some free (omega arith) (omega arith) in
-    let same : length c.feed_to_payload.new.self.engine.incoming ≤ length c.payload.self.engine.incoming = c.feed_to_payload.ensures.few in
+    let less : length c.feed_to_payload.new.self.engine.incoming ≤ length c.puts_off_next.new.self.engine.incoming = c.feed_to_payload.ensures.few in
+    let same : length c.puts_off_next.new.self.engine.incoming ≡ length c.payload.self.engine.incoming = ap (λ (e : Engine). length e.incoming) c.puts_off_next.ensures.engine in
     let before : length c.payload.self.engine.incoming + c.payload.turn ≤ length c.args.self.now.engine.incoming = c.payload.invariant.few in
-    record { keeps = keeps_on _ _ _ c.payload.invariant.keeps (keeps_on _ _ _ c.feed_to_payload.ensures.keeps c.feed_front.ensures.keeps); few = omega arith }
+    record { keeps = keeps_on _ _ _ c.payload.invariant.keeps (keeps_on _ _ _ c.puts_off_next.ensures.keeps (keeps_on _ _ _ c.feed_to_payload.ensures.keeps c.feed_front.ensures.keeps)); few = omega arith }
 
 pub returns-in_default-clause-keeps : goal.returns-in_default-clause-keeps
-returns-in_default-clause-keeps g c = keeps_on _ _ _ c.payload.invariant.keeps c.feed_to_payload.ensures.keeps
+returns-in_default-clause-keeps g c = keeps_on _ _ _ c.payload.invariant.keeps (keeps_on _ _ _ c.puts_off_next.ensures.keeps c.feed_to_payload.ensures.keeps)
+
+pub returns-in_default-clause-rest : goal.returns-in_default-clause-rest
+returns-in_default-clause-rest g c =
+    let view = c.self-in-payload.view_is in
+    inl (fed_or_stuck c.feed_to_payload.new.self.engine c.self-in-payload.inside.session c.waiting-in-payload.result.now (ap (λ (t : Tunnel). t.engine.session) view) (c.waiting-in-payload.ensures ∙ ap (λ (t : Tunnel). t.engine.incoming) view)
+    (c.feed_to_payload.ensures.rest c.if-feed_to_payload.false) c.in_default.ensures.none)
 
 pub returns-then-is_worth_a_call-clause-keeps : goal.returns-then-is_worth_a_call-clause-keeps
-returns-then-is_worth_a_call-clause-keeps g c = keeps_on _ _ _ c.payload.invariant.keeps c.feed_to_payload.ensures.keeps
+returns-then-is_worth_a_call-clause-keeps g c = keeps_on _ _ _ c.payload.invariant.keeps (keeps_on _ _ _ c.puts_off_next.ensures.keeps c.feed_to_payload.ensures.keeps)
 
 pub returns-clause-keeps : goal.returns-clause-keeps
 returns-clause-keeps g c = c.payload.invariant.keeps

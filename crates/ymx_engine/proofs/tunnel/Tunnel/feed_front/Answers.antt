@@ -7,5 +7,5 @@ use Rattle.ymx_engine.proofs.tunnel.Tunnel.feed_front.Goals as goal
 pub returns-clause-keeps : goal.returns-clause-keeps
 returns-clause-keeps g c =
     keeps_from _ _ _ c.self.view_is
-    (keeps_fed c.feed_some-fed.new.touched c.feed_some-fed.result _ _ c.feed_some-fed.new.session c.feed_some-fed.new.self c.enqueue_touched.new.self c.feed_some-fed.ensures.fed c.feed_some-fed.ensures.rest c.feed_some-fed.ensures.notes c.enqueue_touched.ensures.keeps c.enqueue_touched.ensures.all c.hear_fed.ensures.engine c.hear_fed.ensures.wire c.hear_fed.ensures.over c.hear_fed.ensures.lines
+    (keeps_fed c.feed_some-fed.new.touched c.feed_some-fed.result _ _ c.feed_some-fed.new.session c.feed_some-fed.new.self c.hear_touched.new.self c.feed_some-fed.ensures.fed c.feed_some-fed.ensures.rest c.feed_some-fed.ensures.notes c.hear_touched.ensures.keeps c.hear_touched.ensures.all c.hear_fed.ensures.engine c.hear_fed.ensures.wire c.hear_fed.ensures.over c.hear_fed.ensures.lines
     c.hear_fed.ensures.all (c.hear_fed.ensures.memory ∙ ap (λ (n : ℕ). c.self.inside.has_lacked_memory || nat_lt 0 n) c.get.ensures))

@@ -1,16 +1,27 @@
-use Rattle.std.proofs.Common.{ℕ, ap, ◌∙◌, ◌||◌}
+use Rattle.std.proofs.Common.{ℕ, ap, ◌∙◌, ◌||◌, inl}
 use Rattle.std.specs.Prelude.{nat_lt}
 use Rattle.ymx_engine.specs.Engines.{Engine}
+use Rattle.ymx_engine.specs.Tunnels.{Tunnel}
 use Rattle.ymx_engine.proofs.Attending.{keeps_from}
+use Rattle.ymx_engine.proofs.Placing.{none_left}
 use Rattle.ymx_engine.proofs.Readings.{keeps_fed, fed_or_stopped}
 use Rattle.ymx_engine.proofs.tunnel.Tunnel.feed_to_payload.Goals as goal
+
+pub returns-then-fed-limit-clause-keeps : goal.returns-then-fed-limit-clause-keeps
+returns-then-fed-limit-clause-keeps g c =
+    keeps_from _ _ _ c.self.view_is
+    (keeps_fed c.feed_to_payload-fed.new.touched c.feed_to_payload-fed.result _ _ c.feed_to_payload-fed.new.session c.feed_to_payload-fed.new.self c.hear_touched.new.self c.feed_to_payload-fed.ensures.fed c.feed_to_payload-fed.ensures.rest c.feed_to_payload-fed.ensures.notes c.hear_touched.ensures.keeps c.hear_touched.ensures.all c.hear_fed.ensures.engine c.hear_fed.ensures.wire c.hear_fed.ensures.over c.hear_fed.ensures.lines
+    c.hear_fed.ensures.all (c.hear_fed.ensures.memory ∙ ap (λ (n : ℕ). c.self.inside.has_lacked_memory || nat_lt 0 n) c.get.ensures))
+
+pub returns-then-fed-limit-clause-rest : goal.returns-then-fed-limit-clause-rest
+returns-then-fed-limit-clause-rest g c = λ no.
+    fed_or_stopped c.feed_to_payload-fed.result.taken c.self.inside.incoming c.feed_to_payload-fed.new.self c.feed_to_payload-fed.new.session c.hear_fed.new.self.engine c.feed_to_payload-fed.ensures.rest (c.feed_to_payload-fed.ensures.stops c.if-fed-limit.true) (ap (λ (e : Engine). e.session) c.hear_fed.ensures.engine) (ap (λ (e : Engine). e.incoming) c.hear_fed.ensures.engine)
 
 pub returns-clause-keeps : goal.returns-clause-keeps
 returns-clause-keeps g c =
     keeps_from _ _ _ c.self.view_is
-    (keeps_fed c.feed_to_payload-fed.new.touched c.feed_to_payload-fed.result _ _ c.feed_to_payload-fed.new.session c.feed_to_payload-fed.new.self c.enqueue_touched.new.self c.feed_to_payload-fed.ensures.fed c.feed_to_payload-fed.ensures.rest c.feed_to_payload-fed.ensures.notes c.enqueue_touched.ensures.keeps c.enqueue_touched.ensures.all c.hear_fed.ensures.engine c.hear_fed.ensures.wire c.hear_fed.ensures.over c.hear_fed.ensures.lines
+    (keeps_fed c.feed_to_payload-fed.new.touched c.feed_to_payload-fed.result _ _ c.feed_to_payload-fed.new.session c.feed_to_payload-fed.new.self c.hear_touched.new.self c.feed_to_payload-fed.ensures.fed c.feed_to_payload-fed.ensures.rest c.feed_to_payload-fed.ensures.notes c.hear_touched.ensures.keeps c.hear_touched.ensures.all c.hear_fed.ensures.engine c.hear_fed.ensures.wire c.hear_fed.ensures.over c.hear_fed.ensures.lines
     c.hear_fed.ensures.all (c.hear_fed.ensures.memory ∙ ap (λ (n : ℕ). c.self.inside.has_lacked_memory || nat_lt 0 n) c.get.ensures))
 
 pub returns-clause-rest : goal.returns-clause-rest
-returns-clause-rest g c =
-    fed_or_stopped c.feed_to_payload-fed.result.taken c.self.inside.incoming c.feed_to_payload-fed.new.self c.feed_to_payload-fed.new.session c.hear_fed.new.self.engine c.feed_to_payload-fed.ensures.rest c.feed_to_payload-fed.ensures.stops (ap (λ (e : Engine). e.session) c.hear_fed.ensures.engine) (ap (λ (e : Engine). e.incoming) c.hear_fed.ensures.engine)
+returns-clause-rest g c = λ no. inl (none_left c.waiting.result.now _ c.is_empty.result c.is_empty.ensures (c.waiting.ensures ∙ ap (λ (t : Tunnel). t.engine.incoming) c.self-2.view_is) no)

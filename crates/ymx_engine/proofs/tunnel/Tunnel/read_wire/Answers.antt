@@ -1,4 +1,4 @@
-use Rattle.std.proofs.Common.{◌≡◌, ◌∙◌, ap, arith, length}
+use Rattle.std.proofs.Common.{◌≡◌, ◌∙◌, ap, arith, length, inl}
 use Rattle.ymx_engine.specs.Tunnels.{Tunnel}
 use Rattle.ymx_engine.proofs.Attending.{runs_then, runs_keep, reads_then}
 use Rattle.ymx_engine.proofs.Feeding.{all_turns}
@@ -50,4 +50,4 @@ pub returns-clause-reads : goal.returns-clause-reads
 returns-clause-reads g c = c.payload.invariant.reads
 
 pub returns-clause-fed : goal.returns-clause-fed
-returns-clause-fed g c = all_turns c.payload.self.engine c.max-rows.result c.payload.turn c.payload.invariant.few c.payload-test.false
+returns-clause-fed g c = inl (all_turns c.payload.self.engine c.max-rows.result c.payload.turn c.payload.invariant.few c.payload-test.false)

@@ -1,0 +1,63 @@
+-- A frame that waits for a place.
+use Rattle.std.proofs.Common.{◌≡◌, ◌⊎◌, inl, inr, ℕ, ◌==◌, ◌&&◌, not, if◌then◌else◌, List, [], ◌∷◌, length, Bool, true, false, Option, None, Some, refl, sym, ap, ◌∙◌, subst, arith}
+use Rattle.std.specs.Prelude.{nat_lt, IsSome, is_some}
+use Rattle.std.proofs.lemmas.Bool.Decides.{nat_tests}
+use Rattle.ymx_model.specs.session.Feeds.{is_stuck}
+use Rattle.ymx_model.specs.session.Sessions.{Session}
+use Rattle.ymx_session.specs.Passing.{passing}
+use Rattle.ymx_engine.specs.Engines.{Engine, IsFedOrStuck}
+use Rattle.ymx_engine.specs.Places.{is_put_off, lacks_place}
+use Rattle.ymx_engine.specs.Steps.{Keeps}
+use Rattle.ymx_engine.specs.Tunnels.{Tunnel}
+use Rattle.ymx_engine.specs.Turns.{Lines, KeepsLines, turns_left}
+use Rattle.ymx_engine.proofs.Attending.{keeps_none}
+use Rattle.ymx_engine.proofs.Carrying.{handles_none_so, memory_same}
+use Rattle.ymx_engine.proofs.Queueing.{keeps_counted}
+use Rattle.ymx_engine.proofs.Readings.{same_seen}
+use Rattle.ymx_engine.proofs.Running.{moves_handled}
+use Rattle.ymx_engine.proofs.Tending.{serving_lines}
+use Rattle.ymx_engine.proofs.Turning.{turns_kept}
+use Rattle.ymx_engine.specs.Wires.{HandlesIn, has_starved}
+
+-- only the turns are counted for which it waits
+keeps_turns : (a : Tunnel) (turns : Option ℕ) → Keeps a (record a { lines = record a.lines { turns_to_place = turns } })
+keeps_turns a turns =
+    let b : Tunnel = record a { lines = record a.lines { turns_to_place = turns } } in
+    let lines : KeepsLines a.lines b.lines = keeps_counted a.lines turns in
+    let none = handles_none_so a.engine in
+    let moved = moves_handled a b none.0 refl (same_seen a b lines) in
+    record { moves = moved.0; own = moved.1; wire = refl; over = refl; lines = lines; serves = serving_lines a b refl lines; memory = memory_same a.has_lacked_memory b.has_lacked_memory (moved.0).events refl (ap has_starved moved.2 ∙ none.1) }
+
+pub keeps_waits : (a : Tunnel) (l : Lines) (turns : Option ℕ) → l ≡ record a.lines { turns_to_place = turns } → Keeps a (record a { lines = l })
+keeps_waits a l turns e = subst (λ (x : Lines). Keeps a (record a { lines = x })) (sym e) (keeps_turns a turns)
+
+-- so it waits as before
+put_off_at : (lacks : Bool) (a : Tunnel) → lacks ≡ lacks_place a.engine → is_put_off (record a { lines = record a.lines { turns_to_place = if lacks then Some (turns_left a.lines) else None } }) ≡ is_put_off a
+put_off_at true a e = ap (λ (n : ℕ). lacks_place a.engine && nat_lt 0 n) (turns_kept a.lines)
+put_off_at false a e = rw (sym e) refl
+
+put_off_same : (lacks : Bool) (a : Tunnel) (l : Lines) → lacks ≡ lacks_place a.engine → l ≡ record a.lines { turns_to_place = if lacks then Some (turns_left a.lines) else None } → is_put_off (record a { lines = l }) ≡ is_put_off a
+put_off_same lacks a l e same = ap (λ (x : Lines). is_put_off (record a { lines = x })) same ∙ put_off_at lacks a e
+
+pub put_off_from : (a b : Tunnel) → a ≡ b → (lacks : Bool) (l : Lines) → lacks ≡ lacks_place b.engine → l ≡ record a.lines { turns_to_place = if lacks then Some (turns_left a.lines) else None } → is_put_off (record a { lines = l }) ≡ is_put_off b
+put_off_from a b e lacks l x y = put_off_same lacks a l (x ∙ ap (λ (t : Tunnel). lacks_place t.engine) (sym e)) y ∙ ap is_put_off e
+
+-- ---- what is fed
+
+nothing : (xs : List ℕ) → (length xs == 0) ≡ true → xs ≡ []
+nothing [] h = refl
+nothing (x ∷ xs) h = let e : length (x ∷ xs) ≡ 0 = grind (arith, nat_tests) in let no : ⊥ = omega arith in absurd no
+
+not_false : (b : Bool) → not b ≡ false → b ≡ true
+not_false true h = refl
+not_false false h = cc
+
+pub none_left : (waits xs : List ℕ) (empty : Bool) → empty ≡ (length waits == 0) → waits ≡ xs → not empty ≡ false → xs ≡ []
+none_left waits xs empty e same h = sym same ∙ nothing waits (sym e ∙ not_false empty h)
+
+-- it stopped, and no payload may be passed on
+pub fed_or_stuck : (e : Engine) (s : Session) (waits : List ℕ) → s ≡ e.session → waits ≡ e.incoming → (e.incoming ≡ []) ⊎ ((is_stuck e.session ≡ true) ⊎ IsSome (passing e.session)) → (waits ≡ []) ⊎ (passing s ≡ None) → IsFedOrStuck e
+fed_or_stuck e s waits same all (inl none) x = inl none
+fed_or_stuck e s waits same all (inr (inl stuck)) x = inr stuck
+fed_or_stuck e s waits same all (inr (inr some)) (inl none) = inl (sym all ∙ none)
+fed_or_stuck e s waits same all (inr (inr some)) (inr none) = let no : false ≡ true = sym (ap is_some (ap passing (sym same) ∙ none)) ∙ some in absurd cc
