@@ -177,6 +177,7 @@ holds 'what an end counts, and how it is drained' python3 -B "$here/status.py" "
 holds 'nobody reads what it says' python3 -B "$here/unread.py" "$outside"
 holds 'the time before each line' python3 -B "$here/times.py" "$ymx"
 holds 'a thousand users at once' python3 -B "$here/bursts.py" "$ymx" 1000
+holds 'users beyond a full link' python3 -B "$here/full.py" "$ymx"
 
 expect 0 "$here/help" nothing hello --help
 expect 0 "$here/help" nothing hello help

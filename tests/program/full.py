@@ -1,0 +1,180 @@
+"""A link whose places are all taken: a user beyond them waits, and gets the next place that comes free, however the one who
+leaves it ends. That one resets, or ends last, behind the service's end. First one waits while one leaves, again and again;
+then many wait, and many leave at once.
+
+It says which tests failed, with how many users were not served, and nothing where none did. No test follows one that hangs.
+
+usage: full.py YMX
+"""
+
+import collections
+import resource
+import selectors
+import socket
+import sys
+import threading
+
+import raw
+from raw import ANY, Program, break_off, call, take
+
+FILES = 16_384
+# How many users one link serves at once, how often one leaves it, and how many come in a burst.
+PLACES, ROUNDS, BURST = 1_024, 50, 3_000
+# What a user says to the service, which sends it back. Behind END it ends its side, and behind CLOSE it closes.
+ECHO, END, CLOSE = b"?", b"e", b"c"
+
+
+def backlog():
+    """How many connections the system holds for a listener, beside those that it has taken."""
+    with open("/proc/sys/net/core/somaxconn") as text:
+        return int(text.read())
+
+
+# ---- the service, and the tunnel to it
+
+
+def goes_on(connection):
+    """The service answers what has come. Whether the connection stays open."""
+    try:
+        said = connection.recv(16)
+        connection.sendall(said)
+        if said == END:
+            connection.shutdown(socket.SHUT_WR)
+    except OSError:
+        return False
+    return said not in (b"", CLOSE)
+
+
+def serve(listener):
+    chosen = selectors.DefaultSelector()
+    chosen.register(listener, selectors.EVENT_READ)
+    while True:
+        for key, _ in chosen.select():
+            if key.fileobj is listener:
+                connection, _ = listener.accept()
+                chosen.register(connection, selectors.EVENT_READ)
+            elif not goes_on(key.fileobj):
+                chosen.unregister(key.fileobj)
+                key.fileobj.close()
+
+
+def tunnel():
+    """Where the users of a tunnel with one link connect to."""
+    listener = socket.create_server(("127.0.0.1", 0), backlog=BURST)
+    threading.Thread(target=serve, args=(listener,), daemon=True).start()
+    remote = Program("remote", "-v", "--bind", ANY, "--target", "{}:{}".format(*listener.getsockname()))
+    local = Program("local", "-v", "--listen", ANY, "--peer", remote.place())
+    place = local.place()
+    for program in remote, local:
+        threading.Thread(target=program.process.stderr.read, daemon=True).start()
+    return place
+
+
+# ---- one who waits, and one who leaves
+
+
+def ends_last(word):
+    """A user who ends behind the service's end, for which it asks by this word."""
+
+    def leave(user):
+        user.sendall(word)
+        assert take(user, 2) == word, "the end comes behind the answer"
+        user.close()
+
+    return leave
+
+
+def asks(user):
+    """What becomes of a user who says something."""
+    try:
+        user.sendall(ECHO)
+        return "served" if take(user, 1) == ECHO else "closed"
+    except ConnectionError:
+        return "reset"
+
+
+def in_turn(leave):
+    """One user waits for a place, and gets that of another, who leaves it in this way. The others keep theirs."""
+    place = tunnel()
+    there = collections.deque(call(place) for _ in range(PLACES))
+    assert all(asks(user) == "served" for user in there), "there is a place for each"
+    became = collections.Counter()
+    for _ in range(ROUNDS):
+        waiting = call(place)
+        leave(there.popleft())
+        # Where the wait was in vain, somebody else takes the place, so that all are taken again.
+        while (outcome := asks(waiting)) != "served":
+            became[outcome] += 1
+            waiting = call(place)
+        there.append(waiting)
+    assert not became, f"of {ROUNDS} users who waited {became['reset']} were reset, and {became['closed']} closed"
+    assert all(asks(user) == "served" for user in there), "the others keep their places"
+
+
+# ---- many at once
+
+
+class Guest:
+    """One of many, who says this word. Behind CLOSE it ends last, and behind ECHO it resets once it is answered."""
+
+    def __init__(self, place, word):
+        self.socket = call(place)
+        self.word = word
+        self.was_sent = False
+        self.came = b""
+
+    def go_on(self):
+        """What becomes of it, once that is known."""
+        try:
+            return self.step()
+        except ConnectionError:
+            return "reset"
+
+    def step(self):
+        if not self.was_sent:
+            self.socket.sendall(self.word)
+            self.was_sent = True
+            return None
+        piece = self.socket.recv(16)
+        self.came += piece
+        if piece and self.word == CLOSE:
+            return None
+        if piece:
+            break_off(self.socket)
+        return "served" if self.came == self.word else "closed"
+
+
+def burst(*words):
+    """Many users at once, who say these words in turn: each is served."""
+    place, waiting, became = tunnel(), selectors.DefaultSelector(), collections.Counter()
+    # Whom the system can't hold might be lost before the tunnel knows of him.
+    count = min(BURST, PLACES + backlog())
+    for number in range(count):
+        guest = Guest(place, words[number % len(words)])
+        waiting.register(guest.socket, selectors.EVENT_WRITE, guest)
+    while waiting.get_map():
+        for key, _ in waiting.select():
+            guest = key.data
+            outcome = guest.go_on()
+            if outcome is None:
+                waiting.modify(guest.socket, selectors.EVENT_READ, guest)
+                continue
+            waiting.unregister(key.fd)
+            guest.socket.close()
+            became[outcome] += 1
+    assert became["served"] == count, f"of {count} users {became['reset']} were reset, and {became['closed']} closed"
+
+
+TESTS = (
+    ("one waits, and one resets", in_turn, (break_off,)),
+    ("one waits, and one ends behind the service's end", in_turn, (ends_last(END),)),
+    ("one waits, and one ends behind a service that closes", in_turn, (ends_last(CLOSE),)),
+    ("many at once, who end last", burst, (CLOSE,)),
+    ("many at once, who reset", burst, (ECHO,)),
+    ("many at once, of both kinds", burst, (CLOSE, ECHO)),
+)
+
+if __name__ == "__main__":
+    _, most = resource.getrlimit(resource.RLIMIT_NOFILE)
+    resource.setrlimit(resource.RLIMIT_NOFILE, (most if most != resource.RLIM_INFINITY and most < FILES else FILES, most))
+    sys.exit(raw.main(TESTS))
