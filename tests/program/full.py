@@ -93,6 +93,17 @@ def asks(user):
         return "reset"
 
 
+def join(place):
+    """A user who has a place, however many are reset before."""
+    while True:
+        try:
+            user = call(place)
+        except ConnectionError:
+            continue
+        if asks(user) == "served":
+            return user
+
+
 def in_turn(leave):
     """One user waits for a place, and gets that of another, who leaves it in this way. The others keep theirs."""
     place = tunnel()
@@ -102,12 +113,11 @@ def in_turn(leave):
     for _ in range(ROUNDS):
         waiting = call(place)
         leave(there.popleft())
+        outcome = asks(waiting)
+        became[outcome] += 1
         # Where the wait was in vain, somebody else takes the place, so that all are taken again.
-        while (outcome := asks(waiting)) != "served":
-            became[outcome] += 1
-            waiting = call(place)
-        there.append(waiting)
-    assert not became, f"of {ROUNDS} users who waited {became['reset']} were reset, and {became['closed']} closed"
+        there.append(waiting if outcome == "served" else join(place))
+    assert became["served"] == ROUNDS, f"of {ROUNDS} users who waited {became['reset']} were reset, and {became['closed']} closed"
     assert all(asks(user) == "served" for user in there), "the others keep their places"
 
 
