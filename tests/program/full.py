@@ -1,6 +1,6 @@
 """A link whose places are all taken: a user beyond them waits, and gets the next place that comes free, however the one who
 leaves it ends. That one resets, or ends last, behind the service's end. First one waits while one leaves, again and again;
-then many wait, and many leave at once.
+then many wait, and many leave at once. Last the peer of `remote` is played frame by frame.
 
 It says which tests failed, with how many users were not served, and nothing where none did. No test follows one that hangs.
 
@@ -15,11 +15,17 @@ import sys
 import threading
 
 import raw
-from raw import ANY, Program, break_off, call, take
+from raw import ANY, DATA, FIN, SYN, WINDOW, Program, break_off, call, frame, next_frame, take
 
 FILES = 16_384
+RST = 8
 # How many users one link serves at once, how often one leaves it, and how many come in a burst.
 PLACES, ROUNDS, BURST = 1_024, 50, 3_000
+# How many streams the peer that is played opens at once: no more may wait to be accepted.
+AT_ONCE = 256
+# What it sends in one piece: `x` ends a stream, `s` opens one, `d` has a byte of one that was opened so, and `o` of another.
+# It never opens more than it has ended.
+ORDERS = ("xsd", "xsdxsdxsd", "xxxxsdsdsdsd", "xxxxssssdddd", "xsxdsd", "xsxosdd", "xsxxxdsdsdsd")
 # What a user says to the service, which sends it back. Behind END it ends its side, and behind CLOSE it closes.
 ECHO, END, CLOSE = b"?", b"e", b"c"
 
@@ -58,11 +64,16 @@ def serve(listener):
                 key.fileobj.close()
 
 
-def tunnel():
-    """Where the users of a tunnel with one link connect to."""
+def service():
+    """Where it listens."""
     listener = socket.create_server(("127.0.0.1", 0), backlog=BURST)
     threading.Thread(target=serve, args=(listener,), daemon=True).start()
-    remote = Program("remote", "-v", "--bind", ANY, "--target", "{}:{}".format(*listener.getsockname()))
+    return "{}:{}".format(*listener.getsockname())
+
+
+def tunnel():
+    """Where the users of a tunnel with one link connect to."""
+    remote = Program("remote", "-v", "--bind", ANY, "--target", service())
     local = Program("local", "-v", "--listen", ANY, "--peer", remote.place())
     place = local.place()
     for program in remote, local:
@@ -175,6 +186,61 @@ def burst(*words):
     assert became["served"] == count, f"of {count} users {became['reset']} were reset, and {became['closed']} closed"
 
 
+# ---- a peer that is played
+
+
+class Peer:
+    """A peer of `remote`, all of whose streams are there."""
+
+    def __init__(self):
+        _, self.wire = raw.remote(service())
+        self.last = -1
+        self.there = collections.deque()
+        while len(self.there) < PLACES:
+            begun = [self.number() for _ in range(AT_ONCE)]
+            self.wire.sendall(b"".join(frame(WINDOW, SYN, stream, 0) + say(stream, ECHO) for stream in begun))
+            self.await_all(begun, DATA, 0, "s")
+            self.there.extend(begun)
+
+    def number(self):
+        """That of the next stream."""
+        self.last += 2
+        return self.last
+
+    def await_all(self, streams, kind, flags, order):
+        """Until each of these has had a frame of this kind with these flags. None is reset meanwhile."""
+        left = set(streams)
+        while left:
+            came, marks, stream = next_frame(self.wire)
+            assert not marks & RST, f"{order}: stream {stream} of {streams} was reset"
+            if came == kind and marks & flags == flags:
+                left.discard(stream)
+
+
+def say(stream, word):
+    return frame(DATA, 0, stream, len(word)) + word
+
+
+def in_one_piece(ends_last):
+    """Streams end, and as many others come, in one piece of the wire: each of these is served."""
+    peer = Peer()
+    for order in ORDERS * (ROUNDS // len(ORDERS)):
+        leave = [peer.there.popleft() for _ in range(order.count("x"))]
+        come = [peer.number() for _ in range(order.count("s"))]
+        if ends_last:
+            peer.wire.sendall(b"".join(say(stream, END) for stream in leave))
+            peer.await_all(leave, WINDOW, FIN, order)
+        frames = {
+            "x": iter([frame(WINDOW, FIN if ends_last else RST, stream, 0) for stream in leave]),
+            "s": iter([frame(WINDOW, SYN, stream, 0) for stream in come]),
+            "d": iter([say(stream, ECHO) for stream in come]),
+            "o": iter([say(peer.there[0], ECHO)]),
+        }
+        peer.wire.sendall(b"".join(next(frames[what]) for what in order))
+        peer.await_all(come, DATA, 0, order)
+        peer.there.extend(come)
+
+
 TESTS = (
     ("one waits, and one resets", in_turn, (break_off,)),
     ("one waits, and one ends behind the service's end", in_turn, (ends_last(END),)),
@@ -182,6 +248,8 @@ TESTS = (
     ("many at once, who end last", burst, (CLOSE,)),
     ("many at once, who reset", burst, (ECHO,)),
     ("many at once, of both kinds", burst, (CLOSE, ECHO)),
+    ("streams that are reset, and others, in one piece", in_one_piece, (False,)),
+    ("streams that end last, and others, in one piece", in_one_piece, (True,)),
 )
 
 if __name__ == "__main__":
