@@ -8,11 +8,13 @@ usage: full.py YMX
 """
 
 import collections
+import itertools
 import resource
 import selectors
 import socket
 import sys
 import threading
+import time
 
 import raw
 from raw import ANY, DATA, FIN, SYN, WINDOW, Program, break_off, call, frame, next_frame, take
@@ -23,9 +25,11 @@ RST = 8
 PLACES, ROUNDS, BURST = 1_024, 50, 3_000
 # How many streams the peer that is played opens at once: no more may wait to be accepted.
 AT_ONCE = 256
-# What it sends in one piece: `x` ends a stream, `s` opens one, `d` has a byte of one that was opened so, and `o` of another.
+# What it sends at once: `x` ends a stream, `s` opens one, `d` has a byte of one that was opened so, and `o` of another.
 # It never opens more than it has ended.
-ORDERS = ("xsd", "xsdxsdxsd", "xxxxsdsdsdsd", "xxxxssssdddd", "xsxdsd", "xsxosdd", "xsxxxdsdsdsd")
+ORDERS = ("xsd", "xsdxsdxsd", "xxxsdsdsd", "xxxxssssdddd", "xsxdsd", "xsxosdd", "xsxxxdsdsdsd")
+# At how many places such a piece is cut, and how long the rest of it then waits, in seconds.
+CUTS, PAUSE = 12, 0.002
 # What a user says to the service, which sends it back. Behind END it ends its side, and behind CLOSE it closes.
 ECHO, END, CLOSE = b"?", b"e", b"c"
 
@@ -194,6 +198,7 @@ class Peer:
 
     def __init__(self):
         _, self.wire = raw.remote(service())
+        self.wire.setsockopt(socket.IPPROTO_TCP, socket.TCP_NODELAY, 1)
         self.last = -1
         self.there = collections.deque()
         while len(self.there) < PLACES:
@@ -221,10 +226,10 @@ def say(stream, word):
     return frame(DATA, 0, stream, len(word)) + word
 
 
-def in_one_piece(ends_last):
-    """Streams end, and as many others come, in one piece of the wire: each of these is served."""
+def at_once(ends_last):
+    """Streams end, and as many others come, in one piece of the wire, or in two: each of these is served."""
     peer = Peer()
-    for order in ORDERS * (ROUNDS // len(ORDERS)):
+    for order, cut in itertools.product(ORDERS, range(CUTS)):
         leave = [peer.there.popleft() for _ in range(order.count("x"))]
         come = [peer.number() for _ in range(order.count("s"))]
         if ends_last:
@@ -236,8 +241,12 @@ def in_one_piece(ends_last):
             "d": iter([say(stream, ECHO) for stream in come]),
             "o": iter([say(peer.there[0], ECHO)]),
         }
-        peer.wire.sendall(b"".join(next(frames[what]) for what in order))
-        peer.await_all(come, DATA, 0, order)
+        sent = b"".join(next(frames[what]) for what in order)
+        place = len(sent) * cut // CUTS
+        peer.wire.sendall(sent[:place])
+        time.sleep(PAUSE)
+        peer.wire.sendall(sent[place:])
+        peer.await_all(come, DATA, 0, f"{order}, cut at {place}")
         peer.there.extend(come)
 
 
@@ -248,8 +257,8 @@ TESTS = (
     ("many at once, who end last", burst, (CLOSE,)),
     ("many at once, who reset", burst, (ECHO,)),
     ("many at once, of both kinds", burst, (CLOSE, ECHO)),
-    ("streams that are reset, and others, in one piece", in_one_piece, (False,)),
-    ("streams that end last, and others, in one piece", in_one_piece, (True,)),
+    ("streams that are reset, and others at once", at_once, (False,)),
+    ("streams that end last, and others at once", at_once, (True,)),
 )
 
 if __name__ == "__main__":
