@@ -11,7 +11,7 @@ use crate::inbox::{Inbox, Taken};
 use crate::notices::ProgramWatcher;
 use crate::peer::Peer;
 use crate::shared::Shared;
-use crate::site::{Site, well};
+use crate::site::Site;
 use crate::system::{Poll, TcpConnection};
 use crate::tunnel::{Served, Unserved};
 use crate::tunnel_end::TunnelEnd;
@@ -222,7 +222,7 @@ impl LinkJob {
                     &mut reports,
                 );
                 sockets.refuse(&mut watcher);
-                well()
+                SessionEnd::clean()
             }
         };
         watcher.refuse_all();

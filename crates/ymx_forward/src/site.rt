@@ -182,25 +182,11 @@ impl<R: Net + Clock + Wait> Site<'_, R> {
     }
 }
 
-/// How a session ended in which nothing went wrong.
-pub(crate) fn well() -> SessionEnd {
-    SessionEnd {
-        accept_failed: false,
-        accept_reason: None,
-        broken: None,
-        peer: None,
-        lacked_memory: false,
-        is_unwatched: false,
-        has_lasted: false,
-        is_peer_away: false,
-    }
-}
-
 /// How a session ended of which nothing was done, for want of memory.
 pub(crate) fn lacking() -> SessionEnd
     ensures { result.lacked_memory ≡ true }
 {
-    let mut how = well();
+    let mut how = SessionEnd::clean();
     how.lacked_memory = true;
     how
 }
@@ -209,7 +195,7 @@ pub(crate) fn lacking() -> SessionEnd
 pub(crate) fn unwatched() -> SessionEnd
     ensures { result.is_unwatched ≡ true }
 {
-    let mut how = well();
+    let mut how = SessionEnd::clean();
     how.is_unwatched = true;
     how
 }

@@ -1,5 +1,8 @@
 //! What an end of a tunnel, or a pool of sessions, asks for, and what it is told.
 
+ghost use Rattle.std.specs.Prelude.{◌≡◌};
+ghost use Rattle.ymx_policy.specs.PoolTable.{clean};
+
 use crate::options::Networks;
 use crate::reason::Reason;
 use std::net::SocketAddrV4;
@@ -164,6 +167,24 @@ pub struct SessionEnd {
     pub has_lasted: bool,
     /// Its peer had said that it takes no more streams.
     pub is_peer_away: bool,
+}
+
+impl SessionEnd {
+    /// That of one in which nothing went wrong.
+    pub fn clean() -> SessionEnd
+        ensures { result ≡ clean }
+    {
+        SessionEnd {
+            accept_failed: false,
+            accept_reason: None,
+            broken: None,
+            peer: None,
+            lacked_memory: false,
+            is_unwatched: false,
+            has_lasted: false,
+            is_peer_away: false,
+        }
+    }
 }
 
 /// What is to be done.

@@ -1,7 +1,7 @@
 //! Several sessions at once, each in a thread of its own: where such a pool has come to, and where what happens leads it.
 
 ghost use Rattle.std.specs.Prelude.{◌≡◌};
-ghost use Rattle.ymx_policy.specs.PoolTable.{fresh, asked, deed_at, listening, after, goes, ends, settles, settles_at, has_links, heeds, shuts, shuts_for, rests, left, meets, after_users, after_peers, after_last, after_calling, after_opening, after_no_thread, after_starting, after_waiting, after_placing, clean, first_rule, first_notice, both, begins, behind_opening, one_more, behind_call, behind_start, settled, ending_at, cause_at, has_room, turned_away, opening, cannot_open, peers_at, unlinked, leaving, lost_links, serving, let_in};
+ghost use Rattle.ymx_policy.specs.PoolTable.{fresh, asked, deed_at, listening, after, goes, ends, settles, settles_at, has_links, heeds, shuts, shuts_for, rests, left, meets, after_users, after_peers, after_last, after_calling, after_opening, after_no_thread, after_starting, after_waiting, after_placing, first_rule, first_notice, both, begins, behind_opening, one_more, behind_call, behind_start, settled, ending_at, cause_at, has_room, turned_away, opening, cannot_open, peers_at, unlinked, leaving, lost_links, serving, let_in};
 
 use crate::asks::{
     Callee, Fault, Named, Notice, Peers, PoolAsk, PoolDeed, PoolHappened, SessionEnd, Words,
@@ -72,7 +72,7 @@ impl Pool {
             has_served: false,
             is_shut: false,
             has_all: false,
-            all: clean(),
+            all: SessionEnd::clean(),
             why: None,
             peers: terms.peer,
             has_faulted: false,
@@ -378,7 +378,7 @@ impl Pool {
     fn hear_last_user(&mut self, terms: &Terms, happened: PoolHappened)
         ensures { self.new ≡ after_users terms.now self.old happened }
     {
-        let mut failed = clean();
+        let mut failed = SessionEnd::clean();
         failed.accept_failed = true;
         match happened {
             PoolHappened::AllCame => self.words = silence(),
@@ -417,7 +417,7 @@ impl Pool {
     {
         match happened {
             PoolHappened::LackedMemory => {
-                let mut lacked = clean();
+                let mut lacked = SessionEnd::clean();
                 lacked.lacked_memory = true;
                 self.heed(terms, silence(), None, lacked);
                 self.stage = PoolStage::Waiting;
@@ -436,22 +436,6 @@ fn has_links(role: Role) -> bool
     match role {
         Role::LocalCalls => true,
         _ => false,
-    }
-}
-
-/// A session in which nothing went wrong.
-fn clean() -> SessionEnd
-    ensures { result ≡ clean }
-{
-    SessionEnd {
-        accept_failed: false,
-        accept_reason: None,
-        broken: None,
-        peer: None,
-        lacked_memory: false,
-        is_unwatched: false,
-        has_lasted: false,
-        is_peer_away: false,
     }
 }
 
@@ -647,7 +631,7 @@ fn turned_away(room: bool, from: Option<SocketAddrV4>) -> Words
 fn unlinked() -> SessionEnd
     ensures { result ≡ unlinked }
 {
-    let mut end = clean();
+    let mut end = SessionEnd::clean();
     end.is_unwatched = true;
     end
 }
@@ -673,7 +657,7 @@ fn lost_links(count: Option<u32>) -> SessionEnd
 {
     match count {
         Some(_) => unlinked(),
-        None => clean(),
+        None => SessionEnd::clean(),
     }
 }
 
