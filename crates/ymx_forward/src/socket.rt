@@ -1,11 +1,12 @@
 //! A socket that never waits, as a device of an engine.
 
-ghost use Rattle.std.specs.Prelude.{ℕ, List, [], ◌≡◌, ◌≤◌, ◌+◌, ◌-◌, ◌^◌, ◌<◌, ◌||◌, ◌&&◌, nat_le, length, is_some, min, true, false, IfSome, IfNone, IsOk, MatchResult, take, option_map};
+ghost use Rattle.std.specs.Prelude.{ℕ, List, [], ◌≡◌, ◌≤◌, ◌+◌, ◌-◌, ◌^◌, ◌<◌, ◌||◌, ◌&&◌, nat_le, length, is_some, min, true, false, IfSome, IfNone, IsNone, IsOk, MatchResult, take, option_map};
 ghost use Rattle.std.specs.Io.{WritesAtMost};
 ghost use Rattle.std.specs.Io.KnownBytes.{Appends, Consumes, IsAtEnd};
 ghost use Rattle.std.specs.Io.Slices.{io_slices_bytes};
 ghost use Rattle.ymx_engine.specs.Devices.{IsEnded, IsNoted, IsPulled, IsPushed, IsShut, gives, is_end, is_pull_failure, is_push_failure, may_have_more, pulled_count, pushed_count, takes};
 ghost use Rattle.ymx_engine.specs.declared.device.Pulled.TheVariants as Pulled;
+ghost use Rattle.ymx_forward.specs.Sockets.{IsSeen};
 ghost use Rattle.ymx_forward.specs.declared.socket.ConnectState.TheVariants as ConnectState;
 
 use crate::stream::Stream;
@@ -164,6 +165,10 @@ impl<S: Stream + Drop> Socket<S> {
     pub(crate) fn begun(socket: S, origin: Origin) -> Socket<S>
         ensures wire { result.is_wire ≡ false }
         ensures socket { result.socket ≡ socket }
+        // It is seen where it is there at once, or can't be made, and may be used then.
+        ensures seen { IsSeen (S.made socket) (S.unmade socket) ConnectState.Connecting result.state }
+        ensures there { result.state ≡ ConnectState.Connected → result.marks.may_push ≡ true }
+        ensures failed { result.state ≡ ConnectState.Unreachable → result.marks.may_push ≡ true }
     {
         let mut begun = Socket::new(socket, origin, ConnectState::Connecting, false);
         begun.look();
@@ -175,6 +180,7 @@ impl<S: Stream + Drop> Socket<S> {
     fn new(socket: S, origin: Origin, state: ConnectState, is_ready: bool) -> Socket<S>
         ensures wire { result.is_wire ≡ false }
         ensures socket { result.socket ≡ socket }
+        ensures state { result.state ≡ state }
     {
         Socket {
             origin,
@@ -277,7 +283,9 @@ impl<S: Stream + Drop> Socket<S> {
 
     /// Looks whether a connection that was begun is there, or can't be made.
     fn look(&mut self)
-        ensures { self.new ≡ record self.old { state = self.new.state; reason = self.new.reason } }
+        ensures rest { self.new ≡ record self.old { state = self.new.state; reason = self.new.reason } }
+        // It is seen where it is there, or can't be made.
+        ensures seen { IsSeen (S.made self.old.socket) (S.unmade self.old.socket) self.old.state self.new.state }
     {
         if self.socket.peer().is_some() {
             self.state = ConnectState::Connected;
@@ -366,6 +374,8 @@ impl<S: Stream + Drop> Socket<S> {
         ensures socket { self.new.socket ≡ self.old.socket }
         ensures failed { IfSome result (λ pushed. is_some self.new.failure ≡ (is_some self.old.failure || is_push_failure pushed)) }
         ensures goes_on { IfNone result (self.new ≡ self.old) }
+        // Where it is there a write is made.
+        ensures there { self.old.state ≡ ConnectState.Connected → IsNone result }
         ensures rest { (self.new.has_ended ≡ self.old.has_ended) × (self.new.was_finished ≡ self.old.was_finished) × (self.new.was_shut ≡ self.old.was_shut) × (self.new.marks ≡ self.old.marks) × (self.new.state ≡ self.old.state) × (self.new.calls ≡ self.old.calls) × (self.new.is_wire ≡ self.old.is_wire) }
     {
         match self.state {
@@ -576,6 +586,8 @@ impl<S: Stream + Drop> Device for Socket<S> {
     fn note_event(&mut self, ready: Readiness)
         ensures noted { IsNoted ready (⟦<Socket<S> as Device>⟧.seen self.old) (⟦<Socket<S> as Device>⟧.seen self.new) }
         ensures stays { self.new.is_wire ≡ self.old.is_wire }
+        // It is seen at once: what comes next of it is a read or a write of it, or fails.
+        ensures seen { self.old.state ≡ ConnectState.Connecting → IsSeen (S.made self.old.socket) (S.unmade self.old.socket) self.old.state self.new.state }
     {
         if self.state == ConnectState::Connecting {
             self.look();

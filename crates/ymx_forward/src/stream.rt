@@ -2,11 +2,12 @@
 //! contract each of them. A socket is the same code over both, so what is proved of it where its stream tells holds of
 //! that which ships.
 
-ghost use Rattle.std.specs.Prelude.{◌≡◌, false, true, ℕ, List, Option, Bool, option_map};
+ghost use Rattle.std.specs.Prelude.{◌≡◌, false, true, ℕ, List, Option, Some, Bool, is_some, option_map};
 ghost use Rattle.std.specs.Io.{ReadsAtMost, WritesAtMost};
 ghost use Rattle.std.specs.Io.KnownBytes.{ReadConsumes, WriteAppends};
 ghost use Rattle.std.specs.Io.Slices.{io_slices_bytes};
 ghost use Rattle.std.specs.declared.net.socket_addr.SocketAddr.{SocketAddr as Address};
+ghost use Rattle.ymx_forward.specs.Sockets.{has_fault};
 
 use crate::system::{NoEvents, Poll};
 use std::io;
@@ -36,6 +37,12 @@ pub(crate) trait Stream {
 
     /// Under which token a poll was asked last to tell of it, where it can tell.
     ghost told_under: { Self → Option ℕ };
+
+    /// Whether somebody is at its other end, where it can tell.
+    ghost made: { Self → Option Bool };
+
+    /// Whether it could not be made, where it can tell.
+    ghost unmade: { Self → Option Bool };
 
     /// Whom this side called for it. None where its other side called.
     ghost called: { Self → Option Address };
@@ -98,8 +105,10 @@ pub(crate) trait Stream {
         ensures open { (finished self.new ≡ finished self.old) × (closed self.new ≡ closed self.old) };
 
     /// Who is at its other end. None while nobody is.
-    fn peer(&self) -> Option<SocketAddr>;
+    fn peer(&self) -> Option<SocketAddr>
+        ensures { (there : Bool) → made self.now ≡ Some there → is_some result ≡ there };
 
     /// Why it could not be made, if it couldn't and that wasn't told.
-    fn take_fault(&self) -> io::Result<Option<io::Error>>;
+    fn take_fault(&self) -> io::Result<Option<io::Error>>
+        ensures { (failed : Bool) → unmade self.now ≡ Some failed → has_fault result ≡ failed };
 }

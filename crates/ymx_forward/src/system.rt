@@ -1,7 +1,6 @@
 //! What touches the system's sockets: connections, listeners, and the events that tell of them. Each function makes the
-//! calls that it names, in that order, and decides nothing. No contract sees which bytes the system's sockets carry, nor
-//! what the system does, so this file is to be read. No other file of this crate makes such a call: the sockets that never
-//! wait are private here.
+//! calls that it names, in that order, and decides nothing. No contract sees which bytes the sockets carry, nor what the
+//! system does, so this file is to be read. No other makes such a call: sockets that never wait are private here.
 
 ghost use Rattle.std.specs.Prelude.{◌≡◌, ◌<◌, ◌^◌, ◌==◌, false, length, IfOk, None, Some};
 ghost use Rattle.std.specs.Slice.Iter.{iter_rest, iter_steps};
@@ -170,6 +169,10 @@ impl Stream for TcpConnection {
 
     ghost told_under = { λ _. None };
 
+    ghost made = { λ _. None };
+
+    ghost unmade = { λ _. None };
+
     ghost called = { λ s. s.called };
 
     fn called(&self) -> Option<SocketAddr> {
@@ -197,9 +200,7 @@ impl Stream for TcpConnection {
 
     fn read(&mut self, buffer: &mut [u8]) -> io::Result<usize> {
         let read = read(&mut &self.inner, buffer);
-        if !buffer.is_empty() && matches!(read, Ok(0)) {
-            self.gives = false;
-        }
+        self.gives &= buffer.is_empty() || !matches!(read, Ok(0));
         read
     }
 
@@ -207,7 +208,6 @@ impl Stream for TcpConnection {
         write(&mut &self.inner, bytes)
     }
 
-    /// The call is made again where a signal interrupts it, up to a million times.
     fn write_pieces(&mut self, pieces: &[IoSlice<'_>]) -> io::Result<usize> {
         'again: for _ in 0..RETRIES {
             match self.inner.write_vectored(pieces) {
