@@ -60,6 +60,16 @@ pub(crate) struct Limits {
 }
 
 impl Limits {
+    /// Those before a session is asked for: nobody is waited for, and the system doesn't look.
+    fn none() -> Limits {
+        Limits {
+            silence: None,
+            is_sounded: false,
+            close: None,
+            keepalive: None,
+        }
+    }
+
     /// Those of a session that asks after so many seconds, if it does. Where others wait for its end, the peer isn't waited
     /// for without end.
     fn of(session: Session) -> Limits
@@ -114,19 +124,9 @@ impl TunnelEnd {
     ) -> TunnelEnd
         ensures { comes_at_most result ≡ listening.left }
     {
-        TunnelEnd {
-            side: Side::Local(listening),
-            is_kept,
-            limits: Limits {
-                silence: None,
-                is_sounded: false,
-                close: None,
-                keepalive: None,
-            },
-            waiting: None,
-            drain: None,
-            users,
-        }
+        let mut end = TunnelEnd::of(Side::Local(listening), is_kept);
+        end.users = users;
+        end
     }
 
     /// The yamux client whose connections another thread leaves in this inbox.
@@ -138,18 +138,21 @@ impl TunnelEnd {
     pub(crate) fn remote(target: SocketAddrV4, workers: u32) -> TunnelEnd
         ensures { goes_to result.side ≡ asked_to_go (SessionSide.Server target workers) }
     {
+        let side = Side::Remote {
+            target: SocketAddr::V4(target),
+            limit: (workers as usize).max(1),
+        };
+        TunnelEnd::of(side, false)
+    }
+
+    /// One of this side, at which nobody waits.
+    fn of(side: Side, is_kept: bool) -> TunnelEnd
+        ensures { result.side ≡ side }
+    {
         TunnelEnd {
-            side: Side::Remote {
-                target: SocketAddr::V4(target),
-                limit: (workers as usize).max(1),
-            },
-            is_kept: false,
-            limits: Limits {
-                silence: None,
-                is_sounded: false,
-                close: None,
-                keepalive: None,
-            },
+            side,
+            is_kept,
+            limits: Limits::none(),
             waiting: None,
             drain: None,
             users: None,
