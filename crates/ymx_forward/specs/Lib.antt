@@ -8,6 +8,7 @@ pub mod Echoes
 pub mod Ended
 pub mod Looks
 pub mod Events
+pub mod Inboxes
 pub mod Loops
 pub mod Offers
 pub mod Saying

@@ -1,12 +1,17 @@
 -- Which users wait to be accepted, and when one is given a stream (this project's own).
-use Rattle.std.specs.Prelude.{ℕ, ◌&&◌, ◌||◌, ◌==◌, Bool, true, false, not, is_some, length, nat_le, nat_lt, Option, Some, None}
+use Rattle.std.specs.Prelude.{ℕ, ◌≡◌, ◌&&◌, ◌||◌, ◌==◌, Bool, true, false, not, is_some, length, nat_le, nat_lt, Option, Some, None, option_map, Result, Ok, Err}
 use Rattle.ymx_machine.specs.shared.Limits.{first_exhausted, most_records}
 use Rattle.ymx_machine.specs.declared.types.CallFault.TheVariants.{OpensPending, TooMany}
 use Rattle.ymx_model.specs.session.Sessions.{Session, is_running}
 use Rattle.ymx_session.specs.Opens.{opens_left}
+use Rattle.ymx_engine.specs.Devices.{Seen}
+use Rattle.ymx_engine.specs.Joins.{IsJoined, IsOpened}
 use Rattle.ymx_engine.specs.Tunnels.{Tunnel}
 use Rattle.ymx_engine.specs.declared.joining.NotJoined.{NotJoined}
 use Rattle.ymx_engine.specs.declared.joining.NotJoined.TheVariants.{BySession}
+use Rattle.ymx_page.specs.Counts.{with_begun, with_declined}
+use Rattle.ymx_page.specs.declared.counts.Counts.{Counts}
+use Rattle.ymx_forward.specs.Ended.{declined_for}
 use Rattle.ymx_forward.specs.declared.accepting.Source.{Source}
 use Rattle.ymx_forward.specs.declared.accepting.Source.TheVariants as source
 use Rattle.ymx_forward.specs.declared.accepting.Listening.{Listening}
@@ -84,6 +89,11 @@ leaves_users e t = e.is_kept && (not (is_running t.engine.session.status) || t.e
 -- never will be a place; and the user isn't left to the next session.
 abbrev pub user_is_due : (heard : Bool) → TunnelEnd → Tunnel → Bool
 user_is_due heard e t = may_wait e (length t.lines.by_id) && not (leaves_users e t) && not (must_wait t) && not (awaits_sign heard t)
+
+-- A user who came got a stream, or none, as this says: then who counts was told, and why.
+abbrev pub IsBrought : Result ℕ NotJoined → (old new : Tunnel) → (counts counts_new : Option Counts) → Type 0
+IsBrought (Ok id) old new counts counts_new = ((seen : Seen) × IsJoined IsOpened id seen old new None None) × (counts_new ≡ option_map with_begun counts)
+IsBrought (Err why) old new counts counts_new = counts_new ≡ option_map (with_declined (declined_for why)) (option_map with_begun counts)
 
 -- Not for this reason alone does a user get no stream: that 256 streams wait for the peer, or 1,024 are there.
 abbrev pub IsStated : NotJoined → Type 0

@@ -1,10 +1,13 @@
 //! The connections that come to one side of a tunnel.
 
-ghost use Rattle.std.specs.Prelude.{◌≡◌, ◌-◌, true, Some, IfOk, IfSome, IfNone, IsNone, option_map};
+ghost use Rattle.std.specs.Prelude.{◌≡◌, ◌-◌, true, Ok, Some, IfOk, IfSome, IfNone, IsNone, option_map};
 ghost use Rattle.ymx_forward.specs.Users.{is_failed, is_less, is_shut, may_come};
+ghost use Rattle.ymx_forward.specs.declared.content.Taken.TheVariants as TakenIs;
+ghost use Rattle.ymx_forward.specs.declared.system.TcpConnection.{TcpConnection as Connection};
 
+use crate::content::{Places, Taken};
 use crate::drain::Drain;
-use crate::inbox::{Inbox, Places, Taken};
+use crate::inbox::Inbox;
 use crate::system::{Listener, Poll, TcpConnection};
 use std::alloc::Global;
 use std::io;
@@ -251,6 +254,8 @@ impl Listening {
 
     /// What was taken from the inbox.
     fn note_taken(&mut self, taken: Taken) -> Option<TcpConnection>
+        // Whoever was taken is given on.
+        ensures given { (socket : Connection) → taken ≡ TakenIs.Connection socket → result ≡ Some socket }
         ensures counted { IfSome result (λ _. self.new.left ≡ option_map (λ n. n - 1) self.old.left) }
         ensures kept { IfNone result (self.new.left ≡ self.old.left) }
     {
@@ -278,6 +283,8 @@ impl Listening {
         accepted: Result<TcpConnection, Refusal>,
         open: usize,
     ) -> Option<TcpConnection>
+        // Whoever was accepted is given on.
+        ensures given { (socket : Connection) → accepted ≡ Ok socket → result ≡ Some socket }
         ensures counted { IfSome result (λ _. self.new.left ≡ option_map (λ n. n - 1) self.old.left) }
         ensures kept { IfNone result (self.new.left ≡ self.old.left) }
     {

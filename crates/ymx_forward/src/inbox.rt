@@ -1,39 +1,20 @@
 //! Where one thread leaves connections for the loop of another.
 
+ghost use Rattle.std.specs.Prelude.{◌≡◌, IfErr};
+ghost use Rattle.ymx_forward.specs.Inboxes.{ComesBack};
+
+use crate::content::{Content, Left, NotLeft, Places, Standing, Taken};
 use crate::stillness::Stillness;
 use crate::system::{TcpConnection, Waker};
 use std::alloc::{AllocFailed, Global};
 use std::collections::VecDeque;
 use std::sync::atomic::{AtomicU64, Ordering};
 use std::sync::{Arc, Mutex, Wait};
-use std::time::{Clock, Duration};
+use std::time::Clock;
 use ymx_policy::Notice;
-
-/// How many seconds a link gets no connection after its peer could not be reached or was lost, where another link is
-/// there.
-const REST: u64 = 10;
 
 /// How many connections a link takes whose session is still to begin: as many as that opens at once.
 const ROOM: usize = 256;
-
-/// What lies in an inbox.
-#[derive(Drop)]
-struct Content {
-    /// The connections that wait, the first that came at the front.
-    waiting: VecDeque<TcpConnection>,
-    /// How many more the link has a place for.
-    room: usize,
-    /// The thread that accepts found none, and is to be woken once there is one.
-    is_wanted: bool,
-    /// The link's peer takes no more streams.
-    is_away: bool,
-    /// No more connections come.
-    is_closed: bool,
-    /// Since when its link rests.
-    rest: Option<Stillness>,
-    /// Why the fault came that the link reports next.
-    reason: Option<Notice>,
-}
 
 /// Where the thread that accepts leaves connections for the loop of a link.
 #[derive(Drop)]
@@ -75,7 +56,9 @@ impl Acceptor {
         &self,
         rt: &R,
         socket: TcpConnection,
-    ) -> Result<(), AllocFailed<TcpConnection>> {
+    ) -> Result<(), AllocFailed<TcpConnection>>
+        ensures { IfErr result (λ back. back.value ≡ socket) }
+    {
         let mut returned = self.returned.lock(rt);
         returned.push_back(socket)?;
         drop(returned);
@@ -88,37 +71,6 @@ impl Acceptor {
         let mut returned = self.returned.lock(rt);
         returned.pop_front()
     }
-}
-
-/// What was taken from an inbox.
-#[derive(Drop)]
-pub(crate) enum Taken {
-    /// A connection.
-    Connection(TcpConnection),
-    /// None waits.
-    NotNow,
-    /// None waits, and none comes any more.
-    Closed,
-}
-
-/// How many connections the session of a link can still take.
-#[derive(Clone, Copy)]
-pub(crate) enum Places {
-    /// So many now, and more once others have ended or the peer has taken them.
-    Free(usize),
-    /// None any more.
-    Never,
-}
-
-/// Whether a link is to get the next connection: the first of these before the others.
-#[derive(Clone, Copy, PartialEq, Eq)]
-enum Standing {
-    /// It has a place.
-    Free,
-    /// It has none for now.
-    Full,
-    /// It has no peer, or one that takes no more streams: others are preferred.
-    Resting,
 }
 
 /// What speaks for a link, and against it.
@@ -144,15 +96,6 @@ pub(crate) enum Room {
     Closed,
 }
 
-/// Why a connection could not be left.
-#[derive(Drop)]
-pub(crate) enum NotLeft {
-    /// The inbox is closed. The connection comes back.
-    Closed(TcpConnection),
-    /// There was no memory for it. The connection comes back.
-    OutOfMemory(AllocFailed<TcpConnection>),
-}
-
 impl Inbox {
     /// An empty inbox of the loop that this wakes, for the thread that accepts. Where its link `has_peer`, it has no place for a connection before that has given a sign of life.
     pub(crate) fn new(
@@ -161,17 +104,9 @@ impl Inbox {
         acceptor: Arc<Acceptor, Global>,
         has_peer: bool,
     ) -> Inbox {
-        let content = Content {
-            waiting: VecDeque::new(alloc),
-            room: if has_peer { 0 } else { ROOM },
-            is_wanted: false,
-            is_away: false,
-            is_closed: false,
-            rest: None,
-            reason: None,
-        };
+        let room = if has_peer { 0 } else { ROOM };
         Inbox {
-            content: Mutex::new(content),
+            content: Mutex::new(Content::new(alloc, room)),
             load: AtomicU64::new(0),
             waker,
             acceptor,
@@ -179,29 +114,20 @@ impl Inbox {
     }
 
     /// Leaves a connection, and wakes the loop.
-    pub(crate) fn leave<R: Wait>(&self, rt: &R, socket: TcpConnection) -> Result<(), NotLeft> {
+    pub(crate) fn leave<R: Wait>(&self, rt: &R, socket: TcpConnection) -> Result<Left, NotLeft>
+        ensures { IfErr result (ComesBack socket) }
+    {
         let mut content = self.content.lock(rt);
-        if content.is_closed {
-            return Err(NotLeft::Closed(socket));
-        }
-        if let Err(refused) = content.waiting.push_back(socket) {
-            return Err(NotLeft::OutOfMemory(refused));
-        }
-        content.room = content.room.saturating_sub(1);
+        let left = content.leave(socket)?;
         self.load.fetch_add(1, Ordering::SeqCst);
         drop(content);
         self.waker.wake();
-        Ok(())
+        Ok(left)
     }
 
     /// Takes the connection that came first.
     pub(crate) fn take<R: Wait>(&self, rt: &R) -> Taken {
-        let mut content = self.content.lock(rt);
-        match content.waiting.pop_front() {
-            Some(socket) => Taken::Connection(socket),
-            None if content.is_closed => Taken::Closed,
-            None => Taken::NotNow,
-        }
+        self.content.lock(rt).take()
     }
 
     /// Gives a connection back to the thread that accepts, as the link has no session for it. It comes back where no more come
@@ -210,11 +136,10 @@ impl Inbox {
         &self,
         rt: &R,
         socket: TcpConnection,
-    ) -> Result<(), TcpConnection> {
-        let content = self.content.lock(rt);
-        let is_closed = content.is_closed;
-        drop(content);
-        if is_closed {
+    ) -> Result<(), TcpConnection>
+        ensures { IfErr result (λ back. back ≡ socket) }
+    {
+        if self.content.lock(rt).is_closed() {
             return Err(socket);
         }
         match self.acceptor.give_back(rt, socket) {
@@ -233,9 +158,7 @@ impl Inbox {
 
     /// No more connections come. The loop is told, and so is the thread that accepts.
     pub(crate) fn close<R: Wait>(&self, rt: &R) {
-        let mut content = self.content.lock(rt);
-        content.is_closed = true;
-        drop(content);
+        self.content.lock(rt).close();
         self.waker.wake();
         self.acceptor.wake();
     }
@@ -249,20 +172,10 @@ impl Inbox {
     /// waits for one, it is woken. Whether one is left.
     pub(crate) fn show<R: Wait>(&self, rt: &R, places: Places) -> bool {
         let mut content = self.content.lock(rt);
-        match places {
-            Places::Free(count) => content.room = count.saturating_sub(content.waiting.len()),
-            Places::Never => {
-                content.room = 0;
-                content.is_away = true;
-            }
-        }
-        let has_room = content.room > 0;
-        let is_wanted = content.is_wanted && (has_room || content.is_away);
-        if is_wanted {
-            content.is_wanted = false;
-        }
+        let is_woken = content.show(places);
+        let has_room = content.has_room();
         drop(content);
-        if is_wanted {
+        if is_woken {
             self.acceptor.wake();
         }
         has_room
@@ -270,14 +183,12 @@ impl Inbox {
 
     /// Keeps the reason of the fault that the link reports next.
     pub(crate) fn keep_reason<R: Wait>(&self, rt: &R, reason: Notice) {
-        let mut content = self.content.lock(rt);
-        content.reason = Some(reason);
+        self.content.lock(rt).keep_reason(reason);
     }
 
     /// The reason that was kept, if one was.
     pub(crate) fn take_reason<R: Wait>(&self, rt: &R) -> Option<Notice> {
-        let mut content = self.content.lock(rt);
-        content.reason.take()
+        self.content.lock(rt).take_reason()
     }
 
     /// The link has no peer now: others are to be preferred for a while.
@@ -300,13 +211,9 @@ impl Inbox {
     /// The session of the link is over, or is to begin: it rests or doesn't, and has so many places.
     fn begin_anew<R: Wait>(&self, rt: &R, rest: Option<Stillness>, places: usize) {
         let mut content = self.content.lock(rt);
-        content.rest = rest;
-        content.is_away = false;
-        content.room = places.saturating_sub(content.waiting.len());
-        let is_wanted = content.is_wanted;
-        content.is_wanted = false;
+        let is_woken = content.begin_anew(rest, places);
         drop(content);
-        if is_wanted {
+        if is_woken {
             self.acceptor.wake();
         }
     }
@@ -315,19 +222,10 @@ impl Inbox {
     /// thread that accepts once it has a place.
     fn weight<R: Clock + Wait>(&self, rt: &R) -> Option<Weight> {
         let mut content = self.content.lock(rt);
-        if content.is_closed {
+        if content.is_closed() {
             return None;
         }
-        let is_resting = match content.rest {
-            Some(rest) => !rest.has_lasted(rt, Duration::from_secs(REST)),
-            None => content.is_away,
-        };
-        let standing = match content.room {
-            _ if is_resting => Standing::Resting,
-            0 => Standing::Full,
-            _ => Standing::Free,
-        };
-        content.is_wanted = content.is_wanted || standing == Standing::Full;
+        let standing = content.standing(rt);
         let load = self.load.load(Ordering::SeqCst);
         Some(Weight { standing, load })
     }
@@ -394,7 +292,9 @@ pub(crate) fn leave_lightest<R: Clock + Wait>(
     rt: &R,
     socket: TcpConnection,
     inboxes: &[Arc<Inbox, Global>],
-) -> Result<(), NotLeft> {
+) -> Result<Left, NotLeft>
+    ensures { IfErr result (ComesBack socket) }
+{
     let mut socket = socket;
     for _ in inboxes {
         let Some(inbox) = lightest(rt, inboxes) else {

@@ -9,6 +9,7 @@
 
 mod accepting;
 mod closing;
+mod content;
 mod counted;
 mod dialing;
 mod doorkeeper;

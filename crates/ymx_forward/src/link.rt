@@ -5,9 +5,10 @@ ghost use Rattle.ymx_forward.specs.Calls.{RunsOver};
 ghost use Rattle.ymx_forward.specs.Counts.{CountsOne};
 ghost use Rattle.ymx_forward.specs.Sessions.{HasNoEnd};
 
+use crate::content::Taken;
 use crate::end::EndSockets;
 use crate::host::Host;
-use crate::inbox::{Inbox, Taken};
+use crate::inbox::Inbox;
 use crate::notices::ProgramWatcher;
 use crate::peer::Peer;
 use crate::shared::Shared;

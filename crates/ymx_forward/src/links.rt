@@ -1,7 +1,7 @@
 //! What a `local` with several links asks for, done over sockets and threads. A link is a connection to the peer, with a
 //! session and a thread of its own. One thread accepts the users, and brings each to the link that has the fewest.
 
-ghost use Rattle.std.specs.Prelude.{ℕ, List, Option, [], ◌∷◌, ◌≡◌, ◌≢◌, true, None, IfOk, ⊤};
+ghost use Rattle.std.specs.Prelude.{ℕ, List, Option, [], ◌∷◌, ◌≡◌, ◌≢◌, true, None, IfErr, IfOk, option_map, ⊤};
 ghost use Rattle.std.specs.Thread.{IsSend};
 ghost use Rattle.ymx_policy.specs.Past.{Adds};
 ghost use Rattle.ymx_policy.specs.declared.asks.Callee.{Callee as Calls};
@@ -10,12 +10,15 @@ ghost use Rattle.ymx_policy.specs.declared.asks.PoolHappened.{PoolHappened as Po
 ghost use Rattle.ymx_policy.specs.declared.asks.Users.{Users as Comers};
 ghost use Rattle.ymx_forward.specs.Calls.{AddsCalled, Keeps};
 ghost use Rattle.ymx_forward.specs.Comers.{PoolTakes, PoolTakesCount};
+ghost use Rattle.ymx_forward.specs.Inboxes.{is_lost, unleft_for};
 ghost use Rattle.ymx_forward.specs.Users.{is_failed};
+ghost use Rattle.ymx_page.specs.Counts.{with_begun, with_declined};
 
 use crate::accepting::Listening;
+use crate::content::{Left, NotLeft};
 use crate::drain::Drain;
 use crate::host::Host;
-use crate::inbox::{Acceptor, Inbox, NotLeft, Room, close_all, leave_lightest, room_of};
+use crate::inbox::{Acceptor, Inbox, Room, close_all, leave_lightest, room_of};
 use crate::link::{Link, LinkJob, Report};
 use crate::notices::ProgramWatcher;
 use crate::peer::Peer;
@@ -328,18 +331,10 @@ impl<'a, R: Host> LinkSockets<'a, R> {
                 return PoolHappened::Done;
             }
         }
-        match leave_lightest(self.site.rt, user, self.inboxes.as_slice()) {
-            Ok(()) => PoolHappened::Done,
-            Err(NotLeft::Closed(socket)) => {
-                refuse(socket, watcher);
-                PoolHappened::Done
-            }
-            Err(NotLeft::OutOfMemory(refused)) => {
-                let origin = watcher.begins(&refused.value);
-                watcher.refused(origin, Declined::OutOfMemory);
-                PoolHappened::LackedMemory
-            }
-        }
+        settle(
+            leave_lightest(self.site.rt, user, self.inboxes.as_slice()),
+            watcher,
+        )
     }
 
     /// Listens no more, and brings no more users to any link. Those that links had no session for are closed.
@@ -363,8 +358,28 @@ impl<'a, R: Host> LinkSockets<'a, R> {
     }
 }
 
+/// A user was left at a link. One who couldn't be is closed, and who watches is told.
+fn settle<V: Watcher>(left: Result<Left, NotLeft>, watcher: &mut V) -> PoolHappened
+    ensures { IfErr left (λ why. V.counts watcher.new ≡ option_map (with_declined (unleft_for why)) (option_map with_begun (V.counts watcher.old))) }
+{
+    match left {
+        Ok(_) => PoolHappened::Done,
+        Err(NotLeft::Closed(socket)) => {
+            refuse(socket, watcher);
+            PoolHappened::Done
+        }
+        Err(NotLeft::OutOfMemory(refused)) => {
+            let origin = watcher.begins(&refused.value);
+            watcher.refused(origin, Declined::OutOfMemory);
+            PoolHappened::LackedMemory
+        }
+    }
+}
+
 /// Closes a user for whom there is no session.
-fn refuse<V: Watcher>(socket: TcpConnection, watcher: &mut V) {
+fn refuse<V: Watcher>(socket: TcpConnection, watcher: &mut V)
+    ensures { V.counts watcher.new ≡ option_map (with_declined is_lost) (option_map with_begun (V.counts watcher.old)) }
+{
     let origin = watcher.begins(&socket);
     watcher.refused(origin, Declined::BySession(CallFault::Lost));
 }

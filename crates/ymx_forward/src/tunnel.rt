@@ -3,8 +3,11 @@
 //! All that moves is moved by calls of [`ymx_engine::Tunnel`], which owns the wire and the connections. Each function
 //! here that makes such calls says that they are all it did: `Runs`.
 
-ghost use Rattle.std.specs.Prelude.{◌≡◌, ◌⊎◌, ◌||◌, [], true, false, not, length, is_err, is_some, option_map, IfErr, IfOk, IfSome, IsSome, Some, None};
+ghost use Rattle.std.specs.Prelude.{ℕ, Result, ◌≡◌, ◌⊎◌, ◌||◌, [], true, false, not, length, is_err, is_some, option_map, IfErr, IfNone, IfOk, IfSome, IsSome, Some, None};
+ghost use Rattle.ymx_engine.specs.Devices.{Seen};
+ghost use Rattle.ymx_engine.specs.Joins.{IsJoined, IsOpened};
 ghost use Rattle.ymx_engine.specs.Runs.{Runs, IsOver};
+ghost use Rattle.ymx_engine.specs.declared.joining.NotJoined.{NotJoined as NotJoinedFor};
 ghost use Rattle.ymx_engine.specs.Served.{Serving, NoneWaits, NoneGives, NoneEnds, NoneStops, NoneHangs};
 ghost use Rattle.ymx_engine.specs.Turns.{Line as LineValue, line_of};
 ghost use Rattle.ymx_engine.specs.Ways.{is_over};
@@ -18,7 +21,7 @@ ghost use Rattle.ymx_forward.specs.declared.tunnel_end.Side.{Side as SideValue};
 ghost use Rattle.ymx_forward.specs.Coming.{has_spoken, tells_coming};
 ghost use Rattle.ymx_forward.specs.Signs.{is_sign};
 ghost use Rattle.ymx_engine.specs.Engines.{is_flushed, unframed};
-ghost use Rattle.ymx_forward.specs.Users.{IsStated, awaits_sign, can_open_later, has_no_place, is_followed, leaves_users, must_wait, user_is_due};
+ghost use Rattle.ymx_forward.specs.Users.{IsBrought, IsStated, awaits_sign, can_open_later, has_no_place, is_followed, leaves_users, must_wait, user_is_due};
 ghost use Rattle.ymx_forward.specs.Offers.{BeginsFor, CallsTarget, EndsOffer, IsAnswered, NoneWaitsForPlace};
 ghost use Rattle.ymx_forward.specs.Sessions.{IsBegunFor, IsUnmade, IsUnserved, asked_to_go, free_target, has_failed, is_said, rule_of};
 ghost use Rattle.ymx_policy.specs.declared.asks.Session.{Session as Wanted};
@@ -26,10 +29,11 @@ ghost use Rattle.ymx_law_session.specs.Limits.{IsWithin};
 ghost use Rattle.ymx_forward.specs.Sides.{role_at};
 ghost use Rattle.ymx_model.specs.session.Sessions.{is_running, new_session};
 ghost use Rattle.ymx_session.specs.NewSessions.{IsNewFault, first_id};
+ghost use Rattle.ymx_forward.specs.declared.system.TcpConnection.{TcpConnection as Connection};
 ghost use Rattle.ymx_page.specs.Counts.{with_declined};
 
+use crate::content::Places;
 use crate::dialing::Dialer;
-use crate::inbox::Places;
 use crate::peer::Peer;
 use crate::silence::{Due, Silence, is_sign, shorter};
 use crate::site::{lacking, unwatched};
@@ -815,6 +819,9 @@ impl<'a> TunnelLoop<'a> {
         ensures accepts_only { IfSome result (λ _. must_wait self.new.tunnel ≡ false) }
         // None is accepted before the peer has given a sign of life, where it is asked for one.
         ensures accepts_heard { IfSome result (λ _. awaits_sign self.old.is_heard self.new.tunnel ≡ false) }
+        // Who waited while there was no session is the first.
+        ensures first { IfSome result (λ socket. (before : Connection) → self.old.tunnel_end.now.waiting ≡ Some before → socket ≡ before) }
+        ensures waits { IfNone result ((self.new.tunnel_end.now.waiting ≡ self.old.tunnel_end.now.waiting) ⊎ (self.old.tunnel_end.now.waiting ≡ None)) }
         // None is accepted that is left to the next session: so none is closed as the peer takes no more streams.
         ensures accepts_own { IfSome result (λ _. leaves_users self.old.tunnel_end.now self.new.tunnel ≡ false) }
     {
@@ -834,6 +841,8 @@ impl<'a> TunnelLoop<'a> {
     fn begin_local<V: Watcher>(&mut self, socket: TcpConnection, poll: &Poll, watcher: &mut V)
         requires placed { must_wait self.old.tunnel ≡ false }
         ensures runs { Runs self.old.tunnel self.new.tunnel }
+        // It gets a stream, or who watches is told that it gets none.
+        ensures brought { (told : Result ℕ NotJoinedFor) × IsBrought told self.old.tunnel self.new.tunnel (V.counts watcher.old) (V.counts watcher.new) }
         // Users are accepted on while the session runs, unless the system refused to watch this one.
         ensures kept { is_running self.old.tunnel.engine.session.status ≡ true → (self.new.tunnel_end.now ≡ self.old.tunnel_end.now) ⊎ (self.new.has_unwatched ≡ true) }
     {
@@ -866,6 +875,7 @@ impl<'a> TunnelLoop<'a> {
     /// Opens a stream for a connection.
     fn open(&mut self, socket: Socket, poll: &Poll) -> Result<u32, NotJoined>
         ensures runs { Runs self.old.tunnel self.new.tunnel }
+        ensures opened { IfOk result (λ id. (seen : Seen) × IsJoined IsOpened id seen self.old.tunnel self.new.tunnel None None) }
         ensures stated { must_wait self.old.tunnel ≡ false → IfErr result IsStated }
         ensures end { self.new.tunnel_end.now ≡ self.old.tunnel_end.now }
     {

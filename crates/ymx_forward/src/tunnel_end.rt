@@ -1,15 +1,19 @@
 //! One end of a tunnel, through all its sessions.
 
-ghost use Rattle.std.specs.Prelude.{◌≡◌, ◌≢◌, true, IfErr, IfOk, None, Some, is_some};
+ghost use Rattle.std.specs.Prelude.{◌≡◌, ◌≢◌, true, if◌then◌else◌, IfErr, IfNone, IfOk, None, Some, is_some, option_map};
 ghost use Rattle.ymx_policy.specs.declared.asks.Session.{Session as Asked};
 ghost use Rattle.ymx_forward.specs.Doors.{MayCall};
+ghost use Rattle.ymx_forward.specs.Inboxes.{is_lost};
+ghost use Rattle.ymx_forward.specs.declared.system.TcpConnection.{TcpConnection as Connection};
+ghost use Rattle.ymx_page.specs.Counts.{with_begun, with_declined};
 ghost use Rattle.ymx_forward.specs.Sessions.{AreLimitsOf, HasNoEnd, Serves, asked_to_go, goes_to, has_failed};
 ghost use Rattle.ymx_forward.specs.Users.{comes_at_most, comes_to, may_wait};
 
 use crate::accepting::Listening;
+use crate::content::Places;
 use crate::doorkeeper::{Caller, Doorkeeper};
 use crate::drain::{Drain, is_asked};
-use crate::inbox::{Inbox, Places};
+use crate::inbox::Inbox;
 use crate::peer::Peer;
 use crate::site::Site;
 use crate::system::TcpConnection;
@@ -303,7 +307,12 @@ impl TunnelEnd {
     }
 
     /// The next connection that waits for a stream, where so many have one. It never waits itself.
-    pub(crate) fn next_user<R: Wait>(&mut self, rt: &R, open: usize) -> Option<TcpConnection> {
+    pub(crate) fn next_user<R: Wait>(&mut self, rt: &R, open: usize) -> Option<TcpConnection>
+        // Who waited while there was no session is the first.
+        ensures first { (socket : Connection) → self.old.waiting ≡ Some socket → result ≡ Some socket }
+        ensures none { self.new.waiting ≡ None }
+        ensures nobody { IfNone result (self.old.waiting ≡ None) }
+    {
         if let Some(socket) = self.waiting.take() {
             return Some(socket);
         }
@@ -330,7 +339,9 @@ impl TunnelEnd {
 
     /// Accepts a connection that the next session is to serve. False if none waits.
     fn take_waiting<R: Wait>(&mut self, rt: &R) -> bool
-        ensures { result ≡ is_some self.new.waiting }
+        ensures waits { result ≡ is_some self.new.waiting }
+        // Who waits already waits on.
+        ensures kept { is_some self.old.waiting ≡ true → self.new.waiting ≡ self.old.waiting }
     {
         if self.waiting.is_none() {
             if let Side::Local(listening) = &mut self.side {
@@ -342,7 +353,9 @@ impl TunnelEnd {
 
     /// Closes the connection that waits for a session, if one does, as there is none to be had.
     pub(crate) fn refuse_waiting<V: Watcher>(&mut self, watcher: &mut V)
-        ensures { self.new.waiting ≡ None }
+        ensures none { self.new.waiting ≡ None }
+        // Who watches is told of it.
+        ensures told { V.counts watcher.new ≡ (if is_some self.old.waiting then option_map (with_declined is_lost) (option_map with_begun (V.counts watcher.old)) else V.counts watcher.old) }
     {
         if let Some(socket) = self.waiting.take() {
             let origin = watcher.begins(&socket);
@@ -351,7 +364,10 @@ impl TunnelEnd {
     }
 
     /// Gives the connection that waits for a session back to who accepts for many links, so that another has it.
-    pub(crate) fn give_back<R: Wait>(&mut self, rt: &R, inbox: &Inbox) {
+    pub(crate) fn give_back<R: Wait>(&mut self, rt: &R, inbox: &Inbox)
+        // Who can't be given back waits on.
+        ensures { is_some self.new.waiting ≡ true → self.new.waiting ≡ self.old.waiting }
+    {
         if let Some(socket) = self.waiting.take() {
             self.waiting = inbox.give_back(rt, socket).err();
         }

@@ -1,0 +1,219 @@
+//! What lies in an inbox. The lock round it shows a contract nothing, so whatever is done to it is a method here, and
+//! says that nobody is lost.
+
+ghost use Rattle.std.specs.Prelude.{◌≡◌, ◌++◌, ◌∷◌, ◌-◌, ◌||◌, ◌&&◌, ◌<◌, [], Some, true, false, length, nat_lt, not, IfOk, IfErr};
+ghost use Rattle.ymx_forward.specs.Inboxes.{ComesBack, IsTaken, places_of};
+ghost use Rattle.ymx_forward.specs.declared.content.Standing.TheVariants as StandingIs;
+
+use crate::stillness::Stillness;
+use crate::system::TcpConnection;
+use std::alloc::{AllocFailed, Global};
+use std::collections::VecDeque;
+use std::time::{Clock, Duration};
+use ymx_policy::Notice;
+
+/// How many seconds a link gets no connection after its peer could not be reached or was lost, where another link is
+/// there.
+const REST: u64 = 10;
+
+/// What lies in an inbox.
+#[derive(Drop)]
+pub(crate) struct Content {
+    /// The connections that wait, the first that came at the front.
+    waiting: VecDeque<TcpConnection>,
+    /// How many more the link has a place for.
+    room: usize,
+    /// The thread that accepts found none, and is to be woken once there is one.
+    is_wanted: bool,
+    /// The link's peer takes no more streams.
+    is_away: bool,
+    /// No more connections come.
+    is_closed: bool,
+    /// Since when its link rests.
+    rest: Option<Stillness>,
+    /// Why the fault came that the link reports next.
+    reason: Option<Notice>,
+}
+
+/// A connection was left behind those that came before. Only [`Content::leave`] makes one.
+#[derive(Drop)]
+pub(crate) struct Left {
+    seal: (),
+}
+
+/// Why a connection could not be left.
+#[derive(Drop)]
+pub(crate) enum NotLeft {
+    /// The inbox is closed. The connection comes back.
+    Closed(TcpConnection),
+    /// There was no memory for it. The connection comes back.
+    OutOfMemory(AllocFailed<TcpConnection>),
+}
+
+/// What was taken from an inbox.
+#[derive(Drop)]
+pub(crate) enum Taken {
+    /// A connection.
+    Connection(TcpConnection),
+    /// None waits.
+    NotNow,
+    /// None waits, and none comes any more.
+    Closed,
+}
+
+/// How many connections the session of a link can still take.
+#[derive(Clone, Copy)]
+pub(crate) enum Places {
+    /// So many now, and more once others have ended or the peer has taken them.
+    Free(usize),
+    /// None any more.
+    Never,
+}
+
+/// Whether a link is to get the next connection: the first of these before the others.
+#[derive(Clone, Copy, PartialEq, Eq)]
+pub(crate) enum Standing {
+    /// It has a place.
+    Free,
+    /// It has none for now.
+    Full,
+    /// It has no peer, or one that takes no more streams: others are preferred.
+    Resting,
+}
+
+impl Content {
+    /// Nobody waits, and there is room for so many.
+    pub(crate) fn new(alloc: Global, room: usize) -> Content {
+        Content {
+            waiting: VecDeque::new(alloc),
+            room,
+            is_wanted: false,
+            is_away: false,
+            is_closed: false,
+            rest: None,
+            reason: None,
+        }
+    }
+
+    /// Leaves a connection. It waits behind those that came before, or comes back.
+    pub(crate) fn leave(&mut self, socket: TcpConnection) -> Result<Left, NotLeft>
+        ensures left { IfOk result (λ _. self.new.waiting.items ≡ self.old.waiting.items ++ socket ∷ []) }
+        ensures back { IfErr result (ComesBack socket) }
+        ensures same { IfErr result (λ _. self.new.waiting.items ≡ self.old.waiting.items) }
+    {
+        if self.is_closed {
+            return Err(NotLeft::Closed(socket));
+        }
+        match self.waiting.push_back(socket) {
+            Ok(()) => {
+                self.room = self.room.saturating_sub(1);
+                Ok(Left { seal: () })
+            }
+            Err(refused) => Err(NotLeft::OutOfMemory(refused)),
+        }
+    }
+
+    /// Takes the connection that came first. All others wait on.
+    pub(crate) fn take(&mut self) -> Taken
+        ensures { IsTaken result self.old.is_closed self.old.waiting.items self.new.waiting.items }
+    {
+        match self.waiting.pop_front() {
+            Some(socket) => Taken::Connection(socket),
+            None if self.is_closed => Taken::Closed,
+            None => Taken::NotNow,
+        }
+    }
+
+    /// Whether no more connections come.
+    pub(crate) fn is_closed(&self) -> bool
+        ensures { result ≡ self.now.is_closed }
+    {
+        self.is_closed
+    }
+
+    /// No more connections come. Those that wait wait on.
+    pub(crate) fn close(&mut self)
+        ensures { self.new ≡ record self.old { is_closed = true } }
+    {
+        self.is_closed = true;
+    }
+
+    /// Whether the link has a place for one more than wait.
+    pub(crate) fn has_room(&self) -> bool
+        ensures { result ≡ nat_lt 0 self.now.room }
+    {
+        self.room > 0
+    }
+
+    /// The session of the link has so many places, of which those who wait here take some. Whether the thread that accepts
+    /// is to be woken.
+    pub(crate) fn show(&mut self, places: Places) -> bool
+        ensures waiting { self.new.waiting ≡ self.old.waiting }
+        ensures room { self.new.room ≡ places_of places - length self.old.waiting.items }
+        // It is woken where it wants to be, and there is a place, or never will be one.
+        ensures wakes { result ≡ (self.old.is_wanted && (nat_lt 0 self.new.room || self.new.is_away)) }
+        ensures wanted { self.new.is_wanted ≡ (self.old.is_wanted && not result) }
+    {
+        match places {
+            Places::Free(count) => self.room = count.saturating_sub(self.waiting.len()),
+            Places::Never => {
+                self.room = 0;
+                self.is_away = true;
+            }
+        }
+        let is_woken = self.is_wanted && (self.has_room() || self.is_away);
+        if is_woken {
+            self.is_wanted = false;
+        }
+        is_woken
+    }
+
+    /// The session of the link is over, or is to begin: it rests or doesn't, and has so many places. Whether the thread that
+    /// accepts is to be woken.
+    pub(crate) fn begin_anew(&mut self, rest: Option<Stillness>, places: usize) -> bool
+        ensures waiting { self.new.waiting ≡ self.old.waiting }
+        ensures room { self.new.room ≡ places - length self.old.waiting.items }
+        ensures wakes { (result ≡ self.old.is_wanted) × (self.new.is_wanted ≡ false) }
+    {
+        self.rest = rest;
+        self.is_away = false;
+        self.room = places.saturating_sub(self.waiting.len());
+        let is_woken = self.is_wanted;
+        self.is_wanted = false;
+        is_woken
+    }
+
+    /// Whether a further connection may be left here. Where the link is full, the thread that accepts wants to be woken once
+    /// it has a place.
+    pub(crate) fn standing<R: Clock>(&mut self, rt: &R) -> Standing
+        ensures waiting { self.new.waiting ≡ self.old.waiting }
+        ensures wanted { result ≡ StandingIs.Full → self.new.is_wanted ≡ true }
+    {
+        let is_resting = match self.rest {
+            Some(rest) => !rest.has_lasted(rt, Duration::from_secs(REST)),
+            None => self.is_away,
+        };
+        let standing = match self.room {
+            _ if is_resting => Standing::Resting,
+            0 => Standing::Full,
+            _ => Standing::Free,
+        };
+        self.is_wanted = self.is_wanted || standing == Standing::Full;
+        standing
+    }
+
+    /// Keeps the reason of the fault that the link reports next.
+    pub(crate) fn keep_reason(&mut self, reason: Notice)
+        ensures { self.new ≡ record self.old { reason = Some reason } }
+    {
+        self.reason = Some(reason);
+    }
+
+    /// The reason that was kept, if one was.
+    pub(crate) fn take_reason(&mut self) -> Option<Notice>
+        ensures waiting { self.new.waiting ≡ self.old.waiting }
+        ensures kept { result ≡ self.old.reason }
+    {
+        self.reason.take()
+    }
+}
