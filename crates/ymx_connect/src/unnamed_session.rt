@@ -78,6 +78,7 @@ impl UnnamedSession {
         alloc: Global,
     ) -> Result<HubWithSeats<J>, RefusedAllocation>
         requires { self ≡ record { role = J.role; config = J.config; table = J.table } }
+        ensures caller { IfOk result (λ made. IsNewcomer made.1.caller.number made.1.caller.seen) }
         ensures reader { IfOk result (λ made. IsNewcomer made.1.reader.number made.1.reader.seen) }
         ensures writer { IfOk result (λ made. IsNewcomer made.1.writer.number made.1.writer.seen) }
     {

@@ -142,6 +142,7 @@ fn run_named<
         writer,
         buffers,
         move || -> Worked<Witnessed<J>, T>
+            requires { IsNewcomer caller.number caller.seen }
             ensures { HasWorked J.role J.config (λ seen. K.Keeps work J.role J.config seen result.answer) result.drained result.sight }
         { work_at(rt, hub_lent, handle, caller.into_seat(alloc), work) },
     );
@@ -151,7 +152,8 @@ fn run_named<
     }
 }
 
-/// What a program does with a session at this seat. Then it waits until nothing is due, and closes the session.
+/// What a program does with a session at this seat, which has made no call. Then it waits until nothing is due, and closes the
+/// session.
 fn work_at<J: Naming, W: Wait, T: Drop, K: Work<W, T> + Drop>(
     rt: &W,
     hub: &Hub<Witnessed<J>>,
@@ -159,6 +161,7 @@ fn work_at<J: Naming, W: Wait, T: Drop, K: Work<W, T> + Drop>(
     seat: Seat<Witnessed<J>>,
     work: K,
 ) -> Worked<Witnessed<J>, T>
+    requires fresh { IsNewcomer seat.number seat.seen }
     ensures { HasWorked J.role J.config (λ seen. K.Keeps work J.role J.config seen result.answer) result.drained result.sight }
 {
     let mut session = Caller::new(handle, seat);

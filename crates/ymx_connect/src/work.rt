@@ -11,12 +11,15 @@ pub trait Work<W: Wait, T> {
     ghost use Rattle.ymx_model.specs.declared.types.Config.{Config};
     ghost use Rattle.ymx_model.specs.declared.types.Entry.{Entry};
     ghost use Rattle.std.specs.Prelude.{List, Option};
+    ghost use Rattle.ymx_seats.specs.Views.{IsNewcomer};
 
     /// What its answer promises, of a session of this role and config, and of its history as the caller has seen it behind the
     /// work. `connect` promises the same of the one history in which it closes the session.
     ghost Keeps: { Self → Role → Config → Option (List Entry) → T → Type 0 };
 
-    /// Works with this session. It can start no thread that works with it too: `connect_with` is for that.
+    /// Works with this session, in which its caller has made no call. It can start no thread that works with it too:
+    /// `connect_with` is for that.
     fn run<J: Naming>(self, rt: &W, session: &mut Caller<J>) -> T
+        requires fresh { IsNewcomer session.old.number session.old.seen }
         ensures { Keeps self J.role J.config session.new.seen result };
 }

@@ -89,6 +89,7 @@ impl<R: Recorder> Hub<R> {
         requires named { opened ≡ R.table }
         requires role { session.role ≡ R.role }
         requires config { config_of session ≡ R.config }
+        ensures caller { IfOk result (λ made. IsNewcomer made.1.caller.number made.1.caller.seen) }
         ensures reader { IfOk result (λ made. IsNewcomer made.1.reader.number made.1.reader.seen) }
         ensures writer { IfOk result (λ made. IsNewcomer made.1.writer.number made.1.writer.seen) }
     {
@@ -312,6 +313,7 @@ impl<R: Recorder> Hub<R> {
 /// The first seats of what is booked.
 fn first_seats<R: Recorder>(booked: &mut Booked<R>) -> FirstSeats<R>
     requires { (booked.old.given ≡ 0) × (booked.old.ended ≡ false) }
+    ensures caller { IsNewcomer result.caller.number result.caller.seen }
     ensures reader { IsNewcomer result.reader.number result.reader.seen }
     ensures writer { IsNewcomer result.writer.number result.writer.seen }
 {
