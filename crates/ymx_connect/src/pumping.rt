@@ -19,8 +19,9 @@ use ymx_memory::RefusedAllocation;
 use ymx_model::{Inlet, Outlet};
 use ymx_seats::Sight;
 
-/// Bytes that the read pump reads at once.
-const READ_BUFFER: usize = 262_144;
+/// Bytes that the read pump reads at once: 13 whole frames of the longest that are sent. With 16 a session would take more
+/// than 600,000 bytes.
+const READ_BUFFER: usize = 13 * (12 + 16_384);
 
 /// Bytes that the write pump writes at once: 16 whole frames of the longest that are sent.
 const WRITE_BUFFER: usize = 16 * (12 + 16_384);
