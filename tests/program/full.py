@@ -8,6 +8,7 @@ usage: full.py YMX
 """
 
 import collections
+import contextlib
 import itertools
 import resource
 import selectors
@@ -75,13 +76,19 @@ def service():
     return "{}:{}".format(*listener.getsockname())
 
 
+def hear(pipe):
+    """Reads all that a program says, so that it never waits. Its pipe may be closed meanwhile."""
+    with contextlib.suppress(OSError, ValueError):
+        pipe.read()
+
+
 def tunnel():
     """Where the users of a tunnel with one link connect to."""
     remote = Program("remote", "-v", "--bind", ANY, "--target", service())
     local = Program("local", "-v", "--listen", ANY, "--peer", remote.place())
     place = local.place()
     for program in remote, local:
-        threading.Thread(target=program.process.stderr.read, daemon=True).start()
+        threading.Thread(target=hear, args=(program.process.stderr,), daemon=True).start()
     return place
 
 
