@@ -1,9 +1,7 @@
 -- How what waits is fed, and passed on.
 use Rattle.std.proofs.Common.{◌≡◌, ℕ, ◌+◌, ◌-◌, ◌≤◌, List, [], ◌∷◌, ◌++◌, length, take, drop, Bool, true, false, ◌||◌, ◌&&◌, Option, refl, sym, ap, ◌∙◌, subst, arith, append-nil, append_assoc, take-append-drop, length-append, drop-drop, ◌<◌, inl, inr, min}
 use Rattle.std.specs.Prelude.{option_map, nat_lt}
-use Rattle.std.specs.List.{list_all}
 use Rattle.std.specs.Io.KnownBytes.{Appends}
-use Rattle.std.proofs.KnownBytes.{Appends-nil}
 use Rattle.std.proofs.lemmas.Grind.{common_steps}
 use Rattle.std.proofs.Math.Seq.{take-append_seam}
 use Rattle.std.proofs.lemmas.List.{length-take-le, length-drop, drop-append-le}
@@ -19,14 +17,14 @@ use Rattle.ymx_engine.specs.declared.ways.Ways.{Ways}
 use Rattle.ymx_engine.specs.declared.device.Pushed.TheVariants as pushed
 use Rattle.ymx_engine.specs.Devices.{Seen, Marks, may_take_more, IsPushed, IsShut}
 use Rattle.ymx_engine.specs.declared.device.Pushed.{Pushed}
-use Rattle.ymx_engine.specs.Events.{Happen, given, has_end, has_reset, has_stop}
+use Rattle.ymx_engine.specs.Events.{Happen, given}
 use Rattle.ymx_engine.specs.Engines.{Engine}
-use Rattle.ymx_engine.specs.Wires.{fed_at, fed, is_of_read, ends_feed, has_feed_end, FeedsFront, HandlesIn, OffersFront, ReadsWire, has_starved}
-use Rattle.ymx_engine.specs.Passes.{is_of_pass, PassesOn, OffersOnce, Settles}
-use Rattle.ymx_engine.proofs.Exchanging.{happen_then, given_then, end_then, reset_then, stop_then, or_same, or_none, or_true, same_id, none_pushed, some_bytes, take_both}
-use Rattle.ymx_engine.proofs.Following.{ways_then, ways_fed, ways_passed, ways_reset, breaks}
-use Rattle.ymx_engine.specs.Ways.{ways_after, break_if, may_push, is_open}
-use Rattle.ymx_engine.proofs.Quiet.{both, or_neither, quiet}
+use Rattle.ymx_engine.specs.Wires.{fed_at, fed, is_of_read, has_feed_end, FeedsFront, HandlesIn, OffersFront, ReadsWire, has_starved}
+use Rattle.ymx_engine.specs.Passes.{PassesOn, OffersOnce, Settles}
+use Rattle.ymx_engine.proofs.Exchanging.{happen_then, or_same, or_none, or_true, same_id, none_pushed, some_bytes, take_both}
+use Rattle.ymx_engine.proofs.Following.{ways_passed, ways_reset, breaks}
+use Rattle.ymx_engine.specs.Ways.{break_if, may_push, is_open}
+use Rattle.ymx_engine.proofs.Quiet.{both}
 use Rattle.ymx_machine.specs.declared.types.Fed.{Fed}
 use Rattle.ymx_machine.specs.declared.types.Reply.TheVariants as reply
 use Rattle.ymx_session.specs.Passing.{FeedsSome}
@@ -95,7 +93,7 @@ reads_then_handles a b c p q n x y = record {
   few = x.few;
 }
 
-fits : (s t : Session) (bytes : List ℕ) (told : Fed) → Gives in_turn s (event.Feed bytes) (reply.Fed told) t → told.taken ≤ length bytes
+pub fits : (s t : Session) (bytes : List ℕ) (told : Fed) → Gives in_turn s (event.Feed bytes) (reply.Fed told) t → told.taken ≤ length bytes
 fits s t bytes told g = let i : (g.0).taken ≤ length bytes = (g.2).fits in let same : told ≡ g.0 = cc in subst (λ (f : Fed). f.taken ≤ length bytes) (sym same) i
 
 pub takes_within : (s t : Session) (waits : List ℕ) (told : Fed) → FeedsSome s waits told t → told.taken ≤ length waits
@@ -104,7 +102,7 @@ takes_within s t waits told x =
     let j : length (take x.count waits) ≡ x.count = length-take-le x.count waits x.within in
     let k = x.within in omega arith
 
-takes_same : (s t : Session) (waits : List ℕ) (told : Fed) → (x : FeedsSome s waits told t) → take told.taken (take x.count waits) ≡ take told.taken waits
+pub takes_same : (s t : Session) (waits : List ℕ) (told : Fed) → (x : FeedsSome s waits told t) → take told.taken (take x.count waits) ≡ take told.taken waits
 takes_same s t waits told x =
     let i = fits s t (take x.count waits) told x.feeds in
     let j : length (take x.count waits) ≡ x.count = length-take-le x.count waits x.within in

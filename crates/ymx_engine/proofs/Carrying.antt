@@ -12,6 +12,7 @@ use Rattle.ymx_machine.specs.declared.types.Fed.{Fed}
 use Rattle.ymx_model.specs.session.Sessions.{Session}
 use Rattle.ymx_model.specs.session.Emissions.{in_turn}
 use Rattle.ymx_model.specs.session.Histories.{Gives}
+use Rattle.ymx_engine.specs.Exchanges.{has_bytes}
 use Rattle.ymx_engine.specs.declared.device.Pulled.{Pulled}
 use Rattle.ymx_engine.specs.declared.device.Pushed.{Pushed}
 use Rattle.std.specs.Prelude.{option_map}
@@ -193,6 +194,9 @@ loses_in_so a b s same h incoming outgoing = (loses_in a b s same h incoming out
 
 pub loses_out : (a b : Engine) (s : Session) → s ≡ a.session → Gives in_turn s event.FeedEnd reply.Done b.session → b.incoming ≡ a.incoming → b.outgoing ≡ a.outgoing → HandlesOut true a b
 loses_out a b s same h incoming outgoing = let g = gives_from event.FeedEnd reply.Done s b.session a.session same h in record { events = (event.FeedEnd, reply.Done) ∷ []; happen = (b.session, g, refl); own = refl; to_wire = append-nil a.outgoing ∙ sym outgoing; incoming = incoming; heard = refl }
+
+pub not_empty : (xs ys : List ℕ) → xs ≡ [] → xs ≡ ys → has_bytes ys ≡ true → ⊥
+not_empty xs ys e s h = let no : false ≡ true = sym (ap has_bytes (sym s ∙ e)) ∙ h in cc
 
 pub empty_of : (xs ys : List ℕ) (b : Bool) → b ≡ (length xs == 0) → xs ≡ ys → b ≡ true → ys ≡ []
 empty_of [] ys b e s t = sym s

@@ -26,7 +26,7 @@ use Rattle.ymx_session.specs.declared.passing.Passing.{Passing}
 use Rattle.ymx_session.specs.Passing.{passing, kept_payload, if_read_up, FeedsSome}
 use Rattle.ymx_engine.specs.Engines.{Engine, IsFedOrStuck}
 use Rattle.ymx_engine.specs.Wires.{fed, HandlesIn}
-use Rattle.ymx_engine.proofs.Advancing.{takes_within}
+use Rattle.ymx_engine.proofs.Advancing.{fits, takes_within}
 use Rattle.ymx_engine.proofs.Exchanging.{take_both}
 
 free_at : (status : Status) (incoming : Incoming) (entries : List (ℕ × End)) (answers : ℕ) → IsSome (if is_running status then if_read_up entries (kept_payload incoming) else None) →
@@ -62,6 +62,12 @@ starts s t input told g free some e =
     cc
 
 -- of the first bytes, so many at most
+pub feeds_few : (s t : Session) (n m : ℕ) (xs ys : List ℕ) (told : Fed) → xs ≡ ys → m ≡ min n (length xs) → Gives in_turn s (event.Feed (take m xs)) (reply.Fed told) t → told.taken ≤ n
+feeds_few s t n m xs ys told e least g =
+    let all : length (take m xs) ≡ m = length-take-le m xs (omega arith) in
+    let few = fits s t (take m xs) told g in
+    omega arith
+
 pub some_first : (s t : Session) (n m : ℕ) (xs ys : List ℕ) (told : Fed) → xs ≡ ys → m ≡ min n (length xs) → Gives in_turn s (event.Feed (take m xs)) (reply.Fed told) t →
     is_stuck s ≡ false → 0 < n → 0 < length ys → 0 < told.taken
 some_first s t n m xs ys told e least g free more waits =
@@ -71,27 +77,24 @@ some_first s t n m xs ys told e least g free more waits =
     omega arith
 
 -- up to a payload of the first bytes, so many at most
-front_len : (m : ℕ) (xs : List ℕ) → m ≤ length xs → length (take m xs) ≡ m
-front_len m xs h = length-take-le m xs h
-
 pub feeds_front : (s t : Session) (n m : ℕ) (xs ys : List ℕ) (told : Fed) → xs ≡ ys → m ≡ min n (length xs) → FeedsSome s (take m xs) told t → FeedsSome s ys told t
 feeds_front s t n m xs ys told e least x =
     let same : length xs ≡ length ys = ap length e in
-    let all : length (take m xs) ≡ m = front_len m xs (omega arith) in
+    let all : length (take m xs) ≡ m = length-take-le m xs (omega arith) in
     let i = x.within in
     let front : take x.count (take m xs) ≡ take x.count ys = take_both x.count m xs (omega arith) ∙ ap (take x.count) e in
     record { count = x.count; within = omega arith; feeds = subst (λ (v : List ℕ). Gives in_turn s (event.Feed v) (reply.Fed told) t) front x.feeds }
 
 pub front_takes : (s t : Session) (n m : ℕ) (xs : List ℕ) (told : Fed) → m ≡ min n (length xs) → FeedsSome s (take m xs) told t → (told.taken ≤ n) × (told.taken ≤ length xs)
 front_takes s t n m xs told least x =
-    let all : length (take m xs) ≡ m = front_len m xs (omega arith) in
+    let all : length (take m xs) ≡ m = length-take-le m xs (omega arith) in
     let few = takes_within s t (take m xs) told x in (omega arith, omega arith)
 
 -- where fewer were taken than might be, fewer than were offered
 pub front_stops : (n m taken : ℕ) (xs ys : List ℕ) → xs ≡ ys → m ≡ min n (length xs) → taken < n → taken < length ys → taken < length (take m xs)
 front_stops n m taken xs ys e least fewer less =
     let same : length xs ≡ length ys = ap length e in
-    let all : length (take m xs) ≡ m = front_len m xs (omega arith) in
+    let all : length (take m xs) ≡ m = length-take-le m xs (omega arith) in
     omega arith
 
 pub stops_first : (s t : Session) (n m : ℕ) (xs ys : List ℕ) (told : Fed) → xs ≡ ys → m ≡ min n (length xs) → Gives in_turn s (event.Feed (take m xs)) (reply.Fed told) t →

@@ -13,6 +13,7 @@ pub mod Gaining
 pub mod Hearing
 pub mod Asking
 pub mod Steady
+pub mod Stopping
 pub mod Entries
 pub mod Once
 pub mod Marking

@@ -1,5 +1,5 @@
 -- That each connection stands in the queues once at most, so that no more wait for a turn than there are.
-use Rattle.std.proofs.Common.{◌≡◌, ◌⊎◌, inl, inr, ℕ, zero, suc, ◌+◌, ◌<◌, ◌≤◌, List, [], ◌∷◌, ◌++◌, length, Bool, true, false, Option, None, Some, refl, sym, ap, ◌∙◌, subst, cond, arith, length-append}
+use Rattle.std.proofs.Common.{◌≡◌, ℕ, zero, suc, ◌+◌, ◌<◌, ◌≤◌, List, [], ◌∷◌, ◌++◌, length, Bool, true, false, Option, None, Some, refl, sym, ap, ◌∙◌, cond, arith, length-append}
 use Rattle.std.specs.Prelude.{nat_eq, not, Contains, slice_get, if◌then◌else◌, option_map}
 use Rattle.std.specs.List.{filter}
 use Rattle.std.specs.Map.{lookup}

@@ -27,7 +27,6 @@ use Rattle.ymx_engine.specs.declared.ways.Flow.{Flow}
 use Rattle.ymx_engine.specs.declared.ways.Flow.TheVariants as flow
 use Rattle.ymx_engine.specs.Devices.{Seen, Marks, may_have_more, may_take_more, after_pull, after_push, IsPulled, IsPushed, IsEnded, IsShut}
 use Rattle.ymx_engine.specs.Events.{is_on, took_count, taken_at, taken, bytes_of, given_at, given, is_read_end, ends_at, has_end, finishes_at, has_finish, resets_at, has_reset, is_refusal, is_stop, stops_at, has_stop, is_memory_refusal, lacks_memory_at, lacks_memory}
-use Rattle.ymx_engine.specs.Exchanges.{has_bytes}
 use Rattle.ymx_engine.specs.Lives.{all_of}
 use Rattle.ymx_engine.specs.Serves.{is_of_turn, is_emission, is_silent, is_stopped, Exchanges, GivesWhole, Turn, Part, Delivers, Sends, PutsDue}
 use Rattle.ymx_engine.specs.Ways.{is_open, break_if, broken_off, ways_at, ways_after, may_push, may_pull}

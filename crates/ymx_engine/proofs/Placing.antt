@@ -2,22 +2,26 @@
 use Rattle.std.proofs.Common.{◌≡◌, ◌⊎◌, inl, inr, ℕ, ◌==◌, ◌&&◌, not, if◌then◌else◌, List, [], ◌∷◌, length, Bool, true, false, Option, None, Some, refl, sym, ap, ◌∙◌, subst, arith}
 use Rattle.std.specs.Prelude.{nat_lt, IsSome, is_some}
 use Rattle.std.proofs.lemmas.Bool.Decides.{nat_tests}
+use Rattle.std.specs.Option.{option_map_or}
+use Rattle.ymx_machine.proofs.Tests.{both_of}
 use Rattle.ymx_model.specs.session.Feeds.{is_stuck}
 use Rattle.ymx_model.specs.session.Sessions.{Session}
+use Rattle.ymx_session.specs.Opens.{records_left}
 use Rattle.ymx_session.specs.Passing.{passing}
+use Rattle.ymx_session.specs.Streams.{header_begun}
 use Rattle.ymx_engine.specs.Engines.{Engine, IsFedOrStuck}
-use Rattle.ymx_engine.specs.Places.{is_put_off, lacks_place}
+use Rattle.ymx_engine.specs.Exchanges.{has_bytes}
+use Rattle.ymx_engine.specs.Places.{is_put_off, lacks_place, may_open}
 use Rattle.ymx_engine.specs.Steps.{Keeps}
 use Rattle.ymx_engine.specs.Tunnels.{Tunnel}
 use Rattle.ymx_engine.specs.Turns.{Lines, KeepsLines, turns_left}
-use Rattle.ymx_engine.proofs.Attending.{keeps_none}
 use Rattle.ymx_engine.proofs.Carrying.{handles_none_so, memory_same}
 use Rattle.ymx_engine.proofs.Queueing.{keeps_counted}
 use Rattle.ymx_engine.proofs.Readings.{same_seen}
 use Rattle.ymx_engine.proofs.Running.{moves_handled}
 use Rattle.ymx_engine.proofs.Tending.{serving_lines}
 use Rattle.ymx_engine.proofs.Turning.{turns_kept}
-use Rattle.ymx_engine.specs.Wires.{HandlesIn, has_starved}
+use Rattle.ymx_engine.specs.Wires.{has_starved}
 
 -- only the turns are counted for which it waits
 keeps_turns : (a : Tunnel) (turns : Option ℕ) → Keeps a (record a { lines = record a.lines { turns_to_place = turns } })
@@ -42,7 +46,25 @@ put_off_same lacks a l e same = ap (λ (x : Lines). is_put_off (record a { lines
 pub put_off_from : (a b : Tunnel) → a ≡ b → (lacks : Bool) (l : Lines) → lacks ≡ lacks_place b.engine → l ≡ record a.lines { turns_to_place = if lacks then Some (turns_left a.lines) else None } → is_put_off (record a { lines = l }) ≡ is_put_off b
 put_off_from a b e lacks l x y = put_off_same lacks a l (x ∙ ap (λ (t : Tunnel). lacks_place t.engine) (sym e)) y ∙ ap is_put_off e
 
+-- a frame that waits is not looked past
+pub never_off : (a b : Tunnel) (off : Bool) → b ≡ a → is_put_off a ≡ true → off ≡ is_put_off b → off ≡ false → ⊥
+never_off a b off same h e not_off = let both : true ≡ false = sym (ap is_put_off same ∙ h) ∙ sym e ∙ not_off in absurd cc
+
 -- ---- what is fed
+
+some_byte : (waits : List ℕ) → may_open waits ≡ true → has_bytes waits ≡ true
+some_byte [] h = grind (arith, nat_tests, h)
+some_byte (x ∷ xs) h = refl
+
+last_of : (a b c : Bool) → (a && b && c) ≡ true → c ≡ true
+last_of true true true h = refl
+last_of true true false h = h
+last_of true false c h = let no : false ≡ true = h in absurd cc
+last_of false b c h = let no : false ≡ true = h in absurd cc
+
+-- of a frame that waits a byte is there
+pub put_off_some : (t : Tunnel) → is_put_off t ≡ true → has_bytes t.engine.incoming ≡ true
+put_off_some t h = some_byte t.engine.incoming (last_of (records_left t.engine.session == 0) (option_map_or (λ (n : ℕ). n == 0) (header_begun t.engine.session.incoming) false) (may_open t.engine.incoming) (both_of (lacks_place t.engine) (nat_lt 0 (turns_left t.lines)) h).0)
 
 nothing : (xs : List ℕ) → (length xs == 0) ≡ true → xs ≡ []
 nothing [] h = refl

@@ -1,11 +1,12 @@
 -- Whose turn it is, and that each that waits comes nearer to its own.
-use Rattle.std.proofs.Common.{◌≡◌, ◌⊎◌, inl, inr, ℕ, zero, suc, ◌+◌, ◌-◌, ◌*◌, ◌<◌, ◌≤◌, ◌==◌, List, [], ◌∷◌, ◌++◌, length, Bool, true, false, ◌&&◌, ◌||◌, not, Some, min, refl, sym, ap, ◌∙◌, subst, arith}
+use Rattle.std.proofs.Common.{◌≡◌, ◌⊎◌, inl, inr, ℕ, zero, suc, ◌+◌, ◌-◌, ◌*◌, ◌<◌, ◌≤◌, ◌==◌, List, [], ◌∷◌, ◌++◌, length, Bool, true, false, ◌&&◌, ◌||◌, not, Option, None, Some, min, refl, sym, ap, ◌∙◌, subst, arith}
 use Rattle.std.specs.Prelude.{nat_eq, slice_get, Contains, if◌then◌else◌, option_map}
+use Rattle.std.specs.Bool.{then_some}
 use Rattle.std.specs.Option.{option_map_or}
 use Rattle.std.proofs.lemmas.Grind.{common_steps}
 use Rattle.std.proofs.lemmas.Option.{slice_get_within}
 use Rattle.std.proofs.lemmas.Bool.Decides.{nat_tests}
-use Rattle.ymx_engine.specs.Turns.{Lines, Waits, IsIdle, IsBehind, HasTurnSoon, IsFirst, TakesTurn, takes_busy, turns_of_all, turns_left, Extends, LeavesQueues}
+use Rattle.ymx_engine.specs.Turns.{Lines, Waits, IsIdle, IsBehind, IsDue, HasTurnSoon, IsFirst, TakesTurn, takes_busy, turns_of_all, turns_left, Extends, LeavesQueues}
 use Rattle.ymx_engine.proofs.Entries.{some_is, no_some}
 use Rattle.ymx_engine.proofs.Marking.{Taken}
 use Rattle.ymx_engine.proofs.Once.{stands_at, without_place, without_stands}
@@ -51,6 +52,38 @@ fresh_taken flag f g rest id other n turn first (zero, inl (at, is)) = inl (sym 
 fresh_taken flag f g rest id other n turn first (suc place, inl (at, is)) =
     inr (2 * place + 1, omega (arith, is), (place, inl (ap (λ (v : List ℕ). slice_get v (suc place)) (sym first) ∙ at, refl)))
 
+at_most_one : (b : Bool) → ((if b then 1 else 0) < 2) × ((if b then 0 else 1) < 2)
+at_most_one true = (omega arith, omega arith)
+at_most_one false = (omega arith, omega arith)
+
+-- it has its turn within so many turns as there stand in both queues, each counted twice
+pub behind_few : (id n : ℕ) (t : Lines) → IsBehind id n t → n < 2 * (length t.fresh + length t.busy)
+behind_few id n t (place, inl (at, is)) =
+    let within : place < length t.fresh = slice_get_within t.fresh place id at in omega (arith, within, is, (at_most_one t.is_for_busy).0)
+behind_few id n t (place, inr (at, is)) =
+    let within : place < length t.busy = slice_get_within t.busy place id at in omega (arith, within, is, (at_most_one t.is_for_busy).1)
+
+-- whoever waits has its turn behind so many others
+waits_behind : (id : ℕ) (t : Lines) → Waits id t → (n : ℕ) × IsBehind id n t
+waits_behind id t (inl h) = let at = stands_at t.fresh id h in (2 * at.0 + (if t.is_for_busy then 1 else 0), (at.0, inl (at.1, refl)))
+waits_behind id t (inr h) = let at = stands_at t.busy id h in (2 * at.0 + (if t.is_for_busy then 0 else 1), (at.0, inr (at.1, refl)))
+
+-- fewer turns come before it
+fewer_left : (n m all : ℕ) (turns : Option ℕ) → n < min all (option_map_or (λ k. k) turns all) → m < n → (rest : ℕ) → m < rest → m < min rest (option_map_or (λ k. k) (option_map (λ k. k - 1) turns) rest)
+fewer_left n m all None few less rest within = omega arith
+fewer_left n m all (Some k) few less rest within = omega arith
+
+due_on : (id : ℕ) (old new : Lines) → new.turns_to_place ≡ option_map (λ n. n - 1) old.turns_to_place → ((other n : ℕ) → IsBehind other n old → (other ≡ id) ⊎ ((m : ℕ) × (m < n) × IsBehind other m new)) →
+    (other : ℕ) → IsDue other old → (other ≡ id) ⊎ IsDue other new
+due_on id old new counted comes other (n, far, few) = by (comes other n far)
+  where
+    by : ((other ≡ id) ⊎ ((m : ℕ) × (m < n) × IsBehind other m new)) → (other ≡ id) ⊎ IsDue other new
+    by (inl same) = inl same
+    by (inr (m, less, nearer)) =
+        let within = behind_few other m new nearer in
+        let few_left = fewer_left n m (turns_of_all old) old.turns_to_place few less (turns_of_all new) within in
+        inr (m, nearer, subst (λ (k : Option ℕ). m < min (turns_of_all new) (option_map_or (λ j. j) k (turns_of_all new))) (sym counted) few_left)
+
 -- the queue whose turn it is was said, and its first was taken
 pub takes_turn : (id : ℕ) (old new : Lines) → (takes_busy old ≡ true → (old.busy ≡ id ∷ new.busy) × (new.fresh ≡ old.fresh) × (new.is_for_busy ≡ false)) →
     (takes_busy old ≡ false → (old.fresh ≡ id ∷ new.fresh) × (new.busy ≡ old.busy) × (new.is_for_busy ≡ true)) → new.turns_to_place ≡ option_map (λ n. n - 1) old.turns_to_place → TakesTurn id old new
@@ -59,19 +92,23 @@ takes_turn id old new busy fresh counted = by (takes_busy old) refl
     by : (b : Bool) → takes_busy old ≡ b → TakesTurn id old new
     by true t =
         let took = busy t in
+        let comes : (other n : ℕ) → IsBehind other n old → (other ≡ id) ⊎ ((m : ℕ) × (m < n) × IsBehind other m new) = λ other n far. subst (λ (b : Bool). Sooner b new.fresh new.busy id other n) (sym took.2) (subst (λ (v : List ℕ). Sooner false v new.busy id other n) (sym took.1)
+        (busy_taken old.is_for_busy old.fresh old.busy new.busy id other n t took.0 far)) in
         record {
           first = subst (λ (b : Bool). IsFirst b id old new) (sym t) (took.0, took.1);
-          comes = λ other n far. subst (λ (b : Bool). Sooner b new.fresh new.busy id other n) (sym took.2) (subst (λ (v : List ℕ). Sooner false v new.busy id other n) (sym took.1)
-              (busy_taken old.is_for_busy old.fresh old.busy new.busy id other n t took.0 far));
+          comes = comes;
           counted = counted;
+          due = due_on id old new counted comes;
         }
     by false t =
         let took = fresh t in
+        let comes : (other n : ℕ) → IsBehind other n old → (other ≡ id) ⊎ ((m : ℕ) × (m < n) × IsBehind other m new) = λ other n far. subst (λ (b : Bool). Sooner b new.fresh new.busy id other n) (sym took.2) (subst (λ (v : List ℕ). Sooner true new.fresh v id other n) (sym took.1)
+        (fresh_taken old.is_for_busy old.fresh old.busy new.fresh id other n t took.0 far)) in
         record {
           first = subst (λ (b : Bool). IsFirst b id old new) (sym t) (took.0, took.1);
-          comes = λ other n far. subst (λ (b : Bool). Sooner b new.fresh new.busy id other n) (sym took.2) (subst (λ (v : List ℕ). Sooner true new.fresh v id other n) (sym took.1)
-              (fresh_taken old.is_for_busy old.fresh old.busy new.fresh id other n t took.0 far));
+          comes = comes;
           counted = counted;
+          due = due_on id old new counted comes;
         }
 
 -- a frame that waits for a place waits as before where the turns are counted that it waits for
@@ -80,6 +117,31 @@ capped q n = grind (arith, common_steps)
 
 pub turns_kept : (a : Lines) → turns_left (record a { turns_to_place = Some (turns_left a) }) ≡ turns_left a
 turns_kept a = capped (turns_of_all a) (option_map_or (λ n. n) a.turns_to_place (turns_of_all a))
+
+-- and who waits as a frame comes to wait has its turn before that, as has who was to have it before
+capped_below : (n q m : ℕ) → n < min q m → n < min q (min q m)
+capped_below n q m h = omega arith
+
+due_at : (lacks : Bool) (a : Lines) (id : ℕ) → IsDue id a → IsDue id (record a { turns_to_place = if lacks then Some (turns_left a) else None })
+due_at true a id (n, far, few) = (n, far, capped_below n (turns_of_all a) (option_map_or (λ k. k) a.turns_to_place (turns_of_all a)) few)
+due_at false a id (n, far, few) = (n, far, omega (arith, few))
+
+pub due_kept : (lacks : Bool) (a b : Lines) → b ≡ record a { turns_to_place = if lacks then Some (turns_left a) else None } → (id : ℕ) → IsDue id a → IsDue id b
+due_kept lacks a b e id due = subst (IsDue id) (sym e) (due_at lacks a id due)
+
+-- with none counted each that waits is due
+due_first : (a : Lines) → a.turns_to_place ≡ None → (id : ℕ) → Waits id a → IsDue id a
+due_first a none id waits =
+    let far = waits_behind id a waits in
+    let few = behind_few id far.0 a far.1 in
+    (far.0, far.1, subst (λ (k : Option ℕ). far.0 < min (turns_of_all a) (option_map_or (λ j. j) k (turns_of_all a))) (sym none) (omega (arith, few)))
+
+due_begun : (lacks : Bool) (a b : Lines) → b ≡ record a { turns_to_place = if lacks then Some (turns_left a) else None } → a.turns_to_place ≡ None → (id : ℕ) → Waits id a → IsDue id b
+due_begun lacks a b e none id waits = due_kept lacks a b e id (due_first a none id waits)
+
+pub due_counted : (lacks : Bool) (left : ℕ) (turns : Option ℕ) (a b : Lines) → left ≡ turns_left a → turns ≡ then_some lacks left → b ≡ record a { turns_to_place = turns } → a.turns_to_place ≡ None → (id : ℕ) → Waits id a → IsDue id b
+due_counted true left turns a b l t e none id waits = due_begun true a b (e ∙ ap (λ (k : Option ℕ). record a { turns_to_place = k }) (t ∙ ap Some l)) none id waits
+due_counted false left turns a b l t e none id waits = due_begun false a b (e ∙ ap (λ (k : Option ℕ). record a { turns_to_place = k }) t) none id waits
 
 pub turn_from : (id : ℕ) (a b c : Lines) → a ≡ b → TakesTurn id a c → TakesTurn id b c
 turn_from id a b c e x = subst (λ (t : Lines). TakesTurn id t c) e x
@@ -108,10 +170,6 @@ extends_behind id n a b x far =
     at place (inl (there, is)) = (place, inl (slice_get_on a.fresh x.more_fresh place id there, is))
     at place (inr (there, is)) = (place, inr (slice_get_on a.busy x.more_busy place id there, is))
 
-at_most_one : (b : Bool) → ((if b then 1 else 0) < 2) × ((if b then 0 else 1) < 2)
-at_most_one true = (omega arith, omega arith)
-at_most_one false = (omega arith, omega arith)
-
 -- where another left, one stands no further behind
 pub left_behind : (id other n : ℕ) (a b : Lines) → nat_eq id other ≡ false → LeavesQueues id a b → IsBehind other n a → (m : ℕ) × (m + 0 ≤ n) × IsBehind other m b
 left_behind id other n a b ne x (place, inl (at, is)) =
@@ -137,17 +195,9 @@ pub none_behind : {A : Type 0} (id n : ℕ) (t : Lines) → IsIdle t → IsBehin
 none_behind id n t idle (place, inl (at, is)) = no_some (sym (ap (λ (v : List ℕ). slice_get v place) (sym idle.0) ∙ at))
 none_behind id n t idle (place, inr (at, is)) = no_some (sym (ap (λ (v : List ℕ). slice_get v place) (sym idle.1) ∙ at))
 
--- it has its turn within so many turns as there stand in both queues, each counted twice
-pub behind_few : (id n : ℕ) (t : Lines) → IsBehind id n t → n < 2 * (length t.fresh + length t.busy)
-behind_few id n t (place, inl (at, is)) =
-    let within : place < length t.fresh = slice_get_within t.fresh place id at in omega (arith, within, is, (at_most_one t.is_for_busy).0)
-behind_few id n t (place, inr (at, is)) =
-    let within : place < length t.busy = slice_get_within t.busy place id at in omega (arith, within, is, (at_most_one t.is_for_busy).1)
-
 -- no more wait than there are
 soon_at : (id n : ℕ) (t : Lines) → length t.fresh + length t.busy ≤ length t.by_id → IsBehind id n t → HasTurnSoon id t
 soon_at id n t few far = let most = behind_few id n t far in (n, far, omega (arith, most, few))
 
 pub waits_soon : (id : ℕ) (t : Lines) → length t.fresh + length t.busy ≤ length t.by_id → Waits id t → HasTurnSoon id t
-waits_soon id t few (inl h) = let at = stands_at t.fresh id h in soon_at id (2 * at.0 + (if t.is_for_busy then 1 else 0)) t few (at.0, inl (at.1, refl))
-waits_soon id t few (inr h) = let at = stands_at t.busy id h in soon_at id (2 * at.0 + (if t.is_for_busy then 0 else 1)) t few (at.0, inr (at.1, refl))
+waits_soon id t few waits = let far = waits_behind id t waits in soon_at id far.0 t few far.1

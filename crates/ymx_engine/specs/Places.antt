@@ -1,11 +1,13 @@
 -- When a frame of the wire waits for a place, which a connection may make in its turn (flags, this project's own limits).
-use Rattle.std.specs.Prelude.{ℕ, ◌≡◌, ◌⊎◌, ◌+◌, ◌-◌, ◌*◌, ◌==◌, ◌&&◌, ◌||◌, if◌then◌else◌, nat_lt, List, length, take, max, Bool, true, false}
+use Rattle.std.specs.Prelude.{ℕ, ◌≡◌, ◌⊎◌, ◌+◌, ◌-◌, ◌*◌, ◌==◌, ◌∷◌, ◌&&◌, if◌then◌else◌, nat_lt, List, [], length, take, drop, max, Bool, true, false}
 use Rattle.std.specs.Option.{option_map_or}
 use Rattle.ymx_header.specs.declared.header.Header.{Header}
 use Rattle.ymx_header.specs.Headers.{header_of, has_syn}
-use Rattle.ymx_model.specs.session.Sessions.{Session}
+use Rattle.ymx_model.specs.session.Feeds.{byte_comes, is_between}
+use Rattle.ymx_model.specs.session.Sessions.{Session, Incoming, is_running}
+use Rattle.ymx_model.specs.session.Sessions.Incoming.{Head, Payload}
 use Rattle.ymx_session.specs.Opens.{records_left}
-use Rattle.ymx_session.specs.Streams.{header_begun, payload_left}
+use Rattle.ymx_session.specs.Streams.{header_begun}
 use Rattle.ymx_engine.specs.Engines.{Engine, IsFedOrStuck}
 use Rattle.ymx_engine.specs.Exchanges.{has_bytes}
 use Rattle.ymx_engine.specs.Tunnels.{Tunnel}
@@ -31,11 +33,27 @@ is_put_off t = lacks_place t.engine && nat_lt 0 (turns_left t.lines)
 abbrev pub IsFedOrWaits : Tunnel → Type 0
 IsFedOrWaits t = IsFedOrStuck t.engine ⊎ (is_put_off t ≡ true)
 
--- how many bytes have come of a header that isn't whole
-abbrev pub begun : Session → ℕ
-begun s = option_map_or (λ n. n) (header_begun s.incoming) 0
+-- How many bytes are fed at once. Within a header: what lacks of it, and a header for each place but the first. Within a payload: the
+-- rest of it, and a header for each place. At least one.
+abbrev pub limit_at : Incoming → (places : ℕ) → ℕ
+limit_at (Head begun) places = 12 * max 1 places - length begun
+limit_at (Payload id missing fin stray) places = missing + 12 * places
 
--- How many bytes are fed at once: the rest of the payload that is under way, and as many headers as there are places; or, where none
--- is under way, one header at least, less what has come of the first. So nothing follows the header that takes the last place.
 abbrev pub feed_limit : Session → ℕ
-feed_limit s = if payload_left s.incoming == 0 then 12 * max 1 (records_left s) - begun s else payload_left s.incoming + 12 * records_left s
+feed_limit s = max 1 (limit_at s.incoming (records_left s))
+
+-- between two frames of a session that runs, and there is no place for one more stream
+abbrev pub is_full_between : Session → Bool
+is_full_between s = is_running s.status && is_between s.incoming && (records_left s == 0)
+
+-- All these bytes come, one behind the other. One behind which the session is full between two frames is the last of them.
+abbrev pub StopsWhereFull : List ℕ → Session → Session → Type 0
+StopsWhereFull [] s t = t ≡ s
+StopsWhereFull (b ∷ bs) s t = (no_memory : Bool) × (is_full_between (byte_comes no_memory b s) ≡ true → bs ≡ []) × StopsWhereFull bs (byte_comes no_memory b s) t
+
+-- Of what waited a beginning came, and where the session was full behind a frame, it was the last. So whether the next one waits for a
+-- place is asked before it comes.
+pub record FeedsToFull (old new : Engine) : Type 0 where
+  pub count : ℕ
+  pub came : StopsWhereFull (take count old.incoming) old.session new.session
+  pub rest : new.incoming ≡ drop count old.incoming

@@ -85,25 +85,26 @@ abbrev pub IsFirst : (busy : Bool) → (id : ℕ) → (old new : Lines) → Type
 IsFirst true id old new = (old.busy ≡ id ∷ new.busy) × (new.fresh ≡ old.fresh)
 IsFirst false id old new = (old.fresh ≡ id ∷ new.fresh) × (new.busy ≡ old.busy)
 
--- how many connections wait for a turn, as far as 64 bits count
-abbrev pub queued_count : Lines → ℕ
-queued_count t = min (length t.fresh + length t.busy) 18446744073709551615
-
 -- within so many turns each that waits has had its own, as the two queues take turns
 abbrev pub turns_of_all : Lines → ℕ
-turns_of_all t = min (2 * queued_count t) 18446744073709551615
+turns_of_all t = 2 * (length t.fresh + length t.busy)
 
 -- For how many turns a frame that lacks a place still waits: until each connection that waited for a turn as the frame came to wait has
 -- had it, and for none where no connection waits.
 abbrev pub turns_left : Lines → ℕ
 turns_left t = min (turns_of_all t) (option_map_or (λ n. n) t.turns_to_place (turns_of_all t))
 
+-- It waits, and has its turn before the frame comes that lacks a place.
+abbrev pub IsDue : ℕ → Lines → Type 0
+IsDue id t = (n : ℕ) × IsBehind id n t × (n < turns_left t)
+
 -- This one had its turn, as the first of the queue whose turn it was. Each other that waited has fewer before it now. A frame that
--- lacks a place waits for one turn less.
+-- lacks a place waits for one turn less, and still for each that is due before it.
 pub record TakesTurn (id : ℕ) (old new : Lines) : Type 0 where
   pub first : IsFirst (takes_busy old) id old new
   pub comes : (other n : ℕ) → IsBehind other n old → (other ≡ id) ⊎ ((m : ℕ) × (m < n) × IsBehind other m new)
   pub counted : new.turns_to_place ≡ option_map (λ n. n - 1) old.turns_to_place
+  pub due : (other : ℕ) → IsDue other old → (other ≡ id) ⊎ IsDue other new
 
 -- ---- what changes
 

@@ -125,6 +125,7 @@ impl Block {
         touched: &mut Touched,
     ) -> Fed
         ensures fed { FeedsSome session.old self.old result session.new }
+        ensures few { result.taken ≤ count }
         ensures rest { self.new ≡ drop result.taken self.old }
         ensures some { is_stuck session.old ≡ false → 0 < count → 0 < length self.old → 0 < result.taken }
         ensures stops { result.taken < count → result.taken < length self.old → is_stuck session.new ≡ true }

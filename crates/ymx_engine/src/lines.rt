@@ -7,7 +7,7 @@ ghost use Rattle.std.specs.VecDeque.{deque_len, deque_capacity};
 ghost use Rattle.ymx_session.specs.Touched.{is_noted, nothing_noted};
 ghost use Rattle.ymx_engine.specs.Entries.{Rewrites};
 ghost use Rattle.ymx_engine.specs.Ways.{is_over, new_ways};
-ghost use Rattle.ymx_engine.specs.Turns.{Line as LineValue, line_of, look, ways_of, held_mark, queue_mark, is_idle, Puts, SameLines, SameQueues, KeepsLines, Adds, Notes, Waits, Awaits, Attended, IsIdle, StaysOrAdds, WaitsAlone, AddsTurn, TakesTurn, Extends, StaysMissed, LeavesQueues, StandsBehind, turns_left, without};
+ghost use Rattle.ymx_engine.specs.Turns.{Line as LineValue, line_of, look, ways_of, held_mark, queue_mark, is_idle, Puts, SameLines, SameQueues, KeepsLines, Adds, Notes, Waits, Awaits, Attended, IsIdle, StaysOrAdds, WaitsAlone, AddsTurn, TakesTurn, Extends, StaysMissed, LeavesQueues, StandsBehind, IsDue, turns_left, without};
 
 use crate::device::{Device, Readiness};
 use crate::ways::Ways;
@@ -63,7 +63,7 @@ pub(crate) struct Lines<D: Device + Drop> {
     /// is taken before it is added, so this never is.
     missed: Option<RefusedAllocation>,
     /// For how many turns at most the next frame of the wire waits, where it lacks a place.
-    turns_to_place: Option<usize>,
+    turns_to_place: Option<u128>,
 }
 
 impl<D: Device + Drop> Model for Lines<D> {
@@ -232,10 +232,11 @@ impl<D: Device + Drop> Lines<D> {
 
     /// For how many turns a frame that lacks a place still waits: until each connection that waited for a turn as the frame came to
     /// wait has had it, and for none where no connection waits.
-    fn turns_left(&self) -> usize
+    fn turns_left(&self) -> u128
         ensures { result ≡ turns_left self.now }
     {
-        let of_all = self.queued_count().saturating_mul(2);
+        // the two queues take turns; twice the sum of two lengths fits so
+        let of_all = (self.fresh.len() as u128 + self.busy.len() as u128) * 2;
         match self.turns_to_place {
             Some(turns) => of_all.min(turns),
             None => of_all,
@@ -247,9 +248,12 @@ impl<D: Device + Drop> Lines<D> {
         ensures waits { result ≡ (lacks_place && nat_lt 0 (turns_left self.old)) }
         // So many turns it waits, at most.
         ensures counts { self.new ≡ record self.old { turns_to_place = if lacks_place then Some (turns_left self.old) else None } }
+        // Who waits for a turn as the frame comes to wait has it before the frame comes, and so has who was to have it before.
+        ensures first { self.old.turns_to_place ≡ None → (id : ℕ) → Waits id self.old → IsDue id self.new }
+        ensures due { (id : ℕ) → IsDue id self.old → IsDue id self.new }
     {
         let left = self.turns_left();
-        self.turns_to_place = lacks_place.then_some(left);
+        self.count_turns(lacks_place.then_some(left));
         lacks_place && left > 0
     }
 
@@ -411,18 +415,20 @@ impl<D: Device + Drop> Lines<D> {
     pub(crate) fn hear_touched(&mut self, touched: &mut Touched)
         ensures keeps { KeepsLines self.old self.new }
         ensures all { (id : ℕ) → is_noted id touched.old ≡ true → IsSome (line_of id self.old) → Awaits id self.new }
+        // No other comes to wait for a turn.
+        ensures only { (id : ℕ) → Waits id self.new → Waits id self.old ⊎ (is_noted id touched.old ≡ true) }
         ensures cleared { touched.new ≡ nothing_noted touched.old.blind }
         ensures anew { self.new.turns_to_place ≡ None }
     {
         self.enqueue_touched(touched);
-        self.count_anew();
+        self.count_turns(None);
     }
 
-    /// The next frame has not waited for a place.
-    fn count_anew(&mut self)
-        ensures { self.new ≡ record self.old { turns_to_place = None } }
+    /// For so many turns the next frame still waits for a place.
+    fn count_turns(&mut self, turns: Option<u128>)
+        ensures { self.new ≡ record self.old { turns_to_place = turns } }
     {
-        self.turns_to_place = None;
+        self.turns_to_place = turns;
     }
 
     /// Those that bytes of the peer touched have something to move.
@@ -494,7 +500,7 @@ fn leave_queue(queue: &mut VecDeque<u32>, id: u32)
 }
 
 /// One turn less, if some are counted.
-fn one_less(turns: Option<usize>) -> Option<usize>
+fn one_less(turns: Option<u128>) -> Option<u128>
     ensures { result ≡ option_map (λ n. n - 1) turns }
 {
     match turns {

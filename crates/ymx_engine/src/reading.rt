@@ -10,13 +10,14 @@ ghost use Rattle.ymx_model.specs.session.Histories.{Gives};
 ghost use Rattle.ymx_model.specs.session.Sessions.{is_running};
 ghost use Rattle.ymx_session.specs.Passing.{passing};
 ghost use Rattle.ymx_engine.specs.Engines.{KeepsWire};
+ghost use Rattle.ymx_engine.specs.Exchanges.{has_bytes};
 ghost use Rattle.ymx_engine.specs.Moves.{Moves};
 ghost use Rattle.ymx_engine.specs.Passes.{IsRow, row_len};
-ghost use Rattle.ymx_engine.specs.Places.{is_put_off, may_open, lacks_place, begun, feed_limit, IsFedOrWaits};
+ghost use Rattle.ymx_engine.specs.Places.{is_put_off, may_open, lacks_place, feed_limit, IsFedOrWaits, FeedsToFull};
 ghost use Rattle.ymx_engine.specs.Runs.{Runs, Stays, Rests};
 ghost use Rattle.ymx_engine.specs.Served.{Serving};
 ghost use Rattle.ymx_engine.specs.Steps.{Keeps, ReadsOn, StaysOver};
-ghost use Rattle.ymx_engine.specs.Turns.{line_of, Awaits, KeepsLines, turns_left};
+ghost use Rattle.ymx_engine.specs.Turns.{line_of, Awaits, IsDue, KeepsLines, Waits, turns_left};
 ghost use Rattle.ymx_engine.specs.Ways.{may_push};
 ghost use Rattle.ymx_engine.specs.Work.{Reads};
 
@@ -45,6 +46,9 @@ impl<D: Device + Drop, W: Device + Drop> Tunnel<D, W> {
         ensures reads { Reads self.old self.new }
         // All that waits is fed, as far as the session takes it now, and the next frame doesn't wait for a place.
         ensures fed { IsFedOrWaits self.new }
+        // As long as the next frame waits for a place, nothing comes, and each connection is due that was to have its turn before it.
+        ensures waits { is_put_off self.old ≡ true → (self.new.engine ≡ self.old.engine) × (self.new.wire ≡ self.old.wire) }
+        ensures due { is_put_off self.old ≡ true → (id : ℕ) → IsDue id self.old.lines → IsDue id self.new.lines }
     {
         self.pull_wire();
         // each row that is passed on has a byte at least
@@ -63,6 +67,7 @@ impl<D: Device + Drop, W: Device + Drop> Tunnel<D, W> {
         ensures stays { Stays self.old self.new }
         ensures rests { Rests self.old self.new }
         ensures reads { Reads self.old self.new }
+        ensures full { has_bytes self.old.engine.incoming ≡ true → self.new ≡ self.old }
     {
         if !self.incoming.waiting().is_empty() || !self.wire.may_pull() || self.is_wire_over {
             return;
@@ -100,6 +105,8 @@ impl<D: Device + Drop, W: Device + Drop> Tunnel<D, W> {
         ensures row { IfSome result (λ row. IsRow row self.new.engine.incoming self.new.engine.session × (0 < row.first)) }
         ensures rest { IfNone result (IsFedOrWaits self.new) }
         ensures few { length self.new.engine.incoming ≤ length self.old.engine.incoming }
+        ensures waits { is_put_off self.old ≡ true → (result ≡ None) × (self.new.engine ≡ self.old.engine) }
+        ensures due { is_put_off self.old ≡ true → (id : ℕ) → IsDue id self.old.lines → IsDue id self.new.lines }
     {
         // each turn that goes on feeds a byte at least
         let turns = self.incoming.waiting().len().max(1);
@@ -116,7 +123,7 @@ impl<D: Device + Drop, W: Device + Drop> Tunnel<D, W> {
             if self.is_worth_a_call(&row, least) {
                 return Some(row);
             }
-            self.feed_front(row.count().max(1));
+            self.feed_payload(row.count().max(1));
         }
         None
     }
@@ -139,6 +146,9 @@ impl<D: Device + Drop, W: Device + Drop> Tunnel<D, W> {
         ensures engine { self.new.engine ≡ self.old.engine }
         // So many turns it waits, at most.
         ensures counts { self.new.lines.turns_to_place ≡ (if lacks_place self.old.engine then Some (turns_left self.old.lines) else None) }
+        // Who waits for a turn as the frame comes to wait has it before the frame comes, and so has who was to have it before.
+        ensures first { self.old.lines.turns_to_place ≡ None → (id : ℕ) → Waits id self.old.lines → IsDue id self.new.lines }
+        ensures due { (id : ℕ) → IsDue id self.old.lines → IsDue id self.new.lines }
     {
         let lacks_place = self.lacks_place();
         self.lines.puts_off(lacks_place)
@@ -153,29 +163,16 @@ impl<D: Device + Drop, W: Device + Drop> Tunnel<D, W> {
             && may_open(self.incoming.waiting())
     }
 
-    /// How many bytes are fed at once, so that nothing follows the header that takes the last place.
+    /// How many bytes are fed at once, so that none follows a header that takes the last place.
     fn feed_limit(&self) -> usize
-        ensures exact { result ≡ feed_limit self.now.engine.session }
-        ensures some { 0 < result }
+        ensures { result ≡ feed_limit self.now.engine.session }
     {
-        let payload = self.session.payload_left() as usize;
         let places = self.session.records_left();
-        if payload == 0 {
-            HEADER * places.max(1) - self.begun()
-        } else {
-            payload + HEADER * places
-        }
-    }
-
-    /// How many bytes have come of a header that isn't whole.
-    fn begun(&self) -> usize
-        ensures exact { result ≡ begun self.now.engine.session }
-        ensures few { result < 12 }
-    {
-        match self.session.header_begun() {
-            Some(count) => count,
-            None => 0,
-        }
+        let limit = match self.session.header_begun() {
+            Some(begun) => HEADER * places.max(1) - begun,
+            None => self.session.payload_left() as usize + HEADER * places,
+        };
+        limit.max(1)
     }
 
     /// Feeds what waits up to a payload that may be passed on, or to where the places may be taken. Whether it stopped there, and
@@ -187,7 +184,7 @@ impl<D: Device + Drop, W: Device + Drop> Tunnel<D, W> {
         ensures goes_on { result ≡ true → length self.new.engine.incoming < length self.old.engine.incoming }
         ensures rest { result ≡ false → (self.new.engine.incoming ≡ []) ⊎ ((is_stuck self.new.engine.session ≡ true) ⊎ IsSome (passing self.new.engine.session)) }
         ensures few { length self.new.engine.incoming ≤ length self.old.engine.incoming }
-        ensures limit { length self.old.engine.incoming ≤ length self.new.engine.incoming + feed_limit self.old.engine.session }
+        ensures placed { FeedsToFull self.old.engine self.new.engine }
     {
         let limit = self.feed_limit();
         let fed = self
@@ -201,15 +198,17 @@ impl<D: Device + Drop, W: Device + Drop> Tunnel<D, W> {
         !self.incoming.waiting().is_empty()
     }
 
-    /// Feeds the first of the bytes that wait, so many at most.
-    fn feed_front(&mut self, count: usize)
+    /// Feeds the first of the bytes that wait, so many at most, and no more than lack of the payload that is under way.
+    fn feed_payload(&mut self, most: usize)
         ensures keeps { Keeps self.old self.new }
-        ensures some { is_stuck self.old.engine.session ≡ false → 0 < count → 0 < length self.old.engine.incoming → length self.new.engine.incoming < length self.old.engine.incoming }
+        ensures some { is_stuck self.old.engine.session ≡ false → 0 < most → 0 < length self.old.engine.incoming → length self.new.engine.incoming < length self.old.engine.incoming }
         ensures few { length self.new.engine.incoming ≤ length self.old.engine.incoming }
+        ensures placed { FeedsToFull self.old.engine self.new.engine }
     {
+        let lack = (self.session.payload_left() as usize).max(1);
         let fed = self
             .incoming
-            .feed_some(&mut self.session, count, &mut self.touched);
+            .feed_some(&mut self.session, most.min(lack), &mut self.touched);
         self.lines.hear_touched(&mut self.touched);
         self.hear_fed(fed.no_memory.get() > 0);
     }
@@ -248,7 +247,7 @@ impl<D: Device + Drop, W: Device + Drop> Tunnel<D, W> {
     {
         let taken = self.offer(row);
         if taken < row.count() {
-            self.feed_front(row.count() - taken);
+            self.feed_payload(row.count() - taken);
         }
     }
 

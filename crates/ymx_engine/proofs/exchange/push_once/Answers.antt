@@ -1,4 +1,4 @@
-use Rattle.std.proofs.Common.{◌≡◌, ◌<◌, ◌∙◌, inl, inr, [], sym, ap, length, arith}
+use Rattle.std.proofs.Common.{◌<◌, ◌∙◌, inl, inr, sym, ap, length, arith}
 use Rattle.ymx_session.specs.Streams.{waiting}
 use Rattle.ymx_engine.proofs.Parts.{none_of_two, some_of_two, waits_not, part_within, pushed_some, pushed_none, pushed_failed}
 use Rattle.ymx_machine.proofs.Tests.{both_of}

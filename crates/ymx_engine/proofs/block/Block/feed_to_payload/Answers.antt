@@ -1,4 +1,4 @@
-use Rattle.std.proofs.Common.{◌∙◌, ap, length, arith}
+use Rattle.std.proofs.Common.{ap, length, arith}
 use Rattle.ymx_engine.proofs.Feeding.{feeds_front, front_takes, front_stops}
 use Rattle.ymx_engine.proofs.block.Block.feed_to_payload.Goals as goal
 

@@ -1,14 +1,15 @@
-use Rattle.std.proofs.Common.{◌≡◌, ◌∙◌, ◌+◌, ◌<◌, ◌≤◌, length, false, ap, sym, arith, inl}
+use Rattle.std.proofs.Common.{◌≡◌, ◌∙◌, ◌+◌, ◌<◌, ◌≤◌, length, false, refl, ap, sym, subst, arith, inl}
 use Rattle.ymx_model.specs.session.Feeds.{is_stuck}
 use Rattle.ymx_engine.specs.Engines.{Engine}
 use Rattle.ymx_engine.specs.Tunnels.{Tunnel}
+use Rattle.ymx_engine.specs.Turns.{IsDue}
 use Rattle.ymx_engine.proofs.Attending.{keeps_none, keeps_on}
 use Rattle.ymx_engine.proofs.Feeding.{takes_payload}
-use Rattle.ymx_engine.proofs.Placing.{fed_or_stuck}
+use Rattle.ymx_engine.proofs.Placing.{fed_or_stuck, never_off}
 use Rattle.ymx_engine.proofs.tunnel.Tunnel.advance.Goals as goal
 
 pub payload-init : goal.payload-init
-payload-init g c = record { keeps = keeps_none _; few = omega arith }
+payload-init g c = record { keeps = keeps_none _; waits = λ off. refl; few = omega arith }
 
 pub returns-then-puts_off_next-clause-keeps : goal.returns-then-puts_off_next-clause-keeps
 returns-then-puts_off_next-clause-keeps g c = keeps_on _ _ _ c.payload.invariant.keeps c.puts_off_next.ensures.keeps
@@ -18,7 +19,7 @@ payload-preserved-then-feed_to_payload g c =
     let fewer = c.feed_to_payload.ensures.goes_on c.if-feed_to_payload.true in
     let same : length c.puts_off_next.new.self.engine.incoming ≡ length c.payload.self.engine.incoming = ap (λ (e : Engine). length e.incoming) c.puts_off_next.ensures.engine in
     let before = c.payload.invariant.few in
-    record { keeps = keeps_on _ _ _ c.payload.invariant.keeps (keeps_on _ _ _ c.puts_off_next.ensures.keeps c.feed_to_payload.ensures.keeps); few = omega (arith, fewer, same, before) }
+    record { keeps = keeps_on _ _ _ c.payload.invariant.keeps (keeps_on _ _ _ c.puts_off_next.ensures.keeps c.feed_to_payload.ensures.keeps); waits = λ off. let no : ⊥ = never_off _ _ _ (c.payload.invariant.waits off) off c.puts_off_next.ensures.exact c.if-puts_off_next.false in absurd no; few = omega (arith, fewer, same, before) }
 
 pub payload-preserved : goal.payload-preserved
 payload-preserved g c =
@@ -28,11 +29,11 @@ payload-preserved g c =
     let free : is_stuck c.feed_to_payload.new.self.engine.session ≡ false = sym (ap (λ (t : Tunnel). is_stuck t.engine.session) view) ∙ takes_payload c.self-in-payload.inside.session _ (row.passes).passes in
     let waits : length c.waiting-in-payload.result.now ≡ length c.feed_to_payload.new.self.engine.incoming = ap length (c.waiting-in-payload.ensures ∙ ap (λ (t : Tunnel). t.engine.incoming) view) in
     let some : 0 < length c.waiting-in-payload.result.now = c.in-Some.ensures.waits in
-    let fewer : length c.feed_front.new.self.engine.incoming < length c.feed_to_payload.new.self.engine.incoming = c.feed_front.ensures.some free (omega arith) (omega arith) in
+    let fewer : length c.feed_payload.new.self.engine.incoming < length c.feed_to_payload.new.self.engine.incoming = c.feed_payload.ensures.some free (omega arith) (omega arith) in
     let less : length c.feed_to_payload.new.self.engine.incoming ≤ length c.puts_off_next.new.self.engine.incoming = c.feed_to_payload.ensures.few in
     let same : length c.puts_off_next.new.self.engine.incoming ≡ length c.payload.self.engine.incoming = ap (λ (e : Engine). length e.incoming) c.puts_off_next.ensures.engine in
     let before : length c.payload.self.engine.incoming + c.payload.turn ≤ length c.args.self.now.engine.incoming = c.payload.invariant.few in
-    record { keeps = keeps_on _ _ _ c.payload.invariant.keeps (keeps_on _ _ _ c.puts_off_next.ensures.keeps (keeps_on _ _ _ c.feed_to_payload.ensures.keeps c.feed_front.ensures.keeps)); few = omega arith }
+    record { keeps = keeps_on _ _ _ c.payload.invariant.keeps (keeps_on _ _ _ c.puts_off_next.ensures.keeps (keeps_on _ _ _ c.feed_to_payload.ensures.keeps c.feed_payload.ensures.keeps)); waits = λ off. let no : ⊥ = never_off _ _ _ (c.payload.invariant.waits off) off c.puts_off_next.ensures.exact c.if-puts_off_next.false in absurd no; few = omega arith }
 
 pub returns-in_default-clause-keeps : goal.returns-in_default-clause-keeps
 returns-in_default-clause-keeps g c = keeps_on _ _ _ c.payload.invariant.keeps (keeps_on _ _ _ c.puts_off_next.ensures.keeps c.feed_to_payload.ensures.keeps)
@@ -48,3 +49,27 @@ returns-then-is_worth_a_call-clause-keeps g c = keeps_on _ _ _ c.payload.invaria
 
 pub returns-clause-keeps : goal.returns-clause-keeps
 returns-clause-keeps g c = c.payload.invariant.keeps
+
+pub returns-then-puts_off_next-clause-waits : goal.returns-then-puts_off_next-clause-waits
+returns-then-puts_off_next-clause-waits g c = λ off. (refl, c.puts_off_next.ensures.engine ∙ ap (λ (t : Tunnel). t.engine) (c.payload.invariant.waits off))
+
+pub returns-in_default-clause-waits : goal.returns-in_default-clause-waits
+returns-in_default-clause-waits g c = λ off. let no : ⊥ = never_off _ _ _ (c.payload.invariant.waits off) off c.puts_off_next.ensures.exact c.if-puts_off_next.false in absurd no
+
+pub returns-then-is_worth_a_call-clause-waits : goal.returns-then-is_worth_a_call-clause-waits
+returns-then-is_worth_a_call-clause-waits g c = λ off. let no : ⊥ = never_off _ _ _ (c.payload.invariant.waits off) off c.puts_off_next.ensures.exact c.if-puts_off_next.false in absurd no
+
+pub returns-clause-waits : goal.returns-clause-waits
+returns-clause-waits g c = λ off. (refl, ap (λ (t : Tunnel). t.engine) (c.payload.invariant.waits off))
+
+pub returns-then-puts_off_next-clause-due : goal.returns-then-puts_off_next-clause-due
+returns-then-puts_off_next-clause-due g c = λ off id due. c.puts_off_next.ensures.due id (subst (λ (t : Tunnel). IsDue id t.lines) (sym (c.payload.invariant.waits off)) due)
+
+pub returns-in_default-clause-due : goal.returns-in_default-clause-due
+returns-in_default-clause-due g c = λ off. let no : ⊥ = never_off _ _ _ (c.payload.invariant.waits off) off c.puts_off_next.ensures.exact c.if-puts_off_next.false in absurd no
+
+pub returns-then-is_worth_a_call-clause-due : goal.returns-then-is_worth_a_call-clause-due
+returns-then-is_worth_a_call-clause-due g c = λ off. let no : ⊥ = never_off _ _ _ (c.payload.invariant.waits off) off c.puts_off_next.ensures.exact c.if-puts_off_next.false in absurd no
+
+pub returns-clause-due : goal.returns-clause-due
+returns-clause-due g c = λ off id due. subst (λ (t : Tunnel). IsDue id t.lines) (sym (c.payload.invariant.waits off)) due

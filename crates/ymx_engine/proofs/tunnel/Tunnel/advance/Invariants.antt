@@ -1,9 +1,11 @@
-use Rattle.std.proofs.Common.{◌+◌, ◌≤◌, length}
+use Rattle.std.proofs.Common.{◌≡◌, ◌+◌, ◌≤◌, length, true}
+use Rattle.ymx_engine.specs.Places.{is_put_off}
 use Rattle.ymx_engine.specs.Steps.{Keeps}
 use Rattle.ymx_engine.proofs.tunnel.Tunnel.advance.Given as goal
 
 abbrev pub invariant-payload : goal.invariant-payload
 invariant-payload g l = record {
   keeps : Keeps l.fn.self l.self;
+  waits : is_put_off l.fn.self ≡ true → l.self ≡ l.fn.self;
   few : length l.self.engine.incoming + l.turn ≤ length l.fn.self.engine.incoming;
 }

@@ -1,10 +1,12 @@
-use Rattle.std.proofs.Common.{ℕ, ap, ◌∙◌, ◌||◌, inl}
+use Rattle.std.proofs.Common.{ℕ, ap, ◌∙◌, ◌||◌, ◌≤◌, inl, sym, subst}
 use Rattle.std.specs.Prelude.{nat_lt}
 use Rattle.ymx_engine.specs.Engines.{Engine}
+use Rattle.ymx_engine.specs.Places.{feed_limit, FeedsToFull}
 use Rattle.ymx_engine.specs.Tunnels.{Tunnel}
 use Rattle.ymx_engine.proofs.Attending.{keeps_from}
 use Rattle.ymx_engine.proofs.Placing.{none_left}
 use Rattle.ymx_engine.proofs.Readings.{keeps_fed, fed_or_stopped}
+use Rattle.ymx_engine.proofs.Stopping.{feeds_placed}
 use Rattle.ymx_engine.proofs.tunnel.Tunnel.feed_to_payload.Goals as goal
 
 pub returns-then-fed-limit-clause-keeps : goal.returns-then-fed-limit-clause-keeps
@@ -25,3 +27,15 @@ returns-clause-keeps g c =
 
 pub returns-clause-rest : goal.returns-clause-rest
 returns-clause-rest g c = λ no. inl (none_left c.waiting.result.now _ c.is_empty.result c.is_empty.ensures (c.waiting.ensures ∙ ap (λ (t : Tunnel). t.engine.incoming) c.self-2.view_is) no)
+
+pub returns-then-fed-limit-clause-placed : goal.returns-then-fed-limit-clause-placed
+returns-then-fed-limit-clause-placed g c =
+    let few : c.feed_to_payload-fed.result.taken ≤ feed_limit c.self.inside.session = subst (λ (n : ℕ). c.feed_to_payload-fed.result.taken ≤ n) (c.feed_limit-limit.ensures ∙ sym (ap (λ (t : Tunnel). feed_limit t.engine.session) c.self.view_is)) c.feed_to_payload-fed.ensures.few in
+    subst (λ (t : Tunnel). FeedsToFull t.engine c.hear_fed.new.self.engine) c.self.view_is
+    (feeds_placed _ c.hear_fed.new.self.engine c.feed_to_payload-fed.result _ _ c.feed_to_payload-fed.ensures.fed c.feed_to_payload-fed.ensures.rest few (ap (λ (e : Engine). e.session) c.hear_fed.ensures.engine) (ap (λ (e : Engine). e.incoming) c.hear_fed.ensures.engine))
+
+pub returns-clause-placed : goal.returns-clause-placed
+returns-clause-placed g c =
+    let few : c.feed_to_payload-fed.result.taken ≤ feed_limit c.self.inside.session = subst (λ (n : ℕ). c.feed_to_payload-fed.result.taken ≤ n) (c.feed_limit-limit.ensures ∙ sym (ap (λ (t : Tunnel). feed_limit t.engine.session) c.self.view_is)) c.feed_to_payload-fed.ensures.few in
+    subst (λ (t : Tunnel). FeedsToFull t.engine c.hear_fed.new.self.engine) c.self.view_is
+    (feeds_placed _ c.hear_fed.new.self.engine c.feed_to_payload-fed.result _ _ c.feed_to_payload-fed.ensures.fed c.feed_to_payload-fed.ensures.rest few (ap (λ (e : Engine). e.session) c.hear_fed.ensures.engine) (ap (λ (e : Engine). e.incoming) c.hear_fed.ensures.engine))

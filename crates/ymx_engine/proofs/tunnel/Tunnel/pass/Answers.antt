@@ -3,9 +3,9 @@ use Rattle.ymx_engine.proofs.Readings.{rests_on}
 use Rattle.ymx_engine.proofs.tunnel.Tunnel.pass.Goals as goal
 
 pub returns-then-taken-count-clause-runs : goal.returns-then-taken-count-clause-runs
-returns-then-taken-count-clause-runs g c = reads_on_then _ _ _ c.offer-taken.ensures.runs c.feed_front.ensures.keeps
+returns-then-taken-count-clause-runs g c = reads_on_then _ _ _ c.offer-taken.ensures.runs c.feed_payload.ensures.keeps
 
 pub returns-then-taken-count-clause-rests : goal.returns-then-taken-count-clause-rests
 returns-then-taken-count-clause-rests g c =
-    let k = c.feed_front.ensures.keeps in
+    let k = c.feed_payload.ensures.keeps in
     rests_on _ _ _ c.offer-taken.ensures.rests k.wire k.lines.lines

@@ -1,7 +1,7 @@
-use Rattle.std.proofs.Common.{◌≡◌, ◌==◌, ℕ, List, [], length, true, false, refl, sym, ap, ◌∙◌, arith}
+use Rattle.std.proofs.Common.{◌≡◌, ◌==◌, ℕ, List, [], length, true, false, refl, sym, ap, ◌∙◌}
 use Rattle.ymx_engine.specs.Tunnels.{Tunnel}
 use Rattle.ymx_engine.proofs.Attending.{runs_same, runs_from}
-use Rattle.ymx_engine.proofs.Carrying.{empty_of}
+use Rattle.ymx_engine.proofs.Carrying.{empty_of, not_empty}
 use Rattle.ymx_engine.proofs.Readings.{reads_none, reads_from, rests_from, reads_gave, reads_lost, none_to_read, over_to_read}
 use Rattle.ymx_engine.proofs.tunnel.Tunnel.pull_wire.Goals as goal
 use Rattle.ymx_engine.proofs.tunnel.Tunnel.pull_wire.Goals.{then-not-is_empty-via-then-not-is_empty, then-not-is_empty-via-else-not-is_empty+then-not-may_pull, then-not-is_empty-via-else-not-is_empty+else-not-may_pull+then-self}
@@ -56,3 +56,9 @@ returns-in-Ended-clause-reads g c =
     let x = c.pull_from.ensures in
     let l = c.lose.ensures in
     reads_from _ _ _ c.self.view_is (reads_lost c.pull_from.result x.0 _ _ _ none x.2 x.1 refl refl x.3 c.in-Ended.is refl l.wire l.over l.event l.bytes l.lines l.serves l.memory l.lost).0
+
+pub returns-in-Gave-clause-full : goal.returns-in-Gave-clause-full
+returns-in-Gave-clause-full g c = λ some. let no : ⊥ = not_empty _ _ (empty_of c.waiting.result.now c.self.inside.incoming c.is_empty.result c.is_empty.ensures c.waiting.ensures c.if-not-is_empty.false) (ap (λ (t : Tunnel). t.engine.incoming) c.self.view_is) some in absurd no
+
+pub returns-in-Ended-clause-full : goal.returns-in-Ended-clause-full
+returns-in-Ended-clause-full g c = λ some. let no : ⊥ = not_empty _ _ (empty_of c.waiting.result.now c.self.inside.incoming c.is_empty.result c.is_empty.ensures c.waiting.ensures c.if-not-is_empty.false) (ap (λ (t : Tunnel). t.engine.incoming) c.self.view_is) some in absurd no

@@ -1,7 +1,10 @@
-use Rattle.std.proofs.Common.{◌≡◌, ◌∙◌, ap, arith, length, inl}
+use Rattle.std.proofs.Common.{◌≡◌, ◌∙◌, ap, sym, subst, arith, length, true, inl}
+use Rattle.ymx_engine.specs.Places.{is_put_off}
 use Rattle.ymx_engine.specs.Tunnels.{Tunnel}
+use Rattle.ymx_engine.specs.Turns.{IsDue}
 use Rattle.ymx_engine.proofs.Attending.{runs_then, runs_keep, reads_then}
 use Rattle.ymx_engine.proofs.Feeding.{all_turns}
+use Rattle.ymx_engine.proofs.Placing.{put_off_some}
 use Rattle.ymx_engine.proofs.Readings.{rests_on, rests_past, stays_then, stays_kept}
 use Rattle.ymx_engine.proofs.tunnel.Tunnel.read_wire.Goals as goal
 
@@ -10,7 +13,7 @@ payload-init g c =
     let x = c.pull_wire.ensures in
     let waits : length c.waiting.result.now ≡ length c.pull_wire.new.self.engine.incoming = ap length (c.waiting.ensures ∙ ap (λ (t : Tunnel). t.engine.incoming) c.self.view_is) in
     let least = c.max-rows.ensures in
-    record { runs = x.runs; stays = x.stays; rests = x.rests; reads = x.reads; few = omega (arith, waits, least) }
+    record { runs = x.runs; stays = x.stays; rests = x.rests; reads = x.reads; waits = λ off. x.full (put_off_some c.args.self.now off); few = omega (arith, waits, least) }
 
 pub payload-preserved : goal.payload-preserved
 payload-preserved g c =
@@ -22,6 +25,7 @@ payload-preserved g c =
       stays = stays_then _ _ _ i.stays (stays_then _ _ _ (stays_kept _ _ k.wire k.lines.lines) p.stays);
       rests = rests_past _ _ _ _ i.rests k.wire k.lines.lines p.rests p.closed;
       reads = reads_then _ _ _ (reads_then _ _ _ i.reads k.moves k.own k.wire k.over k.memory) p.runs.runs.moves p.runs.own p.wire p.over p.runs.memory;
+      waits = λ off. let none = (c.advance.ensures.waits (ap is_put_off (i.waits off) ∙ off)).0 in let no : ⊥ = cc in absurd no;
       few = let less = p.some in let same = c.advance.ensures.few in let i_few = i.few in omega (arith, less, same, i_few);
     }
 
@@ -51,3 +55,21 @@ returns-clause-reads g c = c.payload.invariant.reads
 
 pub returns-clause-fed : goal.returns-clause-fed
 returns-clause-fed g c = inl (all_turns c.payload.self.engine c.max-rows.result c.payload.turn c.payload.invariant.few c.payload-test.false)
+
+pub returns-in-None-clause-waits : goal.returns-in-None-clause-waits
+returns-in-None-clause-waits g c = λ off.
+    let i = c.payload.invariant in
+    let at : is_put_off c.payload.self ≡ true = ap is_put_off (i.waits off) ∙ off in
+    ((c.advance.ensures.waits at).1 ∙ ap (λ (t : Tunnel). t.engine) (i.waits off), (c.advance.ensures.keeps).wire ∙ ap (λ (t : Tunnel). t.wire) (i.waits off))
+
+pub returns-clause-waits : goal.returns-clause-waits
+returns-clause-waits g c = λ off. let same = c.payload.invariant.waits off in (ap (λ (t : Tunnel). t.engine) same, ap (λ (t : Tunnel). t.wire) same)
+
+pub returns-in-None-clause-due : goal.returns-in-None-clause-due
+returns-in-None-clause-due g c = λ off id due.
+    let i = c.payload.invariant in
+    let at : is_put_off c.payload.self ≡ true = ap is_put_off (i.waits off) ∙ off in
+    c.advance.ensures.due at id (subst (λ (t : Tunnel). IsDue id t.lines) (sym (i.waits off)) due)
+
+pub returns-clause-due : goal.returns-clause-due
+returns-clause-due g c = λ off id due. subst (λ (t : Tunnel). IsDue id t.lines) (sym (c.payload.invariant.waits off)) due

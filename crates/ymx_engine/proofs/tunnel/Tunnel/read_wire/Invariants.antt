@@ -1,4 +1,5 @@
-use Rattle.std.proofs.Common.{◌+◌, ◌≤◌, length}
+use Rattle.std.proofs.Common.{◌≡◌, ◌+◌, ◌≤◌, length, true}
+use Rattle.ymx_engine.specs.Places.{is_put_off}
 use Rattle.ymx_engine.specs.Runs.{Runs, Stays, Rests}
 use Rattle.ymx_engine.specs.Work.{Reads}
 use Rattle.ymx_engine.proofs.tunnel.Tunnel.read_wire.Given as goal
@@ -9,5 +10,6 @@ invariant-payload g l = record {
   stays : Stays l.fn.self l.self;
   rests : Rests l.fn.self l.self;
   reads : Reads l.fn.self l.self;
+  waits : is_put_off l.fn.self ≡ true → l.self ≡ l.fn.self;
   few : length l.self.engine.incoming + l.turn ≤ l.rows;
 }

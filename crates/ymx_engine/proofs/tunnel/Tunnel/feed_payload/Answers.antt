@@ -1,0 +1,21 @@
+use Rattle.std.proofs.Common.{ℕ, ap, ◌∙◌, ◌||◌, ◌≤◌, subst}
+use Rattle.std.specs.Prelude.{nat_lt}
+use Rattle.ymx_engine.specs.Engines.{Engine}
+use Rattle.ymx_engine.specs.Places.{feed_limit, FeedsToFull}
+use Rattle.ymx_engine.specs.Tunnels.{Tunnel}
+use Rattle.ymx_engine.proofs.Attending.{keeps_from}
+use Rattle.ymx_engine.proofs.Readings.{keeps_fed}
+use Rattle.ymx_engine.proofs.Stopping.{feeds_placed, payload_fits}
+use Rattle.ymx_engine.proofs.tunnel.Tunnel.feed_payload.Goals as goal
+
+pub returns-clause-keeps : goal.returns-clause-keeps
+returns-clause-keeps g c =
+    keeps_from _ _ _ c.self.view_is
+    (keeps_fed c.feed_some-fed.new.touched c.feed_some-fed.result _ _ c.feed_some-fed.new.session c.feed_some-fed.new.self c.hear_touched.new.self c.feed_some-fed.ensures.fed c.feed_some-fed.ensures.rest c.feed_some-fed.ensures.notes c.hear_touched.ensures.keeps c.hear_touched.ensures.all c.hear_fed.ensures.engine c.hear_fed.ensures.wire c.hear_fed.ensures.over c.hear_fed.ensures.lines
+    c.hear_fed.ensures.all (c.hear_fed.ensures.memory ∙ ap (λ (n : ℕ). c.self.inside.has_lacked_memory || nat_lt 0 n) c.get.ensures))
+
+pub returns-clause-placed : goal.returns-clause-placed
+returns-clause-placed g c =
+    let few : c.feed_some-fed.result.taken ≤ feed_limit c.self.inside.session = payload_fits c.self.inside.session _ _ _ _ _ c.payload_left.ensures.exact c.max-lack.ensures c.min.ensures c.feed_some-fed.ensures.few in
+    subst (λ (t : Tunnel). FeedsToFull t.engine c.hear_fed.new.self.engine) c.self.view_is
+    (feeds_placed _ c.hear_fed.new.self.engine c.feed_some-fed.result _ _ c.feed_some-fed.ensures.fed c.feed_some-fed.ensures.rest few (ap (λ (e : Engine). e.session) c.hear_fed.ensures.engine) (ap (λ (e : Engine). e.incoming) c.hear_fed.ensures.engine))
