@@ -23,12 +23,12 @@ ComesBack socket (unleft.Closed back) = back ≡ socket
 ComesBack socket (unleft.OutOfMemory refused) = refused.value ≡ socket
 
 -- it is closed as there is no session for it
-abbrev pub is_lost : Declined
-is_lost = declined.BySession Lost
+abbrev pub no_session : Declined
+no_session = declined.BySession Lost
 
 -- so it is where no link takes connections any more; where there is no memory, that is why
 abbrev pub unleft_for : NotLeft → Declined
-unleft_for (unleft.Closed back) = is_lost
+unleft_for (unleft.Closed back) = no_session
 unleft_for (unleft.OutOfMemory refused) = declined.OutOfMemory
 
 -- how many places a session has now

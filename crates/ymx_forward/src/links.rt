@@ -10,7 +10,7 @@ ghost use Rattle.ymx_policy.specs.declared.asks.PoolHappened.{PoolHappened as Po
 ghost use Rattle.ymx_policy.specs.declared.asks.Users.{Users as Comers};
 ghost use Rattle.ymx_forward.specs.Calls.{AddsCalled, Keeps};
 ghost use Rattle.ymx_forward.specs.Comers.{PoolTakes, PoolTakesCount};
-ghost use Rattle.ymx_forward.specs.Inboxes.{is_lost, unleft_for};
+ghost use Rattle.ymx_forward.specs.Inboxes.{no_session, unleft_for};
 ghost use Rattle.ymx_forward.specs.Users.{is_failed};
 ghost use Rattle.ymx_page.specs.Counts.{with_begun, with_declined};
 
@@ -378,7 +378,7 @@ fn settle<V: Watcher>(left: Result<Left, NotLeft>, watcher: &mut V) -> PoolHappe
 
 /// Closes a user for whom there is no session.
 fn refuse<V: Watcher>(socket: TcpConnection, watcher: &mut V)
-    ensures { V.counts watcher.new ≡ option_map (with_declined is_lost) (option_map with_begun (V.counts watcher.old)) }
+    ensures { V.counts watcher.new ≡ option_map (with_declined no_session) (option_map with_begun (V.counts watcher.old)) }
 {
     let origin = watcher.begins(&socket);
     watcher.refused(origin, Declined::BySession(CallFault::Lost));

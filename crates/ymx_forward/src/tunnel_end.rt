@@ -3,7 +3,7 @@
 ghost use Rattle.std.specs.Prelude.{◌≡◌, ◌≢◌, true, if◌then◌else◌, IfErr, IfNone, IfOk, None, Some, is_some, option_map};
 ghost use Rattle.ymx_policy.specs.declared.asks.Session.{Session as Asked};
 ghost use Rattle.ymx_forward.specs.Doors.{MayCall};
-ghost use Rattle.ymx_forward.specs.Inboxes.{is_lost};
+ghost use Rattle.ymx_forward.specs.Inboxes.{no_session};
 ghost use Rattle.ymx_forward.specs.declared.system.TcpConnection.{TcpConnection as Connection};
 ghost use Rattle.ymx_page.specs.Counts.{with_begun, with_declined};
 ghost use Rattle.ymx_forward.specs.Sessions.{AreLimitsOf, HasNoEnd, Serves, asked_to_go, goes_to, has_failed};
@@ -355,7 +355,7 @@ impl TunnelEnd {
     pub(crate) fn refuse_waiting<V: Watcher>(&mut self, watcher: &mut V)
         ensures none { self.new.waiting ≡ None }
         // Who watches is told of it.
-        ensures told { V.counts watcher.new ≡ (if is_some self.old.waiting then option_map (with_declined is_lost) (option_map with_begun (V.counts watcher.old)) else V.counts watcher.old) }
+        ensures told { V.counts watcher.new ≡ (if is_some self.old.waiting then option_map (with_declined no_session) (option_map with_begun (V.counts watcher.old)) else V.counts watcher.old) }
     {
         if let Some(socket) = self.waiting.take() {
             let origin = watcher.begins(&socket);
