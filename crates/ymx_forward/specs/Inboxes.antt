@@ -22,6 +22,11 @@ abbrev pub ComesBack : TcpConnection → NotLeft → Type 0
 ComesBack socket (unleft.Closed back) = back ≡ socket
 ComesBack socket (unleft.OutOfMemory refused) = refused.value ≡ socket
 
+-- the same, and why: it came too late, or there was no memory, though more may come
+abbrev pub ComesBackFor : (is_closed : Bool) → TcpConnection → NotLeft → Type 0
+ComesBackFor is_closed socket (unleft.Closed back) = (is_closed ≡ true) × (back ≡ socket)
+ComesBackFor is_closed socket (unleft.OutOfMemory refused) = (is_closed ≡ false) × (refused.value ≡ socket)
+
 -- it is closed as there is no session for it
 abbrev pub no_session : Declined
 no_session = declined.BySession Lost
@@ -35,3 +40,8 @@ unleft_for (unleft.OutOfMemory refused) = declined.OutOfMemory
 abbrev pub places_of : Places → ℕ
 places_of (places.Free count) = count
 places_of places.Never = 0
+
+-- it will have none any more
+abbrev pub is_never : Places → Bool
+is_never (places.Free count) = false
+is_never places.Never = true

@@ -17,4 +17,5 @@ pub mod Sessions
 pub mod Sides
 pub mod Signs
 pub mod Sockets
+pub mod Standings
 pub mod Users

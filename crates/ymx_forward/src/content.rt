@@ -1,9 +1,9 @@
 //! What lies in an inbox. The lock round it shows a contract nothing, so whatever is done to it is a method here, and
 //! says that nobody is lost.
 
-ghost use Rattle.std.specs.Prelude.{◌≡◌, ◌++◌, ◌∷◌, ◌-◌, ◌||◌, ◌&&◌, ◌<◌, [], Some, true, false, length, nat_lt, not, IfOk, IfErr};
-ghost use Rattle.ymx_forward.specs.Inboxes.{ComesBack, IsTaken, places_of};
-ghost use Rattle.ymx_forward.specs.declared.content.Standing.TheVariants as StandingIs;
+ghost use Rattle.std.specs.Prelude.{◌≡◌, ◌++◌, ◌∷◌, ◌-◌, ◌||◌, ◌&&◌, [], None, Some, true, false, length, nat_lt, not, is_some, IfOk, IfErr, IfSome};
+ghost use Rattle.ymx_forward.specs.Inboxes.{ComesBackFor, IsTaken, is_never, places_of};
+ghost use Rattle.ymx_forward.specs.Standings.{is_resting, lacks_place, rank_of, standing_of, told_by};
 
 use crate::stillness::Stillness;
 use crate::system::TcpConnection;
@@ -70,20 +70,36 @@ pub(crate) enum Places {
     Never,
 }
 
-/// Whether a link is to get the next connection: the first of these before the others.
+/// Whether a link is to get the next connection.
 #[derive(Clone, Copy, PartialEq, Eq)]
 pub(crate) enum Standing {
     /// It has a place.
     Free,
     /// It has none for now.
     Full,
-    /// It has no peer, or one that takes no more streams: others are preferred.
+    /// It has no peer, or one that takes no more streams: one that has a place is preferred.
     Resting,
+}
+
+impl Standing {
+    /// Where it stands among the others: the lowest is preferred.
+    pub(crate) fn rank(self) -> u8
+        ensures { result ≡ rank_of self }
+    {
+        match self {
+            Standing::Free => 0,
+            Standing::Resting => 1,
+            Standing::Full => 2,
+        }
+    }
 }
 
 impl Content {
     /// Nobody waits, and there is room for so many.
-    pub(crate) fn new(alloc: Global, room: usize) -> Content {
+    pub(crate) fn new(alloc: Global, room: usize) -> Content
+        ensures nobody { result.waiting.items ≡ [] }
+        ensures begun { result ≡ record { waiting = result.waiting; room = room; is_wanted = false; is_away = false; is_closed = false; rest = None; reason = None } }
+    {
         Content {
             waiting: VecDeque::new(alloc),
             room,
@@ -98,8 +114,12 @@ impl Content {
     /// Leaves a connection. It waits behind those that came before, or comes back.
     pub(crate) fn leave(&mut self, socket: TcpConnection) -> Result<Left, NotLeft>
         ensures left { IfOk result (λ _. self.new.waiting.items ≡ self.old.waiting.items ++ socket ∷ []) }
-        ensures back { IfErr result (ComesBack socket) }
+        // It takes a place, where one is left. No more is changed.
+        ensures place { IfOk result (λ _. self.new ≡ record self.old { waiting = self.new.waiting; room = self.old.room - 1 }) }
+        ensures open { IfOk result (λ _. self.old.is_closed ≡ false) }
+        ensures back { IfErr result (ComesBackFor self.old.is_closed socket) }
         ensures same { IfErr result (λ _. self.new.waiting.items ≡ self.old.waiting.items) }
+        ensures unchanged { IfErr result (λ _. self.new ≡ record self.old { waiting = self.new.waiting }) }
     {
         if self.is_closed {
             return Err(NotLeft::Closed(socket));
@@ -115,7 +135,8 @@ impl Content {
 
     /// Takes the connection that came first. All others wait on.
     pub(crate) fn take(&mut self) -> Taken
-        ensures { IsTaken result self.old.is_closed self.old.waiting.items self.new.waiting.items }
+        ensures taken { IsTaken result self.old.is_closed self.old.waiting.items self.new.waiting.items }
+        ensures unchanged { self.new ≡ record self.old { waiting = self.new.waiting } }
     {
         match self.waiting.pop_front() {
             Some(socket) => Taken::Connection(socket),
@@ -148,11 +169,12 @@ impl Content {
     /// The session of the link has so many places, of which those who wait here take some. Whether the thread that accepts
     /// is to be woken.
     pub(crate) fn show(&mut self, places: Places) -> bool
-        ensures waiting { self.new.waiting ≡ self.old.waiting }
         ensures room { self.new.room ≡ places_of places - length self.old.waiting.items }
+        ensures away { self.new.is_away ≡ (is_never places || self.old.is_away) }
         // It is woken where it wants to be, and there is a place, or never will be one.
         ensures wakes { result ≡ (self.old.is_wanted && (nat_lt 0 self.new.room || self.new.is_away)) }
         ensures wanted { self.new.is_wanted ≡ (self.old.is_wanted && not result) }
+        ensures unchanged { self.new ≡ record self.old { room = self.new.room; is_away = self.new.is_away; is_wanted = self.new.is_wanted } }
     {
         match places {
             Places::Free(count) => self.room = count.saturating_sub(self.waiting.len()),
@@ -171,9 +193,9 @@ impl Content {
     /// The session of the link is over, or is to begin: it rests or doesn't, and has so many places. Whether the thread that
     /// accepts is to be woken.
     pub(crate) fn begin_anew(&mut self, rest: Option<Stillness>, places: usize) -> bool
-        ensures waiting { self.new.waiting ≡ self.old.waiting }
-        ensures room { self.new.room ≡ places - length self.old.waiting.items }
-        ensures wakes { (result ≡ self.old.is_wanted) × (self.new.is_wanted ≡ false) }
+        ensures wakes { result ≡ self.old.is_wanted }
+        // Who waits goes on to wait, and a closed inbox stays closed.
+        ensures begun { self.new ≡ record self.old { room = places - length self.old.waiting.items; is_wanted = false; is_away = false; rest = rest } }
     {
         self.rest = rest;
         self.is_away = false;
@@ -183,14 +205,29 @@ impl Content {
         is_woken
     }
 
-    /// Whether a further connection may be left here. Where the link is full, the thread that accepts wants to be woken once
-    /// it has a place.
-    pub(crate) fn standing<R: Clock>(&mut self, rt: &R) -> Standing
-        ensures waiting { self.new.waiting ≡ self.old.waiting }
-        ensures wanted { result ≡ StandingIs.Full → self.new.is_wanted ≡ true }
+    /// Whether the rest of its link is over, by the clock. So it is of one that doesn't rest.
+    pub(crate) fn has_rested<R: Clock>(&self, rt: &R) -> bool
+        ensures none { self.now.rest ≡ None → result ≡ true }
+        // Nobody knows how long a rest has lasted that began when the clock couldn't be read.
+        ensures unknown { IfSome self.now.rest (λ rest. rest.since ≡ None → result ≡ false) }
     {
+        match self.rest {
+            Some(rest) => rest.has_lasted(rt, Duration::from_secs(REST)),
+            None => true,
+        }
+    }
+
+    /// Whether a further connection may be left here, where the rest of its link is over or isn't. None once no more come.
+    /// Where the link is full, the thread that accepts wants to be woken once it has a place.
+    pub(crate) fn standing(&mut self, has_rested: bool) -> Option<Standing>
+        ensures stands { result ≡ told_by self.old.is_closed (standing_of (is_resting self.old.rest has_rested self.old.is_away) self.old.room) }
+        ensures wanted { self.new ≡ record self.old { is_wanted = self.old.is_wanted || lacks_place result } }
+    {
+        if self.is_closed {
+            return None;
+        }
         let is_resting = match self.rest {
-            Some(rest) => !rest.has_lasted(rt, Duration::from_secs(REST)),
+            Some(_) => !has_rested,
             None => self.is_away,
         };
         let standing = match self.room {
@@ -199,7 +236,7 @@ impl Content {
             _ => Standing::Free,
         };
         self.is_wanted = self.is_wanted || standing == Standing::Full;
-        standing
+        Some(standing)
     }
 
     /// Keeps the reason of the fault that the link reports next.
@@ -211,8 +248,8 @@ impl Content {
 
     /// The reason that was kept, if one was.
     pub(crate) fn take_reason(&mut self) -> Option<Notice>
-        ensures waiting { self.new.waiting ≡ self.old.waiting }
         ensures kept { result ≡ self.old.reason }
+        ensures gone { self.new ≡ record self.old { reason = None } }
     {
         self.reason.take()
     }

@@ -1,7 +1,15 @@
 //! Where one thread leaves connections for the loop of another.
+//!
+//! What lies behind a lock no contract can name, as other threads change it at any time: that a link answers how it stands
+//! is said at [`Content::standing`], and what is made of such answers at [`lightest_of`] and [`room_among`]; that the
+//! answers given there are those of the links is not.
 
-ghost use Rattle.std.specs.Prelude.{◌≡◌, IfErr};
+ghost use Rattle.std.specs.Prelude.{◌≡◌, ◌≢◌, List, IfErr};
+ghost use Rattle.std.specs.Iterator.{Drains, DrainsIf, IsFinite};
 ghost use Rattle.ymx_forward.specs.Inboxes.{ComesBack};
+ghost use Rattle.ymx_forward.specs.Standings.{is_before, lighter_of, lightest_of, room_among, room_with};
+ghost use Rattle.ymx_forward.specs.declared.content.Standing.{Standing as Stands};
+ghost use Rattle.ymx_forward.specs.declared.inbox.Weight.{Weight as Load};
 
 use crate::content::{Content, Left, NotLeft, Places, Standing, Taken};
 use crate::stillness::Stillness;
@@ -81,6 +89,17 @@ struct Weight {
     load: u64,
 }
 
+impl Weight {
+    /// Whether a link of this weight gets a connection before the other one.
+    fn is_before(self, other: Weight) -> bool
+        ensures { result ≡ is_before self other }
+    {
+        let rank = self.standing.rank();
+        let other_rank = other.standing.rank();
+        rank < other_rank || rank == other_rank && self.load < other.load
+    }
+}
+
 /// Whether the next connection may be accepted.
 #[derive(Clone, Copy, PartialEq, Eq)]
 pub(crate) enum Room {
@@ -94,6 +113,20 @@ pub(crate) enum Room {
     FullForNow,
     /// No link takes connections any more.
     Closed,
+}
+
+impl Room {
+    /// What is known once one more link has told how it stands.
+    fn with(self, standing: Standing) -> Room
+        ensures { result ≡ room_with self standing }
+    {
+        match (self, standing) {
+            (_, Standing::Free) | (Room::Found, _) => Room::Found,
+            (Room::Closed | Room::Full, Standing::Full) => Room::Full,
+            (Room::Closed | Room::Resting, Standing::Resting) => Room::Resting,
+            _ => Room::FullForNow,
+        }
+    }
 }
 
 impl Inbox {
@@ -222,25 +255,34 @@ impl Inbox {
     /// thread that accepts once it has a place.
     fn weight<R: Clock + Wait>(&self, rt: &R) -> Option<Weight> {
         let mut content = self.content.lock(rt);
-        if content.is_closed() {
-            return None;
-        }
-        let standing = content.standing(rt);
+        let has_rested = content.has_rested(rt);
+        let standing = content.standing(has_rested)?;
         let load = self.load.load(Ordering::SeqCst);
         Some(Weight { standing, load })
     }
 }
 
-/// Whether the first of these links is to get a connection before the second.
-fn is_before(one: Weight, other: Weight) -> bool {
-    match (one.standing, other.standing) {
-        (Standing::Free, Standing::Free)
-        | (Standing::Full, Standing::Full)
-        | (Standing::Resting, Standing::Resting) => one.load < other.load,
-        (Standing::Free, _) => true,
-        (Standing::Resting, Standing::Full) => true,
-        _ => false,
+/// The link that gets the next connection, once one more was looked at. Of two neither of which is before the other the first.
+fn lighter<T: Copy>(best: Option<(T, Weight)>, next: (T, Weight)) -> (T, Weight)
+    ensures { result ≡ lighter_of best next }
+{
+    match best {
+        Some(best) if !next.1.is_before(best.1) => best,
+        _ => next,
     }
+}
+
+/// Of these links the one that gets the next connection. None where there is none.
+fn lightest_of<T: Copy, I: Iterator<Item = (T, Weight)>>(links: I) -> Option<(T, Weight)>
+    requires can { I.can_next links }
+    requires ends { IsFinite (I.remaining links) }
+    ensures { (looked : List (T × Load)) × Drains I.next_gives links looked × (result ≡ lightest_of looked) }
+{
+    let mut best = None;
+    for link in links {
+        best = Some(lighter(best, link));
+    }
+    best
 }
 
 /// The inbox of the link that is to get the next connection: of those that have a place the one that has the fewest, or
@@ -249,42 +291,37 @@ fn lightest<'a, R: Clock + Wait>(
     rt: &R,
     inboxes: &'a [Arc<Inbox, Global>],
 ) -> Option<&'a Arc<Inbox, Global>> {
-    let mut lightest = None;
-    let mut least = None;
-    for inbox in inboxes {
-        if let Some(weight) = inbox.weight(rt) {
-            let is_lighter = match least {
-                Some(least) => is_before(weight, least),
-                None => true,
-            };
-            if is_lighter {
-                lightest = Some(inbox);
-                least = Some(weight);
-            }
+    let (inbox, _) = lightest_of(
+        inboxes
+            .iter()
+            .filter_map(|inbox| Some((inbox, inbox.weight(rt)?))),
+    )?;
+    Some(inbox)
+}
+
+/// Whether one of these is there for a connection. Once one is found, no more is asked.
+fn room_among<I: Iterator<Item = Standing>>(standings: I) -> Room
+    requires can { I.can_next standings }
+    requires ends { IsFinite (I.remaining standings) }
+    ensures { (told : List Stands) × DrainsIf I.next_gives (result ≢ Room.Found) standings told × (result ≡ room_among told) }
+{
+    let mut room = Room::Closed;
+    for standing in standings {
+        room = room.with(standing);
+        if room == Room::Found {
+            return room;
         }
     }
-    lightest
+    room
 }
 
 /// Whether a link is there for one more connection.
 pub(crate) fn room_of<R: Clock + Wait>(rt: &R, inboxes: &[Arc<Inbox, Global>]) -> Room {
-    let mut has_resting = false;
-    let mut has_full = false;
-    for inbox in inboxes {
-        if let Some(weight) = inbox.weight(rt) {
-            match weight.standing {
-                Standing::Free => return Room::Found,
-                Standing::Full => has_full = true,
-                Standing::Resting => has_resting = true,
-            }
-        }
-    }
-    match (has_full, has_resting) {
-        (true, true) => Room::FullForNow,
-        (true, false) => Room::Full,
-        (false, true) => Room::Resting,
-        (false, false) => Room::Closed,
-    }
+    room_among(
+        inboxes
+            .iter()
+            .filter_map(|inbox| Some(inbox.weight(rt)?.standing)),
+    )
 }
 
 /// Leaves a connection at the link that has the fewest. The connection comes back where all are closed.
