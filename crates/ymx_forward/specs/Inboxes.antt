@@ -1,8 +1,11 @@
 -- That nobody is lost who was left in an inbox (this project's own).
-use Rattle.std.specs.Prelude.{ℕ, ◌≡◌, ◌∷◌, List, [], Bool, true, false}
+use Rattle.std.specs.Prelude.{ℕ, ◌≡◌, ◌∷◌, List, [], Bool, true, false, Result, Ok, Err}
 use Rattle.ymx_machine.specs.declared.types.CallFault.TheVariants.{Lost}
 use Rattle.ymx_page.specs.declared.connections.Declined.{Declined}
 use Rattle.ymx_page.specs.declared.connections.Declined.TheVariants as declined
+use Rattle.ymx_policy.specs.declared.asks.PoolHappened.{PoolHappened}
+use Rattle.ymx_policy.specs.declared.asks.PoolHappened.TheVariants as pool
+use Rattle.ymx_forward.specs.declared.content.Left.{Left}
 use Rattle.ymx_forward.specs.declared.content.NotLeft.{NotLeft}
 use Rattle.ymx_forward.specs.declared.content.NotLeft.TheVariants as unleft
 use Rattle.ymx_forward.specs.declared.content.Places.{Places}
@@ -45,3 +48,9 @@ places_of places.Never = 0
 abbrev pub is_never : Places → Bool
 is_never (places.Free count) = false
 is_never places.Never = true
+
+-- what an attempt to leave a user comes to: only where there was no memory it isn't done
+abbrev pub left_to : Result Left NotLeft → PoolHappened
+left_to (Ok left) = pool.Done
+left_to (Err (unleft.Closed back)) = pool.Done
+left_to (Err (unleft.OutOfMemory refused)) = pool.LackedMemory

@@ -10,7 +10,7 @@ ghost use Rattle.ymx_policy.specs.declared.asks.PoolHappened.{PoolHappened as Po
 ghost use Rattle.ymx_policy.specs.declared.asks.Users.{Users as Comers};
 ghost use Rattle.ymx_forward.specs.Calls.{AddsCalled, Keeps};
 ghost use Rattle.ymx_forward.specs.Comers.{PoolTakes, PoolTakesCount};
-ghost use Rattle.ymx_forward.specs.Inboxes.{no_session, unleft_for};
+ghost use Rattle.ymx_forward.specs.Inboxes.{left_to, no_session, unleft_for};
 ghost use Rattle.ymx_forward.specs.Users.{is_failed};
 ghost use Rattle.ymx_page.specs.Counts.{with_begun, with_declined};
 
@@ -360,7 +360,10 @@ impl<'a, R: Host> LinkSockets<'a, R> {
 
 /// A user was left at a link. One who couldn't be is closed, and who watches is told.
 fn settle<V: Watcher>(left: Result<Left, NotLeft>, watcher: &mut V) -> PoolHappened
-    ensures { IfErr left (λ why. V.counts watcher.new ≡ option_map (with_declined (unleft_for why)) (option_map with_begun (V.counts watcher.old))) }
+    ensures happened { result ≡ left_to left }
+    ensures told { IfErr left (λ why. V.counts watcher.new ≡ option_map (with_declined (unleft_for why)) (option_map with_begun (V.counts watcher.old))) }
+    // Of a user who was left nothing is said here: the link does that.
+    ensures untold { IfOk left (λ _. watcher.new ≡ watcher.old) }
 {
     match left {
         Ok(_) => PoolHappened::Done,
