@@ -1,4 +1,4 @@
-use Rattle.std.proofs.Common.{◌∙◌, ap, sym, inl, inr}
+use Rattle.std.proofs.Common.{◌∙◌, ap, inl, inr}
 use Rattle.ymx_forward.proofs.Brought.{joined_one, told_one}
 use Rattle.ymx_forward.proofs.Going.{runs_behind, runs_before}
 use Rattle.ymx_forward.specs.Users.{must_wait}

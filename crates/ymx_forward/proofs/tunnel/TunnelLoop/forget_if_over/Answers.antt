@@ -1,6 +1,4 @@
-use Rattle.std.proofs.Common.{sym, ◌∙◌}
 use Rattle.ymx_engine.proofs.Attending.{runs_same}
-use Rattle.ymx_forward.proofs.Going.{over_there}
 use Rattle.ymx_forward.proofs.tunnel.TunnelLoop.forget_if_over.Goals as goal
 
 pub returns-else-is_line_over : goal.returns-else-is_line_over

@@ -1,4 +1,4 @@
-use Rattle.std.proofs.Common.{◌∙◌, ap, inr}
+use Rattle.std.proofs.Common.{◌∙◌, ap}
 use Rattle.ymx_engine.proofs.Attending.{runs_same, runs_then}
 use Rattle.ymx_model.specs.session.Sessions.{is_running}
 use Rattle.ymx_forward.proofs.tunnel.TunnelLoop.leave_all.Goals as goal

@@ -1,4 +1,4 @@
-use Rattle.std.proofs.Common.{refl, arith, suc, ◌+◌}
+use Rattle.std.proofs.Common.{refl, arith, suc}
 use Rattle.ymx_engine.proofs.Attending.{runs_then}
 use Rattle.ymx_forward.proofs.Rounds.{ends_before, ends_behind, looks_more, round_more}
 use Rattle.ymx_forward.proofs.Waiting.{waits_never, waits_behind, waits_before}
