@@ -1,7 +1,7 @@
 -- Who is told to be there.
-use Rattle.std.proofs.Common.{◌≡◌, ◌≢◌, ℕ, List, [], ◌∷◌, Bool, true, false, refl, arith}
+use Rattle.std.proofs.Common.{◌≡◌, ◌≢◌, ◌⊎◌, ℕ, List, [], ◌∷◌, Bool, true, false, refl, arith}
 use Rattle.ymx_policy.specs.declared.plan.Role.{Role}
-use Rattle.ymx_policy.specs.declared.plan.Role.TheVariants.{LocalCalls, LocalAwaits, RemoteAwaits}
+use Rattle.ymx_policy.specs.declared.plan.Role.TheVariants.{LocalCalls, LocalAwaits, Link, RemoteAwaits}
 use Rattle.ymx_policy.specs.declared.plan.Terms.{Terms}
 use Rattle.ymx_policy.specs.declared.asks.Session.{Session}
 use Rattle.ymx_policy.specs.declared.asks.Deed.TheVariants as deed
@@ -12,16 +12,16 @@ use Rattle.ymx_policy.specs.declared.state.Stage.TheVariants as stage
 use Rattle.ymx_policy.specs.declared.state.State.{State}
 use Rattle.ymx_policy.specs.Machine.{fresh, asked, after}
 use Rattle.ymx_policy.specs.Past.{IsPast, asks, is_end, state_of}
-use Rattle.ymx_policy.specs.Laws.{is_told_there, tells_coming, told_by}
+use Rattle.ymx_policy.specs.Laws.{is_told_there, tells_coming, tells_gone, told_by}
 use Rattle.ymx_policy.proofs.Keeping.{keeps}
 use Rattle.ymx_policy.proofs.Reasons.{fit_first, fit_step, fits}
 
--- a peer may be told to be there once its session has run, until one that awaits its peers awaits the next
+-- a peer may be told to be there once its session has run, where it awaits its peers, until it awaits the next
 abbrev is_due : Role → (kept : Bool) → Stage → (users : Bool) → (there : Bool) → Type 0
 is_due role false at users there = there ≡ false
 is_due RemoteAwaits true at users there = Unit {0}
-is_due LocalAwaits true stage.Closing users there = there ≡ true
-is_due LocalAwaits true stage.OpeningPeers users there = there ≡ users
+is_due LocalAwaits true stage.Closing users there = Unit {0}
+is_due LocalAwaits true stage.OpeningPeers true there = Unit {0}
 is_due role true at users there = there ≡ false
 
 -- A `local` that awaits its peers listens for users where it closes one. With --keep one that calls does so once it has listened.
@@ -36,7 +36,7 @@ has_them LocalCalls true at users = users ≡ true
 has_them role kept at users = Unit {0}
 
 due_step : (t : Terms) (s : State) (h : Happened) (there : Bool) → is_end (asked t s).deed ≡ false → fits t.role s.stage ≡ true → has_them t.role t.goes_on s.stage s.has_users → t.session.is_followed ≡ t.goes_on → is_due t.role t.goes_on s.stage s.has_users there
-    → is_due t.role t.goes_on (after t s h).stage (after t s h).has_users (told_by (after t s h).words (tells_coming (asked t s).deed there))
+    → is_due t.role t.goes_on (after t s h).stage (after t s h).has_users (told_by (after t s h).words (tells_coming (asked t s).deed h there))
 due_step t s h there goes f u same e = grind arith
 
 users_step : (t : Terms) (s : State) (h : Happened) → fits t.role s.stage ≡ true → has_them t.role t.goes_on s.stage s.has_users → has_them t.role t.goes_on (after t s h).stage (after t s h).has_users
@@ -72,3 +72,22 @@ come t past session r same valid a = at_serve t (state_of t past) session (told_
 
 pub gone : (t : Terms) (past : List (Ask × Happened)) (n : ℕ) → t.role ≢ RemoteAwaits → t.session.is_followed ≡ t.goes_on → IsPast t past → (asks t past).deed ≡ deed.End n → told_by (asks t past).words (is_told_there past) ≡ false
 gone t past n r same valid a = at_end t (state_of t past) n (told_now past (state_of t past)) r a (told t past same valid).due
+
+-- ---- who is told to have gone
+
+known_step : (t : Terms) (s : State) (h : Happened) (there : Bool) → (t.role ≡ LocalCalls) ⊎ (t.role ≡ Link) → t.session.is_followed ≡ t.goes_on → is_end (asked t s).deed ≡ false → fits t.role s.stage ≡ true → tells_gone (after t s h).words ≡ true → tells_coming (asked t s).deed h there ≡ true
+known_step t s h there r same goes f e = grind arith
+
+record IsKnown (t : Terms) (past : List (Ask × Happened)) (s : State) : Type 0 where
+  fit : fits t.role s.stage ≡ true
+  known : tells_gone s.words ≡ true → is_told_there past ≡ true
+
+known_first : (t : Terms) → tells_gone (fresh t).words ≡ true → false ≡ true
+known_first t e = grind arith
+
+knows : (t : Terms) (past : List (Ask × Happened)) → (t.role ≡ LocalCalls) ⊎ (t.role ≡ Link) → t.session.is_followed ≡ t.goes_on → IsPast t past → IsKnown t past (state_of t past)
+knows t past r same = keeps t (λ past s. IsKnown t past s) (record { fit = fit_first t; known = known_first t })
+    (λ past s h goes e. record { fit = fit_step t s h e.fit; known = known_step t s h (told_now past s) r same goes e.fit }) past
+
+pub known : (t : Terms) (past : List (Ask × Happened)) → (t.role ≡ LocalCalls) ⊎ (t.role ≡ Link) → t.session.is_followed ≡ t.goes_on → IsPast t past → tells_gone (asks t past).words ≡ true → is_told_there past ≡ true
+known t past r same valid = (knows t past r same valid).known

@@ -200,7 +200,7 @@ NamesPlace peer peers users other = Unit {0}
 
 -- ---- notices
 
--- whether the peer of a session may be told to be there, behind this notice: not where it has gone
+-- whether the peer of a session is told to be there, behind this notice: not where it has gone
 abbrev pub told_there : Option Notice → Bool → Bool
 told_there (Some notice.PeerGone) before = false
 told_there other before = before
@@ -209,12 +209,21 @@ told_there other before = before
 abbrev pub told_by : Words → Bool → Bool
 told_by words before = told_there words.last (told_there words.reason (told_there words.first before))
 
--- a session that another follows tells that its peer has come, once that gives a sign of life
-abbrev pub tells_coming : Deed → Bool → Bool
-tells_coming (deed.Serve session) before = session.is_followed || before
-tells_coming other before = before
+-- a session that another follows has told that its peer has come, where it ended so
+abbrev pub tells_coming : Deed → Happened → Bool → Bool
+tells_coming (deed.Serve session) (SessionEnded how) before = (session.is_followed && how.is_coming_told) || before
+tells_coming other happened before = before
 
--- whether a peer may have been told to have come, and wasn't told to have gone since
+-- whether a peer was told to have come, and wasn't told to have gone since
 abbrev pub is_told_there : List (Ask × Happened) → Bool
 is_told_there [] = false
-is_told_there (entry ∷ past) = tells_coming entry.0.deed (told_by entry.0.words (is_told_there past))
+is_told_there (entry ∷ past) = tells_coming entry.0.deed entry.1 (told_by entry.0.words (is_told_there past))
+
+-- that the peer has gone which was told to have come
+abbrev pub is_gone : Option Notice → Bool
+is_gone (Some notice.PeerGone) = true
+is_gone other = false
+
+-- these words tell that
+abbrev pub tells_gone : Words → Bool
+tells_gone words = is_gone words.first || is_gone words.reason || is_gone words.last || is_gone words.cause

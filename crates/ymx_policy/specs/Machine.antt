@@ -125,11 +125,12 @@ after_closing t s AllCame = goes s stage.Over (record silence { first = gone_if 
 after_closing t s (NoUsers why) = no_users t s (gone_if (owes_gone t.role)) why
 after_closing t s other = goes s (behind_user t.role) silence
 
--- behind a session with this fault, for this reason, whose peer had gone away or hadn't: this pause is due before the next call
-abbrev pub parted : Terms → State → (why : Option Notice) → Option Fault → (away : Bool) → (pause : ℕ) → State
-parted t s why f away pause = record s {
+-- Behind a session with this fault, for this reason, whose peer was told to have come or wasn't, and had gone away or hadn't: this pause
+-- is due before the next call.
+abbrev pub parted : Terms → State → (came : Bool) → (why : Option Notice) → Option Fault → (away : Bool) → (pause : ℕ) → State
+parted t s came why f away pause = record s {
   stage = behind_session t.role t.goes_on away pause;
-  words = parting t.role t.goes_on why f;
+  words = parting t.role t.goes_on came why f;
   pause = pause;
   spares = spared away;
   has_faulted = s.has_faulted || is_some f;
@@ -138,10 +139,10 @@ parted t s why f away pause = record s {
 -- the session has ended, or could not begin
 abbrev pub after_serving : Terms → State → Happened → State
 after_serving t s (SessionEnded how) =
-    parted t s (first_reason t.users.address None how) (first_fault t.users.address (cannot_meet t.role s.peers) how) how.is_peer_away (if how.has_lasted then 0 else longer s.pause)
-after_serving t s LackedMemory = parted t s None (Some fault.OutOfMemory) false (longer s.pause)
-after_serving t s (Failed why) = parted t s (refusal (serving t.role t.users.address s.peers) why) (Some (cannot_meet t.role s.peers)) false (longer s.pause)
-after_serving t s other = parted t s None (Some (cannot_meet t.role s.peers)) false (longer s.pause)
+    parted t s how.is_coming_told (first_reason t.users.address None how) (first_fault t.users.address (cannot_meet t.role s.peers) how) how.is_peer_away (if how.has_lasted then 0 else longer s.pause)
+after_serving t s LackedMemory = parted t s false None (Some fault.OutOfMemory) false (longer s.pause)
+after_serving t s (Failed why) = parted t s false (refusal (serving t.role t.users.address s.peers) why) (Some (cannot_meet t.role s.peers)) false (longer s.pause)
+after_serving t s other = parted t s false None (Some (cannot_meet t.role s.peers)) false (longer s.pause)
 
 -- what happened at this stage leads here
 abbrev pub after_at : Stage → Terms → State → Happened → State

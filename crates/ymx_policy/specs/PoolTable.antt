@@ -31,7 +31,7 @@ has_links role = false
 
 -- a session in which nothing went wrong
 abbrev pub clean : SessionEnd
-clean = record { accept_failed = false; accept_reason = None; broken = None; peer = None; lacked_memory = false; is_unwatched = false; has_lasted = false; is_peer_away = false }
+clean = record { accept_failed = false; accept_reason = None; broken = None; peer = None; lacked_memory = false; is_unwatched = false; has_lasted = false; is_peer_away = false; is_coming_told = false }
 
 -- the first rule that was broken
 abbrev pub first_rule : Option ℕ → Option ℕ → Option ℕ
@@ -54,6 +54,7 @@ both a b = record {
   is_unwatched = a.is_unwatched || b.is_unwatched;
   has_lasted = a.has_lasted || b.has_lasted;
   is_peer_away = a.is_peer_away || b.is_peer_away;
+  is_coming_told = a.is_coming_told || b.is_coming_told;
 }
 
 -- ---- where it goes

@@ -106,13 +106,18 @@ abbrev pub owes_gone : Role → Bool
 owes_gone LocalAwaits = true
 owes_gone role = false
 
--- What is said behind a session with this fault, for this reason: without --keep no more. With it also that the peer has gone: by
--- `local` at first, by `remote` at last, and by one that awaits its peers not yet.
-abbrev pub parting : Role → (kept : Bool) → (why : Option Notice) → Option Fault → Words
-parting LocalCalls true why f = record { first = Some notice.PeerGone; reason = why; fault = f; last = None; cause = None; ending = None }
-parting Link true why f = record { first = Some notice.PeerGone; reason = why; fault = f; last = None; cause = None; ending = None }
-parting RemoteCalls true why f = record { first = None; reason = why; fault = f; last = Some notice.PeerGone; cause = None; ending = None }
-parting role kept why f = record { first = None; reason = why; fault = f; last = None; cause = None; ending = None }
+-- what `local` tells of a peer that it called and that has gone, where it was told to have come or wasn't
+abbrev pub farewell : (came : Bool) → Notice
+farewell true = notice.PeerGone
+farewell false = notice.PeerGoneSilent
+
+-- What is said behind a session with this fault, for this reason, whose peer was told to have come or wasn't: without --keep no more. With
+-- it also that the peer has gone: by `local` at first, by `remote` at last, and by one that awaits its peers not yet.
+abbrev pub parting : Role → (kept came : Bool) → (why : Option Notice) → Option Fault → Words
+parting LocalCalls true came why f = record { first = Some (farewell came); reason = why; fault = f; last = None; cause = None; ending = None }
+parting Link true came why f = record { first = Some (farewell came); reason = why; fault = f; last = None; cause = None; ending = None }
+parting RemoteCalls true came why f = record { first = None; reason = why; fault = f; last = Some notice.PeerGone; cause = None; ending = None }
+parting role kept came why f = record { first = None; reason = why; fault = f; last = None; cause = None; ending = None }
 
 -- ---- which fault it is
 

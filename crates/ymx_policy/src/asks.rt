@@ -105,6 +105,8 @@ pub enum Notice {
     PeerCame,
     /// The peer has gone.
     PeerGone,
+    /// The peer has gone, and gave no sign of life before.
+    PeerGoneSilent,
     /// The peer at this address can't be reached, and is called again.
     Unreached(SocketAddrV4),
     /// Who called from this address, if it is known, was closed, as peers may not call from there.
@@ -167,6 +169,8 @@ pub struct SessionEnd {
     pub has_lasted: bool,
     /// Its peer had said that it takes no more streams.
     pub is_peer_away: bool,
+    /// Its peer was told to have come.
+    pub is_coming_told: bool,
 }
 
 impl SessionEnd {
@@ -183,6 +187,7 @@ impl SessionEnd {
             is_unwatched: false,
             has_lasted: false,
             is_peer_away: false,
+            is_coming_told: false,
         }
     }
 }

@@ -476,6 +476,7 @@ fn both(a: SessionEnd, b: SessionEnd) -> SessionEnd
         is_unwatched: a.is_unwatched || b.is_unwatched,
         has_lasted: a.has_lasted || b.has_lasted,
         is_peer_away: a.is_peer_away || b.is_peer_away,
+        is_coming_told: a.is_coming_told || b.is_coming_told,
     }
 }
 

@@ -317,10 +317,10 @@ impl State {
 
     /// The session could not begin, for this reason.
     fn fail(&mut self, terms: &Terms, reason: Option<Notice>, fault: Fault)
-        ensures { self.new ≡ parted terms.now self.old reason (Some fault) false (longer self.old.pause) }
+        ensures { self.new ≡ parted terms.now self.old false reason (Some fault) false (longer self.old.pause) }
     {
         self.pause = longer(self.pause);
-        self.part(terms, reason, Some(fault), false);
+        self.part(terms, false, reason, Some(fault), false);
     }
 
     /// The session has ended so.
@@ -335,16 +335,23 @@ impl State {
         } else {
             longer(self.pause)
         };
-        self.part(terms, reason, fault, how.is_peer_away);
+        self.part(terms, how.is_coming_told, reason, fault, how.is_peer_away);
     }
 
-    /// Goes on behind a session with this fault, for this reason, whose peer took streams to its end or had gone away. Its pause
-    /// is due before the next call.
-    fn part(&mut self, terms: &Terms, reason: Option<Notice>, fault: Option<Fault>, is_away: bool)
-        ensures { self.new ≡ parted terms.now self.old reason fault is_away self.old.pause }
+    /// Goes on behind a session with this fault, for this reason, whose peer was told to have come or wasn't, and took streams
+    /// to its end or had gone away. Its pause is due before the next call.
+    fn part(
+        &mut self,
+        terms: &Terms,
+        is_coming_told: bool,
+        reason: Option<Notice>,
+        fault: Option<Fault>,
+        is_away: bool,
+    )
+        ensures { self.new ≡ parted terms.now self.old is_coming_told reason fault is_away self.old.pause }
     {
         self.stage = behind_session(terms.role, terms.goes_on, is_away, self.pause);
-        self.words = parting(terms.role, terms.goes_on, reason, fault);
+        self.words = parting(terms.role, terms.goes_on, is_coming_told, reason, fault);
         self.spares = spared(is_away);
         self.has_faulted = self.has_faulted || fault.is_some();
     }

@@ -1,7 +1,7 @@
 //! The tables that an end goes by: where it goes, what it says, and which fault it is.
 
 ghost use Rattle.std.specs.Prelude.{◌≡◌};
-ghost use Rattle.ymx_policy.specs.Table.{begins, begins_with_users, behind_peers, behind_users, behind_call, behind_session, behind_user, longer, spared, silence, tells, refusal, broken_rule, opened, gone_if, owes_gone, parting, serving, cannot_meet, first_fault, first_reason};
+ghost use Rattle.ymx_policy.specs.Table.{begins, begins_with_users, behind_peers, behind_users, behind_call, behind_session, behind_user, longer, spared, silence, tells, refusal, broken_rule, opened, gone_if, owes_gone, farewell, parting, serving, cannot_meet, first_fault, first_reason};
 
 use crate::asks::{Fault, Named, Notice, SessionEnd, Words};
 use crate::plan::Role;
@@ -186,14 +186,26 @@ pub(crate) fn owes_gone(role: Role) -> bool
     }
 }
 
-/// What it says behind a session with this fault, for this reason.
+/// What `local` tells of a peer that it called and that has gone.
+pub(crate) fn farewell(is_coming_told: bool) -> Notice
+    ensures { result ≡ farewell is_coming_told }
+{
+    if is_coming_told {
+        Notice::PeerGone
+    } else {
+        Notice::PeerGoneSilent
+    }
+}
+
+/// What it says behind a session with this fault, for this reason, whose peer was told to have come or wasn't.
 pub(crate) fn parting(
     role: Role,
     is_kept: bool,
+    is_coming_told: bool,
     reason: Option<Notice>,
     fault: Option<Fault>,
 ) -> Words
-    ensures { result ≡ parting role is_kept reason fault }
+    ensures { result ≡ parting role is_kept is_coming_told reason fault }
 {
     let mut words = Words {
         first: None,
@@ -205,7 +217,7 @@ pub(crate) fn parting(
     };
     if is_kept {
         match role {
-            Role::LocalCalls | Role::Link => words.first = Some(Notice::PeerGone),
+            Role::LocalCalls | Role::Link => words.first = Some(farewell(is_coming_told)),
             Role::RemoteCalls => words.last = Some(Notice::PeerGone),
             Role::LocalAwaits | Role::RemoteAwaits => {}
         }

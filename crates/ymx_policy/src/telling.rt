@@ -55,6 +55,7 @@ pub fn notice_text(notice: Notice) -> Text
         }
         Notice::PeerCame => text.push_str("ymx: the peer has come"),
         Notice::PeerGone => text.push_str("ymx: the peer has gone"),
+        Notice::PeerGoneSilent => text.push_str("ymx: the peer has gone without a sign of life"),
         Notice::Unreached(address) => {
             text.push_str("ymx: cannot reach ");
             push_address(&mut text, address);
