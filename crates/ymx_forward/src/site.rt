@@ -1,6 +1,6 @@
 //! Where an end runs its sessions: its runtime, its allocator, and the poll that tells it of events.
 
-ghost use Rattle.std.specs.Prelude.{◌≡◌, IfErr, IfOk, true};
+ghost use Rattle.std.specs.Prelude.{◌≡◌, IfErr, IfOk, false, true};
 ghost use Rattle.ymx_forward.specs.Calls.{RunsOver};
 ghost use Rattle.ymx_forward.specs.Counts.{CountsOne};
 ghost use Rattle.ymx_forward.specs.Sessions.{Serves};
@@ -184,7 +184,8 @@ impl<R: Net + Clock + Wait> Site<'_, R> {
 
 /// How a session ended of which nothing was done, for want of memory.
 pub(crate) fn lacking() -> SessionEnd
-    ensures { result.lacked_memory ≡ true }
+    ensures lacked { result.lacked_memory ≡ true }
+    ensures untold { result.is_coming_told ≡ false }
 {
     let mut how = SessionEnd::clean();
     how.lacked_memory = true;
@@ -193,7 +194,8 @@ pub(crate) fn lacking() -> SessionEnd
 
 /// How a session ended of which nothing was done, as the system refused to watch the peer.
 pub(crate) fn unwatched() -> SessionEnd
-    ensures { result.is_unwatched ≡ true }
+    ensures unwatched { result.is_unwatched ≡ true }
+    ensures untold { result.is_coming_told ≡ false }
 {
     let mut how = SessionEnd::clean();
     how.is_unwatched = true;

@@ -149,7 +149,8 @@ impl Unserved {
 
     /// How such a session ended, of which nothing was done.
     fn end(&self) -> SessionEnd
-        ensures { (result.is_unwatched || result.lacked_memory) ≡ true }
+        ensures failed { (result.is_unwatched || result.lacked_memory) ≡ true }
+        ensures untold { result.is_coming_told ≡ false }
     {
         match &self.why {
             Refused::Unmade(NewFault::OutOfMemory(_)) => lacking(),
@@ -185,6 +186,8 @@ impl Served {
         // It is the one to which that was refused.
         ensures number { result.number ≡ why.number }
         ensures unbegun { is_err result.finished ≡ true }
+        // Of no peer it is told that it has come.
+        ensures untold { result.how.is_coming_told ≡ false }
     {
         let how = why.end();
         Served {
@@ -203,6 +206,7 @@ impl Served {
         ensures number { self.new.number ≡ self.old.number }
         ensures finished { self.new.finished ≡ self.old.finished }
         ensures called { self.new.called ≡ self.old.called }
+        ensures told { self.new.how.is_coming_told ≡ self.old.how.is_coming_told }
     {
         self.how.has_lasted = has_lasted;
         self.how.peer = peer;
@@ -271,6 +275,8 @@ impl<'a> TunnelLoop<'a> {
         ensures end { IfOk result (λ made. made.tunnel_end.now ≡ tunnel_end.old) }
         ensures number { IfOk result (λ made. made.number ≡ number) }
         ensures called { IfOk result (λ made. made.called ≡ wire.socket.called) }
+        // Of its peer nothing was told.
+        ensures untold { IfOk result (λ made. made.is_coming_told ≡ false) }
         // It can't be made with this window, or there was no memory for it.
         ensures refused { IfErr result (λ fault. IsUnmade (role_at tunnel_end.old.side) asked fault.why) }
         ensures fault { IfErr result (λ fault. fault.number ≡ number) }
@@ -327,6 +333,8 @@ impl<'a> TunnelLoop<'a> {
         ensures lost { IfOk result.finished (λ finished. finished.was_left ≡ true → WasLost self.old.tunnel self.new.tunnel) }
         ensures broken { result.how.broken ≡ rule_of self.new.tunnel.engine.session.status }
         ensures away { result.how.is_peer_away ≡ self.new.tunnel.engine.session.away.there }
+        // Its peer was told to have come where those who watch were told so.
+        ensures told { result.how.is_coming_told ≡ self.new.is_coming_told }
     {
         let number = self.number;
         let called = self.called;
@@ -1258,6 +1266,7 @@ impl<'a> TunnelLoop<'a> {
         ensures broken { result.broken ≡ rule_of self.now.tunnel.engine.session.status }
         ensures unwatched { result.is_unwatched ≡ is_unwatched }
         ensures away { result.is_peer_away ≡ self.now.tunnel.engine.session.away.there }
+        ensures told { result.is_coming_told ≡ self.now.is_coming_told }
         ensures accepted { self.now.tunnel_end.now.is_kept ≡ false → has_failed self.now.tunnel_end.now.side ≡ true → result.accept_failed ≡ true }
     {
         SessionEnd {
@@ -1273,6 +1282,7 @@ impl<'a> TunnelLoop<'a> {
             is_unwatched,
             has_lasted: false,
             is_peer_away: self.tunnel.is_peer_away(),
+            is_coming_told: self.is_coming_told,
         }
     }
 }
