@@ -1,5 +1,6 @@
-"""Calls `ymx remote --bind` and `ymx local --bind` from where peers may call, and from elsewhere; with more peers than there
-are places; and with garbage. Looks who is let in, who is closed, at once and with nothing read, and how much is said of it.
+"""Calls `ymx remote --bind` and `ymx local --bind` from where peers may call, and from elsewhere; with more peers, or more
+links, than there are places; and with garbage. Looks who is let in, who is closed, at once and with nothing read, and how much
+is said of it.
 
 It says which tests failed, and nothing where none did. No test follows one that hangs.
 
@@ -27,6 +28,7 @@ PLACES = 16
 USERS, LINKS = 64, 32
 # So many don't speak yamux.
 BAD_CALLS = 2_000
+SILENT = "ymx: the peer has gone without a sign of life\n"
 LEFT_OUT = re.compile(r"ymx: (\d+) lines? like those before w(?:as|ere) left out\n")
 
 
@@ -128,15 +130,18 @@ def garbage():
 
 
 def more_links_than_places(*words):
-    """Each user has its bytes, by the links that have a place; also with `--keep`."""
+    """A `remote`, its `local`, which has more links than that has places, and where users connect to."""
     target, address = listen()
     threading.Thread(target=echo, args=(target,), daemon=True).start()
     far = Program("remote", "--keep", "--bind", ANY, "--target", address, "-v")
     peer = far.place()
     threading.Thread(target=far.process.stderr.read, daemon=True).start()
     near = Program("local", "-v", "--links", str(LINKS), "--listen", ANY, "--peer", peer, *words)
-    place = near.place()
-    threading.Thread(target=near.process.stderr.read, daemon=True).start()
+    return far, near, near.place()
+
+
+def ask_all(place):
+    """Each user has its bytes."""
     bad = []
     for _ in range(2):
         users = [threading.Thread(target=ask, args=(place, seed, bad)) for seed in range(USERS)]
@@ -147,6 +152,40 @@ def more_links_than_places(*words):
     assert not bad, f"{len(bad)} came back otherwise"
 
 
+def links_without_a_place():
+    """Users are served by the links that have a place."""
+    _, near, place = more_links_than_places()
+    threading.Thread(target=near.process.stderr.read, daemon=True).start()
+    ask_all(place)
+
+
+def what_is_told_of_them():
+    """With `--keep` too. It is told that a peer has gone once for each that was told to have come, and that one has without a
+    sign of life once in a second at most."""
+    since = time.monotonic()
+    far, near, place = more_links_than_places("--keep")
+    lines = []
+    reader = threading.Thread(target=lambda: lines.extend(line.decode() for line in near.process.stderr), daemon=True)
+    reader.start()
+    # One for each link, so that all are called, and as many as have a place serve.
+    users = [call(place) for _ in range(LINKS)]
+    for user in users:
+        user.sendall(b"!")
+        assert take(user, 1) == b"!"
+    ask_all(place)
+    seconds = time.monotonic() - since
+    assert GONE not in lines, "a peer is told to have gone that was never told to have come"
+    far.process.kill()
+    far.process.wait()
+    while lines.count(GONE) < PLACES:
+        time.sleep(0.01)
+    near.process.kill()
+    reader.join()
+    come, gone, silent = lines.count(COME), lines.count(GONE), lines.count(SILENT)
+    assert come == gone == PLACES, f"{come} have come, and {gone} have gone"
+    assert 1 <= silent <= int(seconds) + 1, f"{silent} times in {seconds} seconds"
+
+
 TESTS = (
     ("remote --from", only_from_there, ((f"{FRIEND}/32",),)),
     ("remote --keep --from", only_from_there, ((f"{FRIEND}/32",), "--keep")),
@@ -155,8 +194,8 @@ TESTS = (
     ("local --keep --from", of_local, ("--keep",)),
     ("silent ones", silent_ones, ()),
     ("garbage", garbage, ()),
-    ("more links than places", more_links_than_places, ()),
-    ("more links than places, with --keep", more_links_than_places, ("--keep",)),
+    ("links without a place", links_without_a_place, ()),
+    ("what is told of links without a place", what_is_told_of_them, ()),
 )
 
 if __name__ == "__main__":

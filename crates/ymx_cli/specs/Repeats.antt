@@ -4,13 +4,15 @@ use Rattle.std.specs.List.{list_any, starts_with}
 use Rattle.std.specs.Duration.{as_nanos}
 use Rattle.ymx_cli.specs.declared.repeats.RecentLine.{RecentLine}
 
--- The line may be left out: it says what a peer has done against the rules of yamux, or that somebody was closed who may not be a peer.
+-- The line may be left out: it says what a peer has done against the rules of yamux, that somebody was closed who may not be a peer, or
+-- that one has gone which gave no sign of life.
 abbrev pub may_repeat : List ℕ → Bool
 may_repeat line =
     starts_with nat_eq line (codes "ymx: B")
     || (starts_with nat_eq line (codes "ymx: session broken: B")
     || (starts_with nat_eq line (codes "ymx: closed a stranger")
-    || starts_with nat_eq line (codes "ymx: closed a peer too many")))
+    || (starts_with nat_eq line (codes "ymx: closed a peer too many")
+    || starts_with nat_eq line (codes "ymx: the peer has gone without a sign of life"))))
 
 -- a decimal digit
 abbrev pub is_digit : ℕ → Bool

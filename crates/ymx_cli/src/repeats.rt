@@ -105,4 +105,5 @@ fn may_repeat(line: &[u8]) -> bool
         || line.starts_with(b"ymx: session broken: B")
         || line.starts_with(b"ymx: closed a stranger")
         || line.starts_with(b"ymx: closed a peer too many")
+        || line.starts_with(b"ymx: the peer has gone without a sign of life")
 }
