@@ -19,7 +19,7 @@ def edits_of(folder):
     return [f"{wrong}/{it}" for it in names if it.endswith(".edit")]
 
 
-# ---- edits that can be tried together: each in the body of another function, none of which calls another
+# ---- edits that can be tried together: each in the body of another function
 
 HEAD = re.compile(r'^([ \t]*)(?:pub(?:\([a-z]+\))? )?(?:const )?(?:unsafe )?(?:extern "C" )?fn (\w+)', re.M)
 NAMES = re.compile(r"(?:note: )?(?:\./)?proofs/.*(has no field|is not in scope|has no `|was not admitted)")
@@ -69,39 +69,11 @@ def together(crate, changes):
     return texts
 
 
-def bodies_of(crate):
-    """The text of the functions of each name in the crate's sources."""
-    bodies = {}
-    for folder, _, files in os.walk(f"{crate.folder}/src"):
-        for file in (it for it in files if it.endswith(".rt")):
-            with open(f"{folder}/{file}", encoding="utf-8") as it:
-                text = it.read()
-            for name, start, end in functions_of(text):
-                bodies[name] = bodies.get(name, "") + text[start:end]
-    return bodies
-
-
-def called_by(crate):
-    """For each name of a function the names of those that it calls, and that these call, as far as a text tells."""
-    bodies = bodies_of(crate)
-    calls = {name: {it for it in re.findall(r"\b(\w+)\s*(?:::<[^>]*>)?\(", body) if it in bodies} for name, body in bodies.items()}
-    found = {}
-    for name in bodies:
-        found[name], left = set(), [name]
-        while left:
-            new = calls[left.pop()] - found[name]
-            found[name] |= new
-            left += new
-    return found
-
-
-def batches_of(changes, called):
-    """The changes in as few batches as may be: in a batch each is in a function of another name, and none calls another, since
-    a function that calls a refused one is not tried."""
+def batches_of(changes):
+    """The changes in as few batches as may be: in a batch each is in a function of another name."""
     batches = []
     for it in changes:
-        reached = called.get(it.function, set()) | {it.function}
-        batch = next((batch for batch in batches if not any(other.function in reached or it.function in called.get(other.function, ()) for other in batch)), None)
+        batch = next((batch for batch in batches if all(other.function != it.function for other in batch)), None)
         if batch is None:
             batches.append([it])
         else:
@@ -109,11 +81,19 @@ def batches_of(changes, called):
     return batches
 
 
+def is_refused(words, own):
+    """Whether the prover refuses a function for what its own body does, by these words of it and these errors in its own proofs.
+    One that calls another which isn't proved has its goals tried too, and is refused where one of them is open."""
+    if "`search` did not prove" in words or any(not NAMES.match(line) for line in own):
+        return True
+    return not own and "it calls `" not in words
+
+
 def judged(crate, batch, kept):
     """Tries a batch at once, and returns the changes whose own function the prover refused, each with what it said.
 
-    A change is left out where its function is proved, where the function was not tried because it calls another that
-    isn't proved, and where only a proof file that names what the edit took away refuses it.
+    A change is left out where its function is proved, where only another that it calls isn't, and where only a proof file
+    that names what the edit took away refuses it.
     """
     ran = rt.checked(crate, together(crate, batch), ["--jobs", "1"], kept)
     lines = ran.stdout.rstrip("\n").split("\n")
@@ -122,14 +102,12 @@ def judged(crate, batch, kept):
             return []
         half = len(batch) // 2
         return judged(crate, batch[:half], kept) + judged(crate, batch[half:], kept)
-    said, found = {}, []
-    for name, words in re.findall(r"^fn (?:\S+::)?(\w+): (.*)$", ran.stdout, re.M):
-        if words.startswith(("no proof", "not proved")) and "it calls `" not in words:
-            said[name] = words
+    unproved, found = re.findall(r"^fn (?:\S+::)?(\w+): ((?:no proof|not proved).*)$", ran.stdout, re.M), []
     for it in batch:
         own = [line for line in lines if re.search(rf"proofs/(\S+/)?{it.function}/", line) and ": error" in line]
-        if it.function in said and not (own and all(NAMES.match(line) for line in own)):
-            found.append((it, said[it.function]))
+        words = next((words for name, words in unproved if name == it.function and is_refused(words, own)), None)
+        if words:
+            found.append((it, words))
     return found
 
 
@@ -159,7 +137,7 @@ def try_crate(crate):
         return 0
     try:
         refused, left = 0, edits_of(crate.folder)
-        for batch in batches_of([it for it in (Change(crate, edit) for edit in left) if it.function], called_by(crate)):
+        for batch in batches_of([it for it in (Change(crate, edit) for edit in left) if it.function]):
             for it, words in judged(crate, batch, kept):
                 tell(f"{crate.name}/{os.path.basename(it.edit)}: refused, as it must be: {words[:160]}")
                 left.remove(it.edit)
