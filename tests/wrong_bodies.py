@@ -86,7 +86,7 @@ def is_refused(words, own):
     One that calls another which isn't proved has its goals tried too, and is refused where one of them is open."""
     if "`search` did not prove" in words or any(not NAMES.match(line) for line in own):
         return True
-    return not own and "it calls `" not in words
+    return not own and "it calls `" not in words and "borrow checker" not in words
 
 
 def judged(crate, batch, kept):
