@@ -35,6 +35,7 @@ pub mod Tending
 pub mod Resting
 pub mod Partaking
 mod Placing
+mod InPlace
 pub mod Turned
 pub mod Entering
 pub mod Flushing

@@ -35,16 +35,16 @@ use Rattle.ymx_engine.specs.Wires.{HandlesIn, TakesIn, has_starved}
 use Rattle.ymx_engine.specs.Moves.{Moves}
 use Rattle.ymx_engine.specs.Work.{Reads, WasOver, may_have_bytes}
 use Rattle.ymx_engine.proofs.Advancing.{feeds_some_so, offers_front}
-use Rattle.ymx_engine.proofs.Attending.{attends_on, runs_on}
+use Rattle.ymx_engine.proofs.Attending.{attends_on, reads_then, runs_on}
 use Rattle.ymx_engine.proofs.Carrying.{pulled_so, handles_none_so, loses_in_so, memory_same}
 use Rattle.ymx_engine.proofs.Coming.{happen_within}
 use Rattle.ymx_engine.proofs.Entries.{eq_ids, some_is}
 use Rattle.ymx_engine.proofs.Filling.{filled_room}
-use Rattle.ymx_engine.proofs.Queueing.{adds_behind_same, line_put_there, puts_then_same, extends_same, extends_added, keeps_then, others_put}
+use Rattle.ymx_engine.proofs.Queueing.{adds_behind_same, line_put_there, puts_then_same, extends_same, extends_added, keeps_counted, keeps_then, others_put}
 use Rattle.ymx_engine.proofs.Listing.{reads_reading}
 use Rattle.ymx_engine.proofs.Quiet.{both}
 use Rattle.ymx_engine.proofs.Running.{SameSeen, moves_same, moves_read_so, moves_handled, moves_passed_so, puts_look}
-use Rattle.ymx_engine.proofs.Tending.{serving_fed, serving_alike, serving_with, served_waits, but_of}
+use Rattle.ymx_engine.proofs.Tending.{serving_fed, serving_alike, serving_lines, serving_with, served_waits, but_of}
 use Rattle.ymx_engine.proofs.WaysAfter.{to_peer_was, from_peer_was, stop_breaks_to, stop_breaks_from}
 
 -- the device of each is what it was
@@ -151,8 +151,11 @@ ends : (r : Pulled) → (r ≡ pulled.Ended) ⊎ (r ≡ pulled.Failed) → (is_e
 ends r (inl e) = rw e refl
 ends r (inr e) = rw e refl
 
-runs_gave : (a b : Tunnel) → Reads a b → b.engine.session ≡ a.engine.session → b.lines ≡ a.lines → Reads a b × Runs a b
-runs_gave a b x session lines = (x, runs_on a b x.moves (serving_alike a b session lines) (subst (Extends a.lines) (sym lines) (extends_same a.lines)))
+counted : (a b : Lines) → b ≡ record a { turns_to_place = None } → KeepsLines a b
+counted a b e = subst (KeepsLines a) (sym e) (keeps_counted a None)
+
+runs_gave : (a b : Tunnel) → Reads a b → b.engine.session ≡ a.engine.session → b.lines ≡ record a.lines { turns_to_place = None } → Reads a b × Runs a b
+runs_gave a b x session lines = let kept = counted a.lines b.lines lines in (x, runs_on a b x.moves (serving_lines a b session kept) kept.queues)
 
 rests_pulled : (r : Pulled) (buffer : List ℕ) (a b : Tunnel) → IsPulled r buffer a.wire b.wire → SameLines a.lines b.lines → Rests a b
 rests_pulled r buffer a b x same = record {
@@ -164,7 +167,7 @@ rests_pulled r buffer a b x same = record {
 
 -- it gave some, or has none yet
 pub reads_gave : (r : Pulled) (buffer : List ℕ) (a b : Tunnel) → a.engine.incoming ≡ [] → IsPulled r buffer a.wire b.wire → one_read ≤ length buffer → b.engine.session ≡ a.engine.session → b.engine.outgoing ≡ a.engine.outgoing →
-    b.engine.incoming ≡ take (pulled_count r) buffer → ((n : ℕ) × (r ≡ pulled.Gave n)) ⊎ (r ≡ pulled.NotNow) → b.lines ≡ a.lines → b.has_lacked_memory ≡ a.has_lacked_memory → b.is_wire_over ≡ a.is_wire_over → Reads a b × Runs a b
+    b.engine.incoming ≡ take (pulled_count r) buffer → ((n : ℕ) × (r ≡ pulled.Gave n)) ⊎ (r ≡ pulled.NotNow) → b.lines ≡ record a.lines { turns_to_place = None } → b.has_lacked_memory ≡ a.has_lacked_memory → b.is_wire_over ≡ a.is_wire_over → Reads a b × Runs a b
 reads_gave r buffer a b none x room session outgoing incoming is lines memory over =
     runs_gave a b (reads_pulled r buffer a b b none x room session outgoing incoming (subst (λ (v : Bool). (h : HandlesIn v b.engine b.engine) × (has_starved h.events ≡ false)) (sym (goes_on r is)) (handles_none_so b.engine)) memory refl
     (λ id. ap (λ (v : Lines). option_map (λ (l : Line). l.seen) (line_of id v)) lines) (λ h. none_to_read b (pulled_off r buffer a.wire b.wire x h)) (λ h. inl (sym over ∙ h))) session lines
@@ -180,6 +183,10 @@ reads_lost r buffer a m b none x room session outgoing incoming is lines wire ov
       reads,
       (runs_on a b reads.moves (λ h. serves (serving_alike a m session lines h)) kept.queues, rests_pulled r buffer a b (subst (IsPulled r buffer a.wire) (sym wire) x) kept.lines),
     )
+
+-- then it is counted anew for how many turns the next frame waits
+pub reads_anew : (a b c : Tunnel) → Reads a b → Keeps b c → Reads a c
+reads_anew a b c x k = reads_then a b c x k.moves k.own k.wire k.over k.memory
 
 -- it was not called
 pub reads_none : (a : Tunnel) → (a.engine.incoming ≡ [] → may_have_bytes a ≡ true → ⊥) → Reads a a

@@ -489,3 +489,48 @@ piece_some id at left taken n count ns payload waits s t x least =
     let some = p.some in
     let k : at + count - at ≡ count = omega arith in
     let l : length (take (at + count - at) (drop at waits)) ≡ count = ap (λ (m : ℕ). length (take m (drop at waits))) k ∙ length-take-le count (drop at waits) p.within in omega arith
+
+-- ---- what lies in a row
+
+pub behind_fewer : (ns w : List ℕ) → length (behind_row ns w) ≤ length w
+unfolding behind_row
+behind_fewer [] w = omega arith
+behind_fewer (n ∷ ns) w = by (zero_or (sum ns)) (behind_fewer ns (drop (n + 12) w))
+  where
+    by : (sum ns ≡ 0) ⊎ (0 < sum ns) → length (behind_row ns (drop (n + 12) w)) ≤ length (drop (n + 12) w) → length (behind_row (n ∷ ns) w) ≤ length w
+    by (inl none) fewer = let l : length (behind_row (n ∷ ns) w) ≡ length w - n = ap length (row_ends n ns w none) ∙ length-drop n w in omega arith
+    by (inr some) fewer =
+        let l = ap length (row_goes n ns w some) in
+        let k = length-drop (n + 12) w in omega arith
+
+-- its first frame stands before what waits behind it
+pub behind_first : (n : ℕ) (ns w : List ℕ) → n ≤ length w → n + length (behind_row (n ∷ ns) w) ≤ length w
+behind_first n ns w within = by (zero_or (sum ns))
+  where
+    by : (sum ns ≡ 0) ⊎ (0 < sum ns) → n + length (behind_row (n ∷ ns) w) ≤ length w
+    by (inl none) = let l : length (behind_row (n ∷ ns) w) ≡ length w - n = ap length (row_ends n ns w none) ∙ length-drop n w in omega arith
+    by (inr some) =
+        let l = ap length (row_goes n ns w some) in
+        let fewer = behind_fewer ns (drop (n + 12) w) in
+        let k = length-drop (n + 12) w in omega arith
+
+pub behind_at : (r : Row) (i : ℕ) (items w rest : List ℕ) → items ≡ counts_of r → i < 4 → behind_row (drop i items) w ≡ rest → behind_row (get_or items i 0 ∷ drop (i + 1) items) w ≡ rest
+behind_at r i items w rest is inside x =
+    let all : length items ≡ 4 = ap length is in
+    let within : i < length items = omega arith in
+    let e : drop i items ≡ get_or items i 0 ∷ drop (i + 1) items = rw (add-one, drop-cons items i 0) refl in
+    subst (λ (v : List ℕ). behind_row v w ≡ rest) e x
+
+pub ends_within : (id at left taken n count : ℕ) (ns payload waits rest : List ℕ) (s t : Session) → Going id at left taken (n ∷ ns) payload waits s t → count ≡ min left n → behind_row (n ∷ ns) (drop at waits) ≡ rest → at + count + length rest ≤ length waits
+ends_within id at left taken n count ns payload waits rest s t x least e =
+    let l : length (behind_row (n ∷ ns) (drop at waits)) ≡ length rest = ap length e in
+    let fits = behind_first n ns (drop at waits) x.row.1 in
+    let k : length (drop at waits) ≡ length waits - at = length-drop at waits in
+    let w = x.within in omega arith
+
+pub behind_on : (id at left taken n count : ℕ) (ns payload waits rest : List ℕ) (s t : Session) → Going id at left taken (n ∷ ns) payload waits s t → count ≡ min left n → count < left → behind_row (n ∷ ns) (drop at waits) ≡ rest → behind_row ns (drop (at + count + 12) waits) ≡ rest
+behind_on id at left taken n count ns payload waits rest s t x least less e =
+    let more = (going_piece id at left taken n count ns payload waits s t x least).more less in
+    let all = more.0 in
+    let k : at + (n + 12) ≡ at + count + 12 = omega arith in
+    sym (row_goes n ns (drop at waits) more.1 ∙ ap (behind_row ns) (drop-drop (n + 12) at waits ∙ ap (λ (m : ℕ). drop m waits) k)) ∙ e

@@ -1,5 +1,5 @@
 -- That of the bytes which are fed at once none stands behind a header that takes the last place.
-use Rattle.std.proofs.Common.{◌≡◌, ℕ, ◌+◌, ◌-◌, ◌*◌, ◌<◌, ◌≤◌, ◌==◌, ◌||◌, ◌&&◌, List, [], ◌∷◌, ◌++◌, length, length-append, take, drop, max, min, not, Bool, true, false, Option, None, Some, refl, sym, ap, ◌∙◌, subst, arith, if◌then◌else◌, nat_lt}
+use Rattle.std.proofs.Common.{◌≡◌, ◌⊎◌, inl, inr, ℕ, ◌+◌, ◌-◌, ◌*◌, ◌<◌, ◌≤◌, ◌==◌, ◌||◌, ◌&&◌, List, [], ◌∷◌, ◌++◌, length, length-append, take, drop, max, min, not, Bool, true, false, Option, None, Some, refl, sym, ap, ◌∙◌, subst, arith, if◌then◌else◌, nat_lt}
 use Rattle.std.proofs.lemmas.Bool.Decides.{nat_tests}
 use Rattle.std.proofs.lemmas.Grind.{common_steps}
 use Rattle.ymx_header.specs.declared.fault.Fault.{Fault}
@@ -118,26 +118,19 @@ record Falls (s t : Session) : Type 0 where
   pub less : feed_limit s ≤ feed_limit t + 1
   pub last : 1 < feed_limit s → is_full_between t ≡ false
 
-first_off : (a b c : Bool) → a ≡ false → (a && b && c) ≡ false
-first_off false b c e = refl
-first_off true b c e = let odd : false ≡ true = sym e in absurd cc
-
-second_off : (a b c : Bool) → b ≡ false → (a && b && c) ≡ false
-second_off true false c e = refl
-second_off false false c e = refl
-second_off a true c e = let odd : false ≡ true = sym e in absurd cc
-
-third_off : (a b c : Bool) → c ≡ false → (a && b && c) ≡ false
-third_off true true false e = refl
-third_off true false false e = refl
-third_off false b false e = refl
-third_off a b true e = let odd : false ≡ true = sym e in absurd cc
+pub one_off : (a b c : Bool) → (a ≡ false) ⊎ ((b ≡ false) ⊎ (c ≡ false)) → (a && b && c) ≡ false
+one_off false b c h = refl
+one_off true false c h = refl
+one_off true true false h = refl
+one_off true true true (inl e) = e
+one_off true true true (inr (inl e)) = e
+one_off true true true (inr (inr e)) = e
 
 has_place : (t : Session) → 0 < records_left t → is_full_between t ≡ false
-has_place t some = third_off (is_running t.status) (is_between t.incoming) (records_left t == 0) (grind (arith, nat_tests, some))
+has_place t some = one_off (is_running t.status) (is_between t.incoming) (records_left t == 0) (inr (inr (grind (arith, nat_tests, some))))
 
 is_inside : (t : Session) → is_between t.incoming ≡ false → is_full_between t ≡ false
-is_inside t e = second_off (is_running t.status) (is_between t.incoming) (records_left t == 0) e
+is_inside t e = one_off (is_running t.status) (is_between t.incoming) (records_left t == 0) (inr (inl e))
 
 within_header : (xs : List ℕ) (b : ℕ) → is_between (Head (xs ++ b ∷ [])) ≡ false
 within_header [] b = refl
@@ -197,7 +190,7 @@ deaf_stops (Broken fault) e = refl
 deaf_stops Closed e = refl
 
 falls_deaf : (s : Session) → is_deaf s.status ≡ true → Falls s s
-falls_deaf s d = let off = deaf_stops s.status d in record { less = omega arith; last = λ many. first_off (is_running s.status) (is_between s.incoming) (records_left s == 0) off }
+falls_deaf s d = let off = deaf_stops s.status d in record { less = omega arith; last = λ many. one_off (is_running s.status) (is_between s.incoming) (records_left s == 0) (inl off) }
 
 byte_falls : (no_memory : Bool) (b : ℕ) (s : Session) → Falls s (byte_comes no_memory b s)
 byte_falls no_memory b s = split (Falls s) (is_deaf s.status) s (byte_in no_memory b s s.incoming) (λ d. falls_deaf s d) (λ d. byte_in_falls no_memory b s s.incoming refl)

@@ -130,7 +130,7 @@ pub due_kept : (lacks : Bool) (a b : Lines) → b ≡ record a { turns_to_place 
 due_kept lacks a b e id due = subst (IsDue id) (sym e) (due_at lacks a id due)
 
 -- with none counted each that waits is due
-due_first : (a : Lines) → a.turns_to_place ≡ None → (id : ℕ) → Waits id a → IsDue id a
+pub due_first : (a : Lines) → a.turns_to_place ≡ None → (id : ℕ) → Waits id a → IsDue id a
 due_first a none id waits =
     let far = waits_behind id a waits in
     let few = behind_few id far.0 a far.1 in

@@ -9,6 +9,7 @@ pub mod Refusals
 pub mod Wires
 pub mod Passes
 pub mod Places
+pub mod InPlace
 pub mod Tunnels
 pub mod Lives
 pub mod Serves

@@ -292,6 +292,7 @@ impl<D: Device + Drop> Lines<D> {
         // The other queue stays.
         ensures in_fresh { queue ≡ Queue.Fresh → self.new.busy ≡ self.old.busy }
         ensures in_busy { queue ≡ Queue.Busy → self.new.fresh ≡ self.old.fresh }
+        ensures place { self.new.turns_to_place ≡ self.old.turns_to_place }
     {
         if let Some(found) = self.by_id.get_mut(&id) {
             if !found.is_queued {
@@ -389,7 +390,8 @@ impl<D: Device + Drop> Lines<D> {
 
     /// Those that missed a turn have something to move.
     pub(crate) fn enqueue_missed(&mut self)
-        ensures { KeepsLines self.old self.new }
+        ensures keeps { KeepsLines self.old self.new }
+        ensures place { self.new.turns_to_place ≡ self.old.turns_to_place }
     {
         if self.missed.is_some() {
             self.missed = None;
@@ -402,6 +404,7 @@ impl<D: Device + Drop> Lines<D> {
         ensures keeps { KeepsLines self.old self.new }
         ensures held { self.new.held ≡ self.old.held }
         ensures all { (id : ℕ) → IsSome (line_of id self.old) → Awaits id self.new }
+        ensures place { self.new.turns_to_place ≡ self.old.turns_to_place }
     {
         'place: for place in 0..self.by_id.len() {
             let Some(id) = self.id_at(place) else {
@@ -425,7 +428,7 @@ impl<D: Device + Drop> Lines<D> {
     }
 
     /// For so many turns the next frame still waits for a place.
-    fn count_turns(&mut self, turns: Option<u128>)
+    pub(crate) fn count_turns(&mut self, turns: Option<u128>)
         ensures { self.new ≡ record self.old { turns_to_place = turns } }
     {
         self.turns_to_place = turns;

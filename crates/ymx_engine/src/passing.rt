@@ -1,8 +1,8 @@
 //! Offers payload straight to its device.
 
-ghost use Rattle.std.specs.Prelude.{ℕ, ◌≡◌, ◌<◌, ◌≤◌, length, take, drop, nat_eq, false};
+ghost use Rattle.std.specs.Prelude.{ℕ, ◌≡◌, ◌+◌, ◌<◌, ◌≤◌, length, take, drop, nat_eq, false};
 ghost use Rattle.ymx_model.specs.session.Feeds.{is_stuck};
-ghost use Rattle.ymx_engine.specs.Passes.{IsRow, OffersOnce, Settles, payload_of};
+ghost use Rattle.ymx_engine.specs.Passes.{IsRow, OffersOnce, Settles, behind_row, counts_of, payload_of};
 ghost use Rattle.ymx_engine.specs.Served.{GainsNone};
 
 use crate::calls::pass;
@@ -24,6 +24,8 @@ pub(crate) fn offer<D: Device>(
     requires row { IsRow row waits.now session.old }
     requires some { 0 < row.first }
     ensures offered { OffersOnce row.id waits.now result session.old session.new (D.seen device.old) (D.seen device.new) ways.old ways.new }
+    // What came lies in the row.
+    ensures in_row { result + length (behind_row (counts_of row) waits.now) ≤ length waits.now }
     ensures goes_on { result ≡ 0 → is_stuck session.new ≡ false }
     ensures others { (other : ℕ) → nat_eq row.id other ≡ false → GainsNone other session.old session.new }
     ensures status { session.new.status ≡ session.old.status }
@@ -47,6 +49,7 @@ fn settle(session: &mut Session, row: Row, waits: &[u8], taken: usize) -> usize
     requires within { taken ≤ length (payload_of row waits.now) }
     ensures within { result ≤ length waits.now }
     ensures some { 0 < result }
+    ensures in_row { result + length (behind_row (counts_of row) waits.now) ≤ length waits.now }
     ensures settled { Settles row.id (take taken (payload_of row waits.now)) waits.now (drop result waits.now) session.old session.new }
     ensures others { (other : ℕ) → nat_eq row.id other ≡ false → GainsNone other session.old session.new }
     ensures status { session.new.status ≡ session.old.status }

@@ -14,6 +14,7 @@ ghost use Rattle.ymx_engine.specs.Exchanges.{has_bytes};
 ghost use Rattle.ymx_engine.specs.Moves.{Moves};
 ghost use Rattle.ymx_engine.specs.Passes.{IsRow, row_len};
 ghost use Rattle.ymx_engine.specs.Places.{is_put_off, may_open, lacks_place, feed_limit, IsFedOrWaits, FeedsToFull};
+ghost use Rattle.ymx_engine.specs.InPlace.{OffersRow, PassesRow, PullsWire, ReadsInPlace};
 ghost use Rattle.ymx_engine.specs.Runs.{Runs, Stays, Rests};
 ghost use Rattle.ymx_engine.specs.Served.{Serving};
 ghost use Rattle.ymx_engine.specs.Steps.{Keeps, ReadsOn, StaysOver};
@@ -49,6 +50,10 @@ impl<D: Device + Drop, W: Device + Drop> Tunnel<D, W> {
         // As long as the next frame waits for a place, nothing comes, and each connection is due that was to have its turn before it.
         ensures waits { is_put_off self.old ≡ true → (self.new.engine ≡ self.old.engine) × (self.new.wire ≡ self.old.wire) }
         ensures due { is_put_off self.old ≡ true → (id : ℕ) → IsDue id self.old.lines → IsDue id self.new.lines }
+        // Where a frame comes to wait at this call, each connection that waits for a turn then has it before the frame comes.
+        ensures first { is_put_off self.old ≡ false → is_put_off self.new ≡ true → (id : ℕ) → Waits id self.new.lines → IsDue id self.new.lines }
+        // Nothing happens but steps that feed no byte of a frame while it waits.
+        ensures placed { ReadsInPlace self.old self.new }
     {
         self.pull_wire();
         // each row that is passed on has a byte at least
@@ -68,13 +73,17 @@ impl<D: Device + Drop, W: Device + Drop> Tunnel<D, W> {
         ensures rests { Rests self.old self.new }
         ensures reads { Reads self.old self.new }
         ensures full { has_bytes self.old.engine.incoming ≡ true → self.new ≡ self.old }
+        ensures pulls { (self.new ≡ self.old) ⊎ PullsWire self.old self.new }
     {
         if !self.incoming.waiting().is_empty() || !self.wire.may_pull() || self.is_wire_over {
             return;
         }
         match self.incoming.pull_from(&mut self.wire) {
-            Pulled::Gave(_) | Pulled::NotNow => {}
-            Pulled::Ended | Pulled::Failed => self.lose(),
+            Pulled::Gave(_) | Pulled::NotNow => self.lines.count_turns(None),
+            Pulled::Ended | Pulled::Failed => {
+                self.lose();
+                self.lines.count_turns(None);
+            }
         }
     }
 
@@ -101,12 +110,16 @@ impl<D: Device + Drop, W: Device + Drop> Tunnel<D, W> {
     /// making. It is worth one where `least` bytes of the frame wait, or where a row fills a call.
     fn advance(&mut self, least: usize) -> Option<Row>
         ensures keeps { Keeps self.old self.new }
+        ensures placed { ReadsInPlace self.old self.new }
         // It stops where a row may be passed on, or where the session takes no more now.
         ensures row { IfSome result (λ row. IsRow row self.new.engine.incoming self.new.engine.session × (0 < row.first)) }
         ensures rest { IfNone result (IsFedOrWaits self.new) }
         ensures few { length self.new.engine.incoming ≤ length self.old.engine.incoming }
         ensures waits { is_put_off self.old ≡ true → (result ≡ None) × (self.new.engine ≡ self.old.engine) }
         ensures due { is_put_off self.old ≡ true → (id : ℕ) → IsDue id self.old.lines → IsDue id self.new.lines }
+        // Where a frame comes to wait, each connection that waits for a turn then has it before the frame comes.
+        ensures first { (is_put_off self.old ≡ false) ⊎ (self.old.lines.turns_to_place ≡ None) → is_put_off self.new ≡ true → (id : ℕ) → Waits id self.new.lines → IsDue id self.new.lines }
+        ensures anew { IfSome result (λ row. self.new.lines.turns_to_place ≡ None) }
     {
         // each turn that goes on feeds a byte at least
         let turns = self.incoming.waiting().len().max(1);
@@ -145,7 +158,7 @@ impl<D: Device + Drop, W: Device + Drop> Tunnel<D, W> {
         ensures keeps { Keeps self.old self.new }
         ensures engine { self.new.engine ≡ self.old.engine }
         // So many turns it waits, at most.
-        ensures counts { self.new.lines.turns_to_place ≡ (if lacks_place self.old.engine then Some (turns_left self.old.lines) else None) }
+        ensures counts { self.new.lines ≡ record self.old.lines { turns_to_place = if lacks_place self.old.engine then Some (turns_left self.old.lines) else None } }
         // Who waits for a turn as the frame comes to wait has it before the frame comes, and so has who was to have it before.
         ensures first { self.old.lines.turns_to_place ≡ None → (id : ℕ) → Waits id self.old.lines → IsDue id self.new.lines }
         ensures due { (id : ℕ) → IsDue id self.old.lines → IsDue id self.new.lines }
@@ -185,6 +198,8 @@ impl<D: Device + Drop, W: Device + Drop> Tunnel<D, W> {
         ensures rest { result ≡ false → (self.new.engine.incoming ≡ []) ⊎ ((is_stuck self.new.engine.session ≡ true) ⊎ IsSome (passing self.new.engine.session)) }
         ensures few { length self.new.engine.incoming ≤ length self.old.engine.incoming }
         ensures placed { FeedsToFull self.old.engine self.new.engine }
+        // The next frame has not waited yet.
+        ensures anew { self.new.lines.turns_to_place ≡ None }
     {
         let limit = self.feed_limit();
         let fed = self
@@ -203,7 +218,9 @@ impl<D: Device + Drop, W: Device + Drop> Tunnel<D, W> {
         ensures keeps { Keeps self.old self.new }
         ensures some { is_stuck self.old.engine.session ≡ false → 0 < most → 0 < length self.old.engine.incoming → length self.new.engine.incoming < length self.old.engine.incoming }
         ensures few { length self.new.engine.incoming ≤ length self.old.engine.incoming }
+        ensures most { length self.old.engine.incoming ≤ length self.new.engine.incoming + most }
         ensures placed { FeedsToFull self.old.engine self.new.engine }
+        ensures anew { self.new.lines.turns_to_place ≡ None }
     {
         let lack = (self.session.payload_left() as usize).max(1);
         let fed = self
@@ -222,6 +239,7 @@ impl<D: Device + Drop, W: Device + Drop> Tunnel<D, W> {
         ensures lines { KeepsLines self.old.lines self.new.lines }
         ensures memory { self.new.has_lacked_memory ≡ (self.old.has_lacked_memory || lacks_memory) }
         ensures all { is_running self.new.engine.session.status ≡ false → (id : ℕ) → IsSome (line_of id self.new.lines) → Awaits id self.new.lines }
+        ensures place { self.new.lines.turns_to_place ≡ self.old.lines.turns_to_place }
     {
         self.has_lacked_memory |= lacks_memory;
         self.lines.enqueue_missed();
@@ -244,6 +262,8 @@ impl<D: Device + Drop, W: Device + Drop> Tunnel<D, W> {
         ensures closed { StaysOver self.old.lines self.new.lines }
         // Less of it waits behind the call.
         ensures some { length self.new.engine.incoming < length self.old.engine.incoming }
+        // What came lies in the row.
+        ensures passed { PassesRow row self.old self.new }
     {
         let taken = self.offer(row);
         if taken < row.count() {
@@ -263,6 +283,7 @@ impl<D: Device + Drop, W: Device + Drop> Tunnel<D, W> {
         ensures over { self.new.is_wire_over ≡ self.old.is_wire_over }
         ensures closed { StaysOver self.old.lines self.new.lines }
         ensures taken { length self.new.engine.incoming + result ≡ length self.old.engine.incoming }
+        ensures passed { OffersRow row result self.old self.new }
         ensures goes_on { result ≡ 0 → is_stuck self.new.engine.session ≡ false }
     {
         let taken = self

@@ -1,10 +1,10 @@
 //! What the connection of a stream does in its turn, and with payload that is passed on.
 
-ghost use Rattle.std.specs.Prelude.{ℕ, ◌≡◌, ◌<◌, ◌≤◌, ◌&&◌, not, length, nat_eq, false, None, Some, IfSome, IfNone};
+ghost use Rattle.std.specs.Prelude.{ℕ, ◌≡◌, ◌+◌, ◌<◌, ◌≤◌, ◌&&◌, not, length, nat_eq, false, None, Some, IfSome, IfNone};
 ghost use Rattle.std.specs.Option.{option_map_or};
 ghost use Rattle.ymx_model.specs.session.Feeds.{is_stuck};
 ghost use Rattle.ymx_engine.specs.Devices.{one_read};
-ghost use Rattle.ymx_engine.specs.Passes.{IsRow};
+ghost use Rattle.ymx_engine.specs.Passes.{IsRow, behind_row, counts_of};
 ghost use Rattle.ymx_engine.specs.Served.{GainsNone};
 ghost use Rattle.ymx_engine.specs.Serves.{Turn};
 ghost use Rattle.ymx_engine.specs.Steps.{TakesPart, PassesPart, OffersPart};
@@ -116,6 +116,8 @@ impl<D: Device + Drop> Lines<D> {
         requires row { IsRow row waits.now session.old }
         requires some { 0 < row.first }
         ensures passed { PassesPart row.id waits.now session.old session.new self.old self.new result }
+        ensures in_row { result + length (behind_row (counts_of row) waits.now) ≤ length waits.now }
+        ensures place { self.new.turns_to_place ≡ self.old.turns_to_place }
         ensures goes_on { result ≡ 0 → is_stuck session.new ≡ false }
         ensures others { (other : ℕ) → nat_eq row.id other ≡ false → GainsNone other session.old session.new }
         ensures status { session.new.status ≡ session.old.status }
@@ -133,6 +135,8 @@ impl<D: Device + Drop> Lines<D> {
         requires row { IsRow row waits.now session.old }
         requires some { 0 < row.first }
         ensures offered { (was : LineValue) → line_of row.id self.old ≡ Some was → OffersPart row.id was waits.now session.old session.new self.old self.new result }
+        ensures in_row { result + length (behind_row (counts_of row) waits.now) ≤ length waits.now }
+        ensures place { self.new.turns_to_place ≡ self.old.turns_to_place }
         ensures none { line_of row.id self.old ≡ None → (self.new ≡ self.old) × (session.new ≡ session.old) × (result ≡ 0) }
         ensures queues { SameQueues self.old self.new }
         ensures goes_on { result ≡ 0 → is_stuck session.new ≡ false }

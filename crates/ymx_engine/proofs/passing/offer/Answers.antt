@@ -1,8 +1,8 @@
-use Rattle.std.proofs.Common.{◌<◌, refl}
-use Rattle.ymx_engine.specs.Passes.{payload_of}
+use Rattle.std.proofs.Common.{◌<◌, refl, arith}
+use Rattle.ymx_engine.specs.Passes.{counts_of, payload_of}
 use Rattle.ymx_engine.proofs.Advancing.{offered_none, offered_some, offered_failed}
 use Rattle.ymx_engine.proofs.Gaining.{reset_gains}
-use Rattle.ymx_engine.proofs.Rows.{row_some}
+use Rattle.ymx_engine.proofs.Rows.{behind_fewer, row_some}
 use Rattle.ymx_engine.proofs.Steady.{reset_stays}
 use Rattle.ymx_engine.proofs.passing.offer.Goals as goal
 
@@ -25,3 +25,9 @@ returns-in-Failed-clause-others g c = let h = c.reset_and_shut.ensures.reset in 
 
 pub returns-in-Failed-clause-status : goal.returns-in-Failed-clause-status
 returns-in-Failed-clause-status g c = let h = c.reset_and_shut.ensures.reset in reset_stays c.args.row.id h.0 _ _ h.1
+
+pub returns-in-NotNow-clause-in_row : goal.returns-in-NotNow-clause-in_row
+returns-in-NotNow-clause-in_row g c = let fewer = behind_fewer (counts_of c.args.row) c.args.waits.now in omega (arith, fewer)
+
+pub returns-in-Failed-clause-in_row : goal.returns-in-Failed-clause-in_row
+returns-in-Failed-clause-in_row g c = let fewer = behind_fewer (counts_of c.args.row) c.args.waits.now in omega (arith, fewer)

@@ -10,4 +10,5 @@ invariant-place g l =
     KeepsLines l.initial.self l.self
     × (l.self.held ≡ l.initial.self.held)
     × (keys_of l.self.by_id ≡ keys_of l.initial.self.by_id)
+    × (l.self.turns_to_place ≡ l.initial.self.turns_to_place)
     × FirstAll (λ id. IsSome (line_of id l.initial.self) → Awaits id l.self) l.place (keys_of l.initial.self.by_id)

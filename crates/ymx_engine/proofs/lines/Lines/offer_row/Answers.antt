@@ -1,8 +1,10 @@
-use Rattle.std.proofs.Common.{ap, ◌∙◌, refl, sym}
+use Rattle.std.proofs.Common.{ap, ◌∙◌, refl, sym, arith}
+use Rattle.ymx_engine.specs.Passes.{counts_of}
 use Rattle.ymx_engine.specs.Turns.{Lines}
 use Rattle.ymx_engine.proofs.Entries.{is_some_at, no_some, line_found, line_none}
 use Rattle.ymx_engine.proofs.Marking.{in_place}
 use Rattle.ymx_engine.proofs.Readings.{offers_part}
+use Rattle.ymx_engine.proofs.Rows.{behind_fewer}
 use Rattle.ymx_engine.proofs.lines.Lines.offer_row.Goals as goal
 
 pub invariant_of-self-2 : goal.invariant_of-self-2
@@ -23,3 +25,6 @@ returns-clause-none g c = λ none. no_some (sym (line_found g.D.Device.seen c.se
 
 pub returns-in_default-clause-offered : goal.returns-in_default-clause-offered
 returns-in_default-clause-offered g c = λ was is. no_some (sym is ∙ line_none g.D.Device.seen c.self.inside.by_id.entries c.args.row.id c.args.self.now (ap (λ (t : Lines). t.by_id) c.self.view_is) (sym c.in_default.ensures.value))
+
+pub returns-in_default-clause-in_row : goal.returns-in_default-clause-in_row
+returns-in_default-clause-in_row g c = let fewer = behind_fewer (counts_of c.args.row) c.args.waits.now in omega (arith, fewer)

@@ -1,15 +1,16 @@
-use Rattle.std.proofs.Common.{◌≡◌, ◌∙◌, ◌+◌, ◌<◌, ◌≤◌, length, false, refl, ap, sym, subst, arith, inl}
+use Rattle.std.proofs.Common.{◌≡◌, ◌∙◌, ◌+◌, ◌<◌, ◌≤◌, length, false, refl, ap, sym, subst, arith, inl, inr}
 use Rattle.ymx_model.specs.session.Feeds.{is_stuck}
 use Rattle.ymx_engine.specs.Engines.{Engine}
 use Rattle.ymx_engine.specs.Tunnels.{Tunnel}
 use Rattle.ymx_engine.specs.Turns.{IsDue}
 use Rattle.ymx_engine.proofs.Attending.{keeps_none, keeps_on}
 use Rattle.ymx_engine.proofs.Feeding.{takes_payload}
+use Rattle.ymx_engine.proofs.InPlace.{first_asked, first_ends, first_fed, free_inside, in_place_asked, in_place_fed, in_place_none}
 use Rattle.ymx_engine.proofs.Placing.{fed_or_stuck, never_off}
 use Rattle.ymx_engine.proofs.tunnel.Tunnel.advance.Goals as goal
 
 pub payload-init : goal.payload-init
-payload-init g c = record { keeps = keeps_none _; waits = λ off. refl; few = omega arith }
+payload-init g c = record { keeps = keeps_none _; waits = λ off. refl; placed = in_place_none _; anew = inl refl; few = omega arith }
 
 pub returns-then-puts_off_next-clause-keeps : goal.returns-then-puts_off_next-clause-keeps
 returns-then-puts_off_next-clause-keeps g c = keeps_on _ _ _ c.payload.invariant.keeps c.puts_off_next.ensures.keeps
@@ -19,7 +20,8 @@ payload-preserved-then-feed_to_payload g c =
     let fewer = c.feed_to_payload.ensures.goes_on c.if-feed_to_payload.true in
     let same : length c.puts_off_next.new.self.engine.incoming ≡ length c.payload.self.engine.incoming = ap (λ (e : Engine). length e.incoming) c.puts_off_next.ensures.engine in
     let before = c.payload.invariant.few in
-    record { keeps = keeps_on _ _ _ c.payload.invariant.keeps (keeps_on _ _ _ c.puts_off_next.ensures.keeps c.feed_to_payload.ensures.keeps); waits = λ off. let no : ⊥ = never_off _ _ _ (c.payload.invariant.waits off) off c.puts_off_next.ensures.exact c.if-puts_off_next.false in absurd no; few = omega (arith, fewer, same, before) }
+    let free = c.puts_off_next.ensures.same ∙ sym c.puts_off_next.ensures.exact ∙ c.if-puts_off_next.false in
+    record { keeps = keeps_on _ _ _ c.payload.invariant.keeps (keeps_on _ _ _ c.puts_off_next.ensures.keeps c.feed_to_payload.ensures.keeps); waits = λ off. let no : ⊥ = never_off _ _ _ (c.payload.invariant.waits off) off c.puts_off_next.ensures.exact c.if-puts_off_next.false in absurd no; placed = in_place_fed _ _ _ (in_place_asked _ _ _ c.payload.invariant.placed c.puts_off_next.ensures.engine c.puts_off_next.ensures.counts) free c.feed_to_payload.ensures.placed c.feed_to_payload.ensures.keeps c.feed_to_payload.ensures.anew; anew = inr c.feed_to_payload.ensures.anew; few = omega (arith, fewer, same, before) }
 
 pub payload-preserved : goal.payload-preserved
 payload-preserved g c =
@@ -33,7 +35,8 @@ payload-preserved g c =
     let less : length c.feed_to_payload.new.self.engine.incoming ≤ length c.puts_off_next.new.self.engine.incoming = c.feed_to_payload.ensures.few in
     let same : length c.puts_off_next.new.self.engine.incoming ≡ length c.payload.self.engine.incoming = ap (λ (e : Engine). length e.incoming) c.puts_off_next.ensures.engine in
     let before : length c.payload.self.engine.incoming + c.payload.turn ≤ length c.args.self.now.engine.incoming = c.payload.invariant.few in
-    record { keeps = keeps_on _ _ _ c.payload.invariant.keeps (keeps_on _ _ _ c.puts_off_next.ensures.keeps (keeps_on _ _ _ c.feed_to_payload.ensures.keeps c.feed_payload.ensures.keeps)); waits = λ off. let no : ⊥ = never_off _ _ _ (c.payload.invariant.waits off) off c.puts_off_next.ensures.exact c.if-puts_off_next.false in absurd no; few = omega arith }
+    let free = c.puts_off_next.ensures.same ∙ sym c.puts_off_next.ensures.exact ∙ c.if-puts_off_next.false in
+    record { keeps = keeps_on _ _ _ c.payload.invariant.keeps (keeps_on _ _ _ c.puts_off_next.ensures.keeps (keeps_on _ _ _ c.feed_to_payload.ensures.keeps c.feed_payload.ensures.keeps)); waits = λ off. let no : ⊥ = never_off _ _ _ (c.payload.invariant.waits off) off c.puts_off_next.ensures.exact c.if-puts_off_next.false in absurd no; placed = in_place_fed _ _ _ (in_place_fed _ _ _ (in_place_asked _ _ _ c.payload.invariant.placed c.puts_off_next.ensures.engine c.puts_off_next.ensures.counts) free c.feed_to_payload.ensures.placed c.feed_to_payload.ensures.keeps c.feed_to_payload.ensures.anew) (free_inside _ _ _ c.feed_to_payload.new.self (ap (λ (t : Tunnel). t.engine.session) view) row) c.feed_payload.ensures.placed c.feed_payload.ensures.keeps c.feed_payload.ensures.anew; anew = inr c.feed_payload.ensures.anew; few = omega arith }
 
 pub returns-in_default-clause-keeps : goal.returns-in_default-clause-keeps
 returns-in_default-clause-keeps g c = keeps_on _ _ _ c.payload.invariant.keeps (keeps_on _ _ _ c.puts_off_next.ensures.keeps c.feed_to_payload.ensures.keeps)
@@ -73,3 +76,31 @@ returns-then-is_worth_a_call-clause-due g c = λ off. let no : ⊥ = never_off _
 
 pub returns-clause-due : goal.returns-clause-due
 returns-clause-due g c = λ off id due. subst (λ (t : Tunnel). IsDue id t.lines) (sym (c.payload.invariant.waits off)) due
+
+pub returns-then-puts_off_next-clause-placed : goal.returns-then-puts_off_next-clause-placed
+returns-then-puts_off_next-clause-placed g c = in_place_asked _ _ _ c.payload.invariant.placed c.puts_off_next.ensures.engine c.puts_off_next.ensures.counts
+
+pub returns-in_default-clause-placed : goal.returns-in_default-clause-placed
+returns-in_default-clause-placed g c =
+    let free = c.puts_off_next.ensures.same ∙ sym c.puts_off_next.ensures.exact ∙ c.if-puts_off_next.false in
+    in_place_fed _ _ _ (in_place_asked _ _ _ c.payload.invariant.placed c.puts_off_next.ensures.engine c.puts_off_next.ensures.counts) free c.feed_to_payload.ensures.placed c.feed_to_payload.ensures.keeps c.feed_to_payload.ensures.anew
+
+pub returns-then-is_worth_a_call-clause-placed : goal.returns-then-is_worth_a_call-clause-placed
+returns-then-is_worth_a_call-clause-placed g c =
+    let free = c.puts_off_next.ensures.same ∙ sym c.puts_off_next.ensures.exact ∙ c.if-puts_off_next.false in
+    in_place_fed _ _ _ (in_place_asked _ _ _ c.payload.invariant.placed c.puts_off_next.ensures.engine c.puts_off_next.ensures.counts) free c.feed_to_payload.ensures.placed c.feed_to_payload.ensures.keeps c.feed_to_payload.ensures.anew
+
+pub returns-clause-placed : goal.returns-clause-placed
+returns-clause-placed g c = c.payload.invariant.placed
+
+pub returns-then-puts_off_next-clause-first : goal.returns-then-puts_off_next-clause-first
+returns-then-puts_off_next-clause-first g c = λ early off. first_asked c.args.self.now c.payload.self c.puts_off_next.new.self _ c.payload.invariant.anew early c.puts_off_next.ensures.exact c.if-puts_off_next.true c.puts_off_next.ensures.counts c.puts_off_next.ensures.first
+
+pub returns-in_default-clause-first : goal.returns-in_default-clause-first
+returns-in_default-clause-first g c = λ early off. first_fed c.feed_to_payload.new.self c.feed_to_payload.ensures.anew
+
+pub returns-then-is_worth_a_call-clause-first : goal.returns-then-is_worth_a_call-clause-first
+returns-then-is_worth_a_call-clause-first g c = λ early off. first_fed c.feed_to_payload.new.self c.feed_to_payload.ensures.anew
+
+pub returns-clause-first : goal.returns-clause-first
+returns-clause-first g c = λ early off. first_ends c.args.self.now c.payload.self c.payload.invariant.anew early off

@@ -1,5 +1,6 @@
-use Rattle.std.proofs.Common.{◌≡◌, ◌+◌, ◌≤◌, length, true}
+use Rattle.std.proofs.Common.{◌≡◌, ◌⊎◌, ◌+◌, ◌≤◌, length, true, None}
 use Rattle.ymx_engine.specs.Places.{is_put_off}
+use Rattle.ymx_engine.specs.InPlace.{ReadsInPlace}
 use Rattle.ymx_engine.specs.Steps.{Keeps}
 use Rattle.ymx_engine.proofs.tunnel.Tunnel.advance.Given as goal
 
@@ -7,5 +8,7 @@ abbrev pub invariant-payload : goal.invariant-payload
 invariant-payload g l = record {
   keeps : Keeps l.fn.self l.self;
   waits : is_put_off l.fn.self ≡ true → l.self ≡ l.fn.self;
+  placed : ReadsInPlace l.fn.self l.self;
+  anew : (l.self ≡ l.fn.self) ⊎ (l.self.lines.turns_to_place ≡ None);
   few : length l.self.engine.incoming + l.turn ≤ length l.fn.self.engine.incoming;
 }

@@ -1,4 +1,5 @@
-use Rattle.std.proofs.Common.{ℕ, ap, ◌∙◌, ◌||◌, ◌≤◌, subst}
+use Rattle.std.proofs.Common.{ℕ, ◌≡◌, ◌-◌, length, ap, ◌∙◌, ◌||◌, ◌≤◌, subst, arith}
+use Rattle.std.proofs.lemmas.List.{length-drop}
 use Rattle.std.specs.Prelude.{nat_lt}
 use Rattle.ymx_engine.specs.Engines.{Engine}
 use Rattle.ymx_engine.specs.Places.{feed_limit, FeedsToFull}
@@ -19,3 +20,14 @@ returns-clause-placed g c =
     let few : c.feed_some-fed.result.taken ≤ feed_limit c.self.inside.session = payload_fits c.self.inside.session _ _ _ _ _ c.payload_left.ensures.exact c.max-lack.ensures c.min.ensures c.feed_some-fed.ensures.few in
     subst (λ (t : Tunnel). FeedsToFull t.engine c.hear_fed.new.self.engine) c.self.view_is
     (feeds_placed _ c.hear_fed.new.self.engine c.feed_some-fed.result _ _ c.feed_some-fed.ensures.fed c.feed_some-fed.ensures.rest few (ap (λ (e : Engine). e.session) c.hear_fed.ensures.engine) (ap (λ (e : Engine). e.incoming) c.hear_fed.ensures.engine))
+
+pub returns-clause-anew : goal.returns-clause-anew
+returns-clause-anew g c = c.hear_fed.ensures.place ∙ c.hear_touched.ensures.anew
+
+pub returns-clause-most : goal.returns-clause-most
+returns-clause-most g c =
+    let was : length c.self.inside.incoming ≡ length c.args.self.now.engine.incoming = ap (λ (t : Tunnel). length t.engine.incoming) c.self.view_is in
+    let is : length c.hear_fed.new.self.engine.incoming ≡ length c.feed_some-fed.new.self = ap (λ (e : Engine). length e.incoming) c.hear_fed.ensures.engine in
+    let left : length c.feed_some-fed.new.self ≡ length c.self.inside.incoming - c.feed_some-fed.result.taken = ap length c.feed_some-fed.ensures.rest ∙ length-drop c.feed_some-fed.result.taken c.self.inside.incoming in
+    let few = c.feed_some-fed.ensures.few in
+    let least = c.min.ensures in omega arith

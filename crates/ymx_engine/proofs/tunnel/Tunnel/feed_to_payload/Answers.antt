@@ -39,3 +39,9 @@ returns-clause-placed g c =
     let few : c.feed_to_payload-fed.result.taken ≤ feed_limit c.self.inside.session = subst (λ (n : ℕ). c.feed_to_payload-fed.result.taken ≤ n) (c.feed_limit-limit.ensures ∙ sym (ap (λ (t : Tunnel). feed_limit t.engine.session) c.self.view_is)) c.feed_to_payload-fed.ensures.few in
     subst (λ (t : Tunnel). FeedsToFull t.engine c.hear_fed.new.self.engine) c.self.view_is
     (feeds_placed _ c.hear_fed.new.self.engine c.feed_to_payload-fed.result _ _ c.feed_to_payload-fed.ensures.fed c.feed_to_payload-fed.ensures.rest few (ap (λ (e : Engine). e.session) c.hear_fed.ensures.engine) (ap (λ (e : Engine). e.incoming) c.hear_fed.ensures.engine))
+
+pub returns-then-fed-limit-clause-anew : goal.returns-then-fed-limit-clause-anew
+returns-then-fed-limit-clause-anew g c = c.hear_fed.ensures.place ∙ c.hear_touched.ensures.anew
+
+pub returns-clause-anew : goal.returns-clause-anew
+returns-clause-anew g c = c.hear_fed.ensures.place ∙ c.hear_touched.ensures.anew

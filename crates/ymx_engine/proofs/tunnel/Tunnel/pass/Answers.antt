@@ -1,4 +1,6 @@
+use Rattle.std.proofs.Common.{arith}
 use Rattle.ymx_engine.proofs.Attending.{reads_on_then}
+use Rattle.ymx_engine.proofs.InPlace.{passes_offered, passes_rest}
 use Rattle.ymx_engine.proofs.Readings.{rests_on}
 use Rattle.ymx_engine.proofs.tunnel.Tunnel.pass.Goals as goal
 
@@ -9,3 +11,11 @@ pub returns-then-taken-count-clause-rests : goal.returns-then-taken-count-clause
 returns-then-taken-count-clause-rests g c =
     let k = c.feed_payload.ensures.keeps in
     rests_on _ _ _ c.offer-taken.ensures.rests k.wire k.lines.lines
+
+pub returns-then-taken-count-clause-passed : goal.returns-then-taken-count-clause-passed
+returns-then-taken-count-clause-passed g c =
+    let f = c.feed_payload.ensures in
+    passes_rest c.args.row c.offer-taken.result _ _ _ _ c.offer-taken.ensures.passed (omega (arith, c.count-then-taken-count.ensures)) f.placed f.most f.keeps f.anew
+
+pub returns-else-taken-count-clause-passed : goal.returns-else-taken-count-clause-passed
+returns-else-taken-count-clause-passed g c = passes_offered c.args.row c.offer-taken.result _ _ c.offer-taken.ensures.passed

@@ -1,9 +1,10 @@
-use Rattle.std.proofs.Common.{◌≡◌, ◌∙◌, ap, sym, subst, arith, length, true, inl}
+use Rattle.std.proofs.Common.{◌≡◌, ◌∙◌, ap, sym, subst, arith, length, true, inl, inr}
 use Rattle.ymx_engine.specs.Places.{is_put_off}
 use Rattle.ymx_engine.specs.Tunnels.{Tunnel}
 use Rattle.ymx_engine.specs.Turns.{IsDue}
 use Rattle.ymx_engine.proofs.Attending.{runs_then, runs_keep, reads_then}
 use Rattle.ymx_engine.proofs.Feeding.{all_turns}
+use Rattle.ymx_engine.proofs.InPlace.{anew_passed, anew_pulled, early_on, first_ends, in_place_passed, in_place_pulled, in_place_then}
 use Rattle.ymx_engine.proofs.Placing.{put_off_some}
 use Rattle.ymx_engine.proofs.Readings.{rests_on, rests_past, stays_then, stays_kept}
 use Rattle.ymx_engine.proofs.tunnel.Tunnel.read_wire.Goals as goal
@@ -13,7 +14,7 @@ payload-init g c =
     let x = c.pull_wire.ensures in
     let waits : length c.waiting.result.now ≡ length c.pull_wire.new.self.engine.incoming = ap length (c.waiting.ensures ∙ ap (λ (t : Tunnel). t.engine.incoming) c.self.view_is) in
     let least = c.max-rows.ensures in
-    record { runs = x.runs; stays = x.stays; rests = x.rests; reads = x.reads; waits = λ off. x.full (put_off_some c.args.self.now off); few = omega (arith, waits, least) }
+    record { runs = x.runs; stays = x.stays; rests = x.rests; reads = x.reads; waits = λ off. x.full (put_off_some c.args.self.now off); placed = in_place_pulled _ _ x.pulls; anew = anew_pulled _ _ x.pulls; few = omega (arith, waits, least) }
 
 pub payload-preserved : goal.payload-preserved
 payload-preserved g c =
@@ -26,6 +27,8 @@ payload-preserved g c =
       rests = rests_past _ _ _ _ i.rests k.wire k.lines.lines p.rests p.closed;
       reads = reads_then _ _ _ (reads_then _ _ _ i.reads k.moves k.own k.wire k.over k.memory) p.runs.runs.moves p.runs.own p.wire p.over p.runs.memory;
       waits = λ off. let none = (c.advance.ensures.waits (ap is_put_off (i.waits off) ∙ off)).0 in let no : ⊥ = cc in absurd no;
+      placed = in_place_passed _ _ _ _ (in_place_then _ _ _ i.placed c.advance.ensures.placed) p.passed;
+      anew = inr (anew_passed _ _ _ c.in-Some.ensures.anew p.passed);
       few = let less = p.some in let same = c.advance.ensures.few in let i_few = i.few in omega (arith, less, same, i_few);
     }
 
@@ -73,3 +76,15 @@ returns-in-None-clause-due g c = λ off id due.
 
 pub returns-clause-due : goal.returns-clause-due
 returns-clause-due g c = λ off id due. subst (λ (t : Tunnel). IsDue id t.lines) (sym (c.payload.invariant.waits off)) due
+
+pub returns-in-None-clause-first : goal.returns-in-None-clause-first
+returns-in-None-clause-first g c = λ free off. c.advance.ensures.first (early_on c.args.self.now c.payload.self free c.payload.invariant.anew) off
+
+pub returns-clause-first : goal.returns-clause-first
+returns-clause-first g c = λ free off. first_ends c.args.self.now c.payload.self c.payload.invariant.anew (inl free) off
+
+pub returns-in-None-clause-placed : goal.returns-in-None-clause-placed
+returns-in-None-clause-placed g c = in_place_then _ _ _ c.payload.invariant.placed c.advance.ensures.placed
+
+pub returns-clause-placed : goal.returns-clause-placed
+returns-clause-placed g c = c.payload.invariant.placed
