@@ -1,5 +1,5 @@
 -- Bytes that stay as they were.
-use Rattle.std.proofs.Common.{◌≡◌, ℕ, List, [], ◌∷◌, ◌++◌, take, refl, sym, ap, ◌∙◌, append-nil, Option, Some, None}
+use Rattle.std.proofs.Common.{ℕ, List, take, refl, sym, ◌∙◌, append-nil, Option, Some, None}
 use Rattle.std.specs.Io.KnownBytes.{Keeps, Appends, Consumes}
 
 pub none_consumed : (old new : Option (List ℕ)) (buffer : List ℕ) → Keeps old new → Consumes old new (take 0 buffer)

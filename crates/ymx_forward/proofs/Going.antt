@@ -3,12 +3,11 @@ use Rattle.std.proofs.Common.{◌≡◌, ◌⊎◌, inl, ◌<◌, ◌+◌, ℕ, 
 use Rattle.std.specs.Prelude.{min, option_map}
 use Rattle.std.specs.Option.{option_map_or}
 use Rattle.ymx_model.specs.session.Sessions.{is_running}
-use Rattle.ymx_engine.specs.Moves.{Moves}
 use Rattle.ymx_engine.specs.Runs.{Runs}
 use Rattle.ymx_engine.specs.Tunnels.{Tunnel}
 use Rattle.ymx_engine.specs.Turns.{Line, Lines, line_of, is_over_at, IsIdle, IsBehind}
 use Rattle.ymx_engine.specs.Ways.{is_over}
-use Rattle.ymx_engine.specs.Work.{HasRead, HasWritten, Reads, ServesFirst, ServesOne, WorksOnce, Writes}
+use Rattle.ymx_engine.specs.Work.{HasRead, Reads, ServesFirst, ServesOne, WorksOnce, Writes}
 use Rattle.ymx_engine.proofs.Turning.{behind_few}
 use Rattle.ymx_engine.proofs.Attending.{has_read_then, has_written_then, one_then, read_once, runs_from, serves_first, serves_none, then_has_read, then_has_written, then_one, runs_then, written_once}
 

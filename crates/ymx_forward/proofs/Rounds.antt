@@ -1,5 +1,5 @@
 -- The rounds that a loop works.
-use Rattle.std.proofs.Common.{◌≡◌, ◌⊎◌, inl, inr, ℕ, zero, suc, ◌≤◌, ◌+◌, arith}
+use Rattle.std.proofs.Common.{inl, inr, ℕ, zero, suc, ◌≤◌, ◌+◌, arith}
 use Rattle.ymx_engine.specs.Runs.{Runs}
 use Rattle.ymx_engine.specs.Tunnels.{Tunnel}
 use Rattle.ymx_engine.specs.Work.{WorksOnce}

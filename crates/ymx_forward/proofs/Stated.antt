@@ -1,6 +1,6 @@
 -- A user gets no stream for a stated reason alone.
 use Rattle.std.specs.Prelude.{IfErr, if◌then◌else◌, min, count_by}
-use Rattle.std.proofs.Common.{◌≡◌, ◌==◌, ◌-◌, ◌||◌, ◌⊎◌, ℕ, List, [], Bool, true, false, Option, nat_le, nat_lt, length, Result, Ok, Err, inl, inr, refl, sym, ap, ◌∙◌, arith}
+use Rattle.std.proofs.Common.{◌≡◌, ◌==◌, ◌-◌, ◌||◌, ◌⊎◌, ℕ, List, [], Bool, true, false, Option, nat_le, nat_lt, length, Result, Ok, Err, inl, inr, refl, sym, ◌∙◌, arith}
 use Rattle.std.proofs.lemmas.Bool.Decides.{nat_tests}
 use Rattle.ymx_machine.specs.shared.Limits.{first_exhausted, most_records, most_unacknowledged}
 use Rattle.ymx_machine.specs.declared.types.CallFault.{CallFault}
@@ -23,7 +23,7 @@ use Rattle.ymx_engine.specs.Joins.{IsNotOpened}
 use Rattle.ymx_engine.specs.Tunnels.{Tunnel}
 use Rattle.ymx_engine.specs.declared.joining.NotJoined.{NotJoined}
 use Rattle.ymx_engine.specs.declared.joining.NotJoined.TheVariants.{BySession, Unregistered, OutOfMemory, Twice}
-use Rattle.ymx_forward.specs.Users.{IsStated, can_open_later, has_no_place, must_wait}
+use Rattle.ymx_forward.specs.Users.{IsStated, can_open_later, must_wait}
 
 running_is : (st : Status) → is_closed st ≡ false → is_lost st ≡ false → is_running st ≡ true
 running_is status.Running c l = refl

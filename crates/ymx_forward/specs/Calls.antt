@@ -1,6 +1,5 @@
 -- Whom this side has called for a connection (this project's own).
-use Rattle.std.specs.Prelude.{◌≡◌, ◌++◌, ◌∷◌, List, [], Option, Some, None, IfOk, IfSome}
-use Rattle.std.specs.declared.net.socket_addr.SocketAddr.{SocketAddr}
+use Rattle.std.specs.Prelude.{◌≡◌, ◌++◌, ◌∷◌, List, [], Option, Some, None, IfOk}
 use Rattle.std.specs.declared.net.socket_addr.SocketAddr.TheVariants.{V4}
 use Rattle.ymx_policy.specs.declared.asks.Callee.{Callee}
 use Rattle.ymx_policy.specs.declared.asks.Happened.{Happened}

@@ -19,3 +19,4 @@ pub mod Signs
 pub mod Sockets
 pub mod Standings
 pub mod Users
+pub mod Waits

@@ -2,6 +2,7 @@
 
 ghost use Rattle.std.specs.Prelude.{◌≡◌, ◌-◌, true, Ok, Some, IfOk, IfSome, IfNone, IsNone, option_map};
 ghost use Rattle.ymx_forward.specs.Users.{is_failed, is_less, is_shut, may_come};
+ghost use Rattle.ymx_forward.specs.Waits.{is_full, owes_room};
 ghost use Rattle.ymx_forward.specs.declared.content.Taken.TheVariants as TakenIs;
 ghost use Rattle.ymx_forward.specs.declared.system.TcpConnection.{TcpConnection as Connection};
 
@@ -142,7 +143,9 @@ impl Listening {
 
     /// Whether another thread brings connections, and is to be told how many places there are: behind each that was taken,
     /// and as long as there is none.
-    pub(crate) fn owes_room(&self) -> bool {
+    pub(crate) fn owes_room(&self) -> bool
+        ensures { result ≡ owes_room self.now }
+    {
         self.is_room_due && matches!(&self.source, Source::Inbox(_))
     }
 
@@ -154,7 +157,9 @@ impl Listening {
     }
 
     /// Whether one may wait for which there was no descriptor or no memory.
-    pub(crate) fn is_full(&self) -> bool {
+    pub(crate) fn is_full(&self) -> bool
+        ensures { result ≡ is_full self.now }
+    {
         self.full_at.is_some() && !self.is_over()
     }
 

@@ -1,7 +1,7 @@
 //! What lies in an inbox. The lock round it shows a contract nothing, so whatever is done to it is a method here, and
 //! says that nobody is lost.
 
-ghost use Rattle.std.specs.Prelude.{◌≡◌, ◌++◌, ◌∷◌, ◌-◌, ◌||◌, ◌&&◌, [], None, Some, true, false, length, nat_lt, not, is_some, IfOk, IfErr, IfSome};
+ghost use Rattle.std.specs.Prelude.{◌≡◌, ◌++◌, ◌∷◌, ◌-◌, ◌||◌, ◌&&◌, [], None, Some, true, false, length, nat_lt, not, IfOk, IfErr, IfSome};
 ghost use Rattle.ymx_forward.specs.Inboxes.{ComesBackFor, IsTaken, is_never, places_of};
 ghost use Rattle.ymx_forward.specs.Standings.{is_resting, lacks_place, rank_of, standing_of, told_by};
 

@@ -4,7 +4,7 @@
 //! is said at [`Content::standing`], and what is made of such answers at [`lightest_of`] and [`room_among`]; that the
 //! answers given there are those of the links is not.
 
-ghost use Rattle.std.specs.Prelude.{◌≡◌, ◌≢◌, List, IfErr};
+ghost use Rattle.std.specs.Prelude.{◌≡◌, ◌≢◌, List, IfErr, if◌then◌else◌};
 ghost use Rattle.std.specs.Iterator.{Drains, DrainsIf, IsFinite};
 ghost use Rattle.ymx_forward.specs.Inboxes.{ComesBack};
 ghost use Rattle.ymx_forward.specs.Standings.{is_before, lighter_of, lightest_of, room_among, room_with};
@@ -23,6 +23,13 @@ use ymx_policy::Notice;
 
 /// How many connections a link takes whose session is still to begin: as many as that opens at once.
 const ROOM: usize = 256;
+
+/// How many connections a link takes before its session says how many: none where its peer is still to give a sign of life.
+fn first_room(has_peer: bool) -> usize
+    ensures { result ≡ (if has_peer then 0 else 256) }
+{
+    if has_peer { 0 } else { ROOM }
+}
 
 /// Where the thread that accepts leaves connections for the loop of a link.
 #[derive(Drop)]
@@ -137,9 +144,8 @@ impl Inbox {
         acceptor: Arc<Acceptor, Global>,
         has_peer: bool,
     ) -> Inbox {
-        let room = if has_peer { 0 } else { ROOM };
         Inbox {
-            content: Mutex::new(Content::new(alloc, room)),
+            content: Mutex::new(Content::new(alloc, first_room(has_peer))),
             load: AtomicU64::new(0),
             waker,
             acceptor,

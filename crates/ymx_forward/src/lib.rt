@@ -9,6 +9,7 @@
 
 mod accepting;
 mod closing;
+mod coming;
 mod content;
 mod counted;
 mod dialing;

@@ -1,9 +1,10 @@
 //! How long a peer has been silent.
 
-ghost use Rattle.std.specs.Prelude.{◌≡◌, ◌+◌, ◌≤◌, false, true};
+ghost use Rattle.std.specs.Prelude.{◌≡◌, ◌+◌, ◌≤◌, false, true, option_map};
 ghost use Rattle.std.specs.Duration.{as_nanos};
 ghost use Rattle.std.specs.declared.time.Duration.{Duration as DurationValue};
 ghost use Rattle.ymx_forward.specs.Signs.{is_sign};
+ghost use Rattle.ymx_forward.specs.Waits.{shorter_of};
 
 use std::time::{Clock, Duration, Instant};
 
@@ -116,7 +117,9 @@ fn due_after(patience: Duration, passed: Duration, was_asked: bool) -> Due
 }
 
 /// The shorter of two times, of which none is as long as can be.
-pub(crate) fn shorter(time: Option<Duration>, other: Option<Duration>) -> Option<Duration> {
+pub(crate) fn shorter(time: Option<Duration>, other: Option<Duration>) -> Option<Duration>
+    ensures { option_map as_nanos result ≡ shorter_of (option_map as_nanos time) (option_map as_nanos other) }
+{
     match (time, other) {
         (Some(time), Some(other)) => Some(time.min(other)),
         (None, other) => other,

@@ -1,6 +1,6 @@
 //! Where an end runs its sessions: its runtime, its allocator, and the poll that tells it of events.
 
-ghost use Rattle.std.specs.Prelude.{◌≡◌, IfErr, IfOk, false, true};
+ghost use Rattle.std.specs.Prelude.{◌≡◌, IfErr, IfOk, false, true, is_err};
 ghost use Rattle.ymx_forward.specs.Calls.{RunsOver};
 ghost use Rattle.ymx_forward.specs.Counts.{CountsOne};
 ghost use Rattle.ymx_forward.specs.Sessions.{Serves};
@@ -172,7 +172,9 @@ impl<R: Net + Clock + Wait> Site<'_, R> {
     }
 
     /// Whether it is a while since then. Where the clock can't tell, it isn't.
-    fn has_lasted(&self, began: io::Result<Instant>) -> bool {
+    fn has_lasted(&self, began: io::Result<Instant>) -> bool
+        ensures { is_err began ≡ true → result ≡ false }
+    {
         match began {
             Ok(began) => began
                 .elapsed(self.rt)

@@ -1,6 +1,6 @@
 //! How long nothing has moved.
 
-ghost use Rattle.std.specs.Prelude.{◌≡◌, false, None};
+ghost use Rattle.std.specs.Prelude.{◌≡◌, false, None, IsSome};
 
 use std::time::{Clock, Duration, Instant};
 
@@ -27,7 +27,10 @@ impl Stillness {
     }
 
     /// Nothing moves now.
-    pub(crate) fn go_on<R: Clock>(&mut self, rt: &R) {
+    pub(crate) fn go_on<R: Clock>(&mut self, rt: &R)
+        // It lasts since it began.
+        ensures { IsSome self.old.since → self.new ≡ self.old }
+    {
         if self.since.is_none() {
             self.since = Instant::now(rt).ok();
         }

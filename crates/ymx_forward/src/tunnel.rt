@@ -4,6 +4,7 @@
 //! here that makes such calls says that they are all it did: `Runs`.
 
 ghost use Rattle.std.specs.Prelude.{ℕ, Result, ◌≡◌, ◌⊎◌, ◌||◌, [], true, false, not, length, is_err, is_some, option_map, IfErr, IfNone, IfOk, IfSome, IsSome, Some, None};
+ghost use Rattle.std.specs.Duration.{as_nanos};
 ghost use Rattle.ymx_engine.specs.Devices.{Seen};
 ghost use Rattle.ymx_engine.specs.Joins.{IsJoined, IsOpened};
 ghost use Rattle.ymx_engine.specs.Runs.{Runs, IsOver};
@@ -22,6 +23,7 @@ ghost use Rattle.ymx_forward.specs.Coming.{has_spoken, tells_coming};
 ghost use Rattle.ymx_forward.specs.Signs.{is_sign};
 ghost use Rattle.ymx_engine.specs.Engines.{is_flushed, unframed};
 ghost use Rattle.ymx_forward.specs.Users.{IsBrought, IsStated, awaits_sign, can_open_later, has_no_place, is_followed, leaves_users, must_wait, user_is_due};
+ghost use Rattle.ymx_forward.specs.Waits.{places_at, time_to_wait};
 ghost use Rattle.ymx_forward.specs.Offers.{BeginsFor, CallsTarget, EndsOffer, IsAnswered, NoneWaitsForPlace};
 ghost use Rattle.ymx_forward.specs.Sessions.{IsBegunFor, IsUnmade, IsUnserved, asked_to_go, free_target, has_failed, is_said, rule_of};
 ghost use Rattle.ymx_policy.specs.declared.asks.Session.{Session as Wanted};
@@ -32,6 +34,7 @@ ghost use Rattle.ymx_session.specs.NewSessions.{IsNewFault, first_id};
 ghost use Rattle.ymx_forward.specs.declared.system.TcpConnection.{TcpConnection as Connection};
 ghost use Rattle.ymx_page.specs.Counts.{with_declined};
 
+use crate::coming::Coming;
 use crate::content::Places;
 use crate::dialing::Dialer;
 use crate::peer::Peer;
@@ -238,8 +241,8 @@ pub(crate) struct TunnelLoop<'a> {
     called: Option<SocketAddr>,
     /// How many bytes connections have given since the wire was last written to.
     unwritten: u64,
-    /// Those who watch were told that the peer has come.
-    is_coming_told: bool,
+    /// Whether those who watch were told that the peer has come.
+    coming: Coming,
     /// Those who watch were told that the session was lost.
     is_loss_told: bool,
     /// The peer has given a sign of life, or isn't asked for one.
@@ -276,7 +279,7 @@ impl<'a> TunnelLoop<'a> {
         ensures number { IfOk result (λ made. made.number ≡ number) }
         ensures called { IfOk result (λ made. made.called ≡ wire.socket.called) }
         // Of its peer nothing was told.
-        ensures untold { IfOk result (λ made. made.is_coming_told ≡ false) }
+        ensures untold { IfOk result (λ made. made.coming.is_told ≡ false) }
         // It can't be made with this window, or there was no memory for it.
         ensures refused { IfErr result (λ fault. IsUnmade (role_at tunnel_end.old.side) asked fault.why) }
         ensures fault { IfErr result (λ fault. fault.number ≡ number) }
@@ -297,7 +300,7 @@ impl<'a> TunnelLoop<'a> {
             number,
             called,
             unwritten: 0,
-            is_coming_told: false,
+            coming: Coming::untold(),
             is_loss_told: false,
             is_heard: false,
             is_leaving: false,
@@ -334,7 +337,7 @@ impl<'a> TunnelLoop<'a> {
         ensures broken { result.how.broken ≡ rule_of self.new.tunnel.engine.session.status }
         ensures away { result.how.is_peer_away ≡ self.new.tunnel.engine.session.away.there }
         // Its peer was told to have come where those who watch were told so.
-        ensures told { result.how.is_coming_told ≡ self.new.is_coming_told }
+        ensures told { result.how.is_coming_told ≡ self.new.coming.is_told }
     {
         let number = self.number;
         let called = self.called;
@@ -584,7 +587,9 @@ impl<'a> TunnelLoop<'a> {
     }
 
     /// How long it waits for events. None if for as long as none comes.
-    fn timeout(&self) -> Option<Duration> {
+    fn timeout(&self) -> Option<Duration>
+        ensures { option_map as_nanos result ≡ time_to_wait self.now.tunnel_end.now self.now.tunnel }
+    {
         if self.is_to_be_followed() {
             return Some(Duration::from_secs(GLANCE));
         }
@@ -688,7 +693,9 @@ impl<'a> TunnelLoop<'a> {
     }
 
     /// How many streams can be opened for connections that come. None now where those are left to the next session.
-    fn places(&self) -> Places {
+    fn places(&self) -> Places
+        ensures { result ≡ places_at self.now.is_heard self.now.tunnel_end.now self.now.tunnel }
+    {
         if self.leaves_users() {
             return Places::Free(0);
         }
@@ -1181,15 +1188,12 @@ impl<'a> TunnelLoop<'a> {
     fn tell_coming<V: Watcher>(&mut self, pulled: u64, watcher: &mut V)
         ensures same { self.new.tunnel ≡ self.old.tunnel }
         // It is told once, and not before.
-        ensures told { self.new.is_coming_told ≡ (self.old.is_coming_told || tells_coming self.old.tunnel_end.now pulled self.old.tunnel) }
-        ensures once { self.old.is_coming_told ≡ true → watcher.new ≡ watcher.old }
+        ensures told { self.new.coming.is_told ≡ (self.old.coming.is_told || tells_coming self.old.tunnel_end.now pulled self.old.tunnel) }
+        ensures once { self.old.coming.is_told ≡ true → watcher.new ≡ watcher.old }
         ensures late { tells_coming self.old.tunnel_end.now pulled self.old.tunnel ≡ false → watcher.new ≡ watcher.old }
     {
-        if self.is_coming_told || !self.tunnel_end.is_kept || !self.has_spoken(pulled) {
-            return;
-        }
-        self.is_coming_told = true;
-        watcher.came();
+        let has_come = self.tunnel_end.is_kept && self.has_spoken(pulled);
+        self.coming.tell(has_come, watcher);
     }
 
     /// Whether the peer, of which so many bytes have come, has given a sign of life. One who has broken a rule gives none.
@@ -1212,7 +1216,13 @@ impl<'a> TunnelLoop<'a> {
     /// Once the session is lost, who brings connections is told, and where no session follows, who watches. The connections
     /// hear of it in their turns.
     fn tell_loss<R: Clock + Wait, V: Watcher>(&mut self, rt: &R, watcher: &mut V)
-        ensures { self.new.tunnel ≡ self.old.tunnel }
+        ensures same { self.new.tunnel ≡ self.old.tunnel }
+        // It is told once, and not before; of its coming nothing is.
+        ensures told { self.new.is_loss_told ≡ (self.old.is_loss_told || not (is_running self.old.tunnel.engine.session.status)) }
+        ensures once { self.old.is_loss_told ≡ true → watcher.new ≡ watcher.old }
+        ensures late { is_running self.old.tunnel.engine.session.status ≡ true → watcher.new ≡ watcher.old }
+        ensures kept { self.old.tunnel_end.now.is_kept ≡ true → watcher.new ≡ watcher.old }
+        ensures coming { self.new.coming ≡ self.old.coming }
     {
         if self.is_loss_told || !self.is_lost() {
             return;
@@ -1266,7 +1276,7 @@ impl<'a> TunnelLoop<'a> {
         ensures broken { result.broken ≡ rule_of self.now.tunnel.engine.session.status }
         ensures unwatched { result.is_unwatched ≡ is_unwatched }
         ensures away { result.is_peer_away ≡ self.now.tunnel.engine.session.away.there }
-        ensures told { result.is_coming_told ≡ self.now.is_coming_told }
+        ensures told { result.is_coming_told ≡ self.now.coming.is_told }
         ensures accepted { self.now.tunnel_end.now.is_kept ≡ false → has_failed self.now.tunnel_end.now.side ≡ true → result.accept_failed ≡ true }
     {
         SessionEnd {
@@ -1282,7 +1292,7 @@ impl<'a> TunnelLoop<'a> {
             is_unwatched,
             has_lasted: false,
             is_peer_away: self.tunnel.is_peer_away(),
-            is_coming_told: self.is_coming_told,
+            is_coming_told: self.coming.is_told(),
         }
     }
 }

@@ -1,13 +1,15 @@
 //! One end of a tunnel, through all its sessions.
 
-ghost use Rattle.std.specs.Prelude.{◌≡◌, ◌≢◌, true, if◌then◌else◌, IfErr, IfNone, IfOk, None, Some, is_some, option_map};
+ghost use Rattle.std.specs.Prelude.{◌≡◌, ◌≢◌, true, if◌then◌else◌, IfErr, IfNone, IfOk, IfSome, None, Some, is_some, option_map};
+ghost use Rattle.std.specs.Duration.{as_nanos};
 ghost use Rattle.ymx_policy.specs.declared.asks.Session.{Session as Asked};
 ghost use Rattle.ymx_forward.specs.Doors.{MayCall};
 ghost use Rattle.ymx_forward.specs.Inboxes.{no_session};
 ghost use Rattle.ymx_forward.specs.declared.system.TcpConnection.{TcpConnection as Connection};
 ghost use Rattle.ymx_page.specs.Counts.{with_begun, with_declined};
-ghost use Rattle.ymx_forward.specs.Sessions.{AreLimitsOf, HasNoEnd, Serves, asked_to_go, goes_to, has_failed};
+ghost use Rattle.ymx_forward.specs.Sessions.{AreLimitsOf, HasNoEnd, Serves, asked_to_go, goes_to, has_failed, nanoseconds};
 ghost use Rattle.ymx_forward.specs.Users.{comes_at_most, comes_to, may_wait};
+ghost use Rattle.ymx_forward.specs.Waits.{is_full_at, owes_room_at};
 
 use crate::accepting::Listening;
 use crate::content::Places;
@@ -203,7 +205,11 @@ impl TunnelEnd {
 
     /// After how long a silence the connection is closed at the end, though the peer hasn't closed it. None if never. Where no
     /// more streams were to be taken, the peer isn't waited for without end.
-    pub(crate) fn close_limit(&self) -> Option<Duration> {
+    pub(crate) fn close_limit(&self) -> Option<Duration>
+        ensures given { IfSome self.now.limits.close (λ limit. result ≡ Some limit) }
+        // Else it is 10 seconds, if any.
+        ensures drained { self.now.limits.close ≡ None → IfSome result (λ limit. as_nanos limit ≡ nanoseconds 10) }
+    {
         match self.limits.close {
             None if self.is_drained() => Some(Duration::from_secs(CLOSING)),
             limit => limit,
@@ -282,7 +288,9 @@ impl TunnelEnd {
     }
 
     /// Whether a connection may wait for which there was no descriptor or no memory.
-    pub(crate) fn is_full(&self) -> bool {
+    pub(crate) fn is_full(&self) -> bool
+        ensures { result ≡ is_full_at self.now.side }
+    {
         match &self.side {
             Side::Local(listening) => listening.is_full(),
             Side::Remote { .. } => false,
@@ -323,7 +331,9 @@ impl TunnelEnd {
     }
 
     /// Whether who brings connections is to be told how many places there are.
-    pub(crate) fn owes_room(&self) -> bool {
+    pub(crate) fn owes_room(&self) -> bool
+        ensures { result ≡ owes_room_at self.now.side }
+    {
         match &self.side {
             Side::Local(listening) => listening.owes_room(),
             Side::Remote { .. } => false,

@@ -1,0 +1,39 @@
+//! That a peer has come, as those who watch were told.
+
+ghost use Rattle.std.specs.Prelude.{◌≡◌, ◌||◌, true, false};
+
+use crate::watching::Watcher;
+
+/// Whether those who watch were told that the peer has come. Only [`Coming::tell`] makes it so, as nobody else reaches the field.
+#[derive(Drop)]
+pub(crate) struct Coming {
+    is_told: bool,
+}
+
+impl Coming {
+    /// Nothing was told.
+    pub(crate) fn untold() -> Coming
+        ensures { result.is_told ≡ false }
+    {
+        Coming { is_told: false }
+    }
+
+    /// Where the peer has come those who watch are told, once.
+    pub(crate) fn tell<V: Watcher>(&mut self, has_come: bool, watcher: &mut V)
+        ensures told { self.new.is_told ≡ (self.old.is_told || has_come) }
+        ensures once { self.old.is_told ≡ true → watcher.new ≡ watcher.old }
+        ensures late { has_come ≡ false → watcher.new ≡ watcher.old }
+    {
+        if has_come && !self.is_told {
+            self.is_told = true;
+            watcher.came();
+        }
+    }
+
+    /// Whether it was told.
+    pub(crate) fn is_told(&self) -> bool
+        ensures { result ≡ self.now.is_told }
+    {
+        self.is_told
+    }
+}
