@@ -10,6 +10,7 @@ tests/no_memory/failing_malloc.c, can refuse a thread. Tests of that are left ou
 
 import os
 import random
+import re
 import socket
 import sys
 import time
@@ -29,6 +30,8 @@ ENDING = 60
 BYTES = random.Random(7).randbytes(300_000)
 COME = "ymx: the peer has come\n"
 NO_THREAD = "ymx: --peers: no thread\n"
+# A line that says what the system is short of is said once in a second: others are left out, and counted.
+LEFT_OUT = re.compile(r"ymx: (\d+) lines? like those before w(?:as|ere) left out\n")
 WHOLE = f"{len(BYTES)} bytes to the peer (ended), {len(BYTES)} bytes from the peer (ended)"
 LOST = f"{len(BYTES)} bytes to the peer (lost), {len(BYTES)} bytes from the peer (lost)"
 
@@ -38,6 +41,18 @@ def says(program, *lines):
     for line in lines:
         said = program.line()
         assert said == line, f"it says {said!r}, and not {line!r}"
+
+
+def says_beside(program, often, *lines):
+    """These are its next lines, beside one that it may say again; how often it said or left out that one."""
+    count = 0
+    for line in lines:
+        said = program.line()
+        while said == often or LEFT_OUT.fullmatch(said):
+            count += 1 if said == often else int(LEFT_OUT.fullmatch(said)[1])
+            said = program.line()
+        assert said == line, f"it says {said!r}, and not {line!r}"
+    return count
 
 
 def is_refused(place):
@@ -264,7 +279,7 @@ def no_descriptor_for_a_peer():
     # it is told once more where only one of the two descriptors is free yet
     while said.count(COME) < 2:
         said.append(program.line())
-    assert [line for line in said if line != lack] == [COME, GONE, COME], said
+    assert [line for line in said if line != lack and not LEFT_OUT.fullmatch(line)] == [COME, GONE, COME], said
 
 
 def a_peer_that_never_closes():
@@ -398,20 +413,45 @@ def no_descriptor_left():
     # and two connections.
     program, place, user, peer, _ = local_kept("--count", "4", files=8)
     users = [user] + [call(place) for _ in range(3)]
-    says(program, FULL)
+    lacks = 0
     for turn, stream in enumerate((1, 3), 1):
         peer.accept(stream)
         swap(peer, stream, users[turn - 1], BYTES)
     for turn, stream in enumerate((5, 7), 1):
         finish(peer, stream - 4, users[turn - 1])
-        says(program, connection(turn, WHOLE), *[FULL] * (turn == 1))
+        lacks += says_beside(program, FULL, connection(turn, WHOLE))
         peer.accept(stream)
         swap(peer, stream, users[turn + 1], BYTES)
     for turn, stream in enumerate((5, 7), 3):
         finish(peer, stream, users[turn - 1])
-        says(program, connection(turn, WHOLE))
+        lacks += says_beside(program, FULL, connection(turn, WHOLE))
+    assert lacks == 2, f"it says {lacks} times that no descriptor is left"
     leave(peer.connection)
     assert program.end() == (0, GONE)
+
+
+def no_descriptor_left_again_and_again():
+    """Where users come as others end it is said once in a second, and likewise how often it was left out; and that at the end."""
+    count = 24
+    program, place, user, peer, _ = local_kept("--count", str(count), files=8)
+    began = time.monotonic()
+    users = [user] + [call(place) for _ in range(count - 1)]
+    for turn in range(count + 2):
+        if turn >= 2:
+            finish(peer, 2 * turn - 3, users[turn - 2])
+        if turn < count:
+            peer.accept(2 * turn + 1)
+            swap(peer, 2 * turn + 1, users[turn], BYTES)
+    leave(peer.connection)
+    status, said = program.end()
+    lines = said.splitlines(keepends=True)
+    left_out = sum(int(it[1]) for it in map(LEFT_OUT.fullmatch, lines) if it)
+    assert status == 0 and lines.count(GONE) == 1, (status, said)
+    assert lines.count(FULL) + left_out == count - 2, said
+    seconds = time.monotonic() - began
+    assert lines.count(FULL) <= 1 + seconds, said
+    notes = sum(1 for it in lines if LEFT_OUT.fullmatch(it))
+    assert notes <= 2 + seconds, f"{notes} lines say how many were left out, in {seconds} seconds"
 
 
 def no_peer_at_first():
@@ -496,6 +536,7 @@ TESTS = (
     ("a peer that comes again", a_peer_that_comes_again, ()),
     ("the last of a count", the_last_of_a_count, ()),
     ("no descriptor left", no_descriptor_left, ()),
+    ("no descriptor left, again and again", no_descriptor_left_again_and_again, ()),
     ("no peer at first", no_peer_at_first, ()),
     ("a port that is taken", a_port_that_is_taken, ()),
     ("a killed peer", a_killed_peer, ()),

@@ -1,18 +1,27 @@
 -- Which lines are left out, as one of their kind has just been said (this project's own).
 use Rattle.std.specs.Prelude.{◌++◌, ◌∷◌, ◌&&◌, ◌||◌, ◌==◌, ◌-◌, [], ℕ, List, Bool, true, false, Option, Some, None, codes, drop, length, map, nat_eq, nat_le, nat_lt, bytes_eq, if◌then◌else◌}
-use Rattle.std.specs.List.{list_any, starts_with}
+use Rattle.std.specs.List.{ends_with, list_any, starts_with}
 use Rattle.std.specs.Duration.{as_nanos}
 use Rattle.ymx_cli.specs.declared.repeats.RecentLine.{RecentLine}
 
--- The line may be left out: it says what a peer has done against the rules of yamux, that somebody was closed who may not be a peer, or
--- that one has gone which gave no sign of life.
+-- The line says that the system has not now what an option needs: as users come and go it is short of that again and again.
+abbrev pub is_shortage : List ℕ → Bool
+is_shortage line =
+    starts_with nat_eq line (codes "ymx: --")
+    && (ends_with nat_eq line (codes ": no descriptor left\n")
+    || (ends_with nat_eq line (codes ": no memory\n")
+    || ends_with nat_eq line (codes ": no thread\n")))
+
+-- The line may be left out: it says what a peer has done against the rules of yamux, that somebody was closed who may not be a peer,
+-- that one has gone which gave no sign of life, or what the system is short of.
 abbrev pub may_repeat : List ℕ → Bool
 may_repeat line =
     starts_with nat_eq line (codes "ymx: B")
     || (starts_with nat_eq line (codes "ymx: session broken: B")
     || (starts_with nat_eq line (codes "ymx: closed a stranger")
     || (starts_with nat_eq line (codes "ymx: closed a peer too many")
-    || starts_with nat_eq line (codes "ymx: the peer has gone without a sign of life"))))
+    || (starts_with nat_eq line (codes "ymx: the peer has gone without a sign of life")
+    || is_shortage line))))
 
 -- a decimal digit
 abbrev pub is_digit : ℕ → Bool
@@ -49,6 +58,15 @@ was_just_said recent kind now = list_any (is_like kind now) recent
 abbrev pub is_left_out : Kinds → Option (List ℕ) → (now : ℕ) → Bool
 is_left_out recent None now = false
 is_left_out recent (Some kind) now = was_just_said recent kind now
+
+-- How many of those left out are told before a line that is said now: all, unless some were told less than a second before.
+abbrev pub told_now : (left_out : ℕ) → (told_at : Option ℕ) → (now : ℕ) → ℕ
+told_now left_out None now = left_out
+told_now left_out (Some at) now = if nat_lt (now - at) 1_000_000_000 then 0 else left_out
+
+-- when some were told last, behind a line that is said now with so many
+abbrev pub told_last : (told : ℕ) → (told_at : Option ℕ) → (now : ℕ) → Option ℕ
+told_last told told_at now = if nat_lt 0 told then Some now else told_at
 
 -- what is remembered behind a line of this kind that was said now: the last 16 of those that may be left out
 abbrev pub remembered : Kinds → Option (List ℕ) → (now : ℕ) → Kinds

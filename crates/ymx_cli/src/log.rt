@@ -1,15 +1,15 @@
 //! Where faults and lines are said. An end of a tunnel never waits for who reads them: a line that the device can't take is
 //! dropped, and the next one comes behind the number of those that were. So does one behind those that were left out, as
-//! lines of their kind had just been said. With `--times` each begins with the time.
+//! lines of their kind had just been said, but once in a second at most. With `--times` each begins with the time.
 
-ghost use Rattle.std.specs.Prelude.{ℕ, List, [], Option, None, Some, Bool, ◌≡◌, ◌<◌, ◌≤◌, ◌+◌, ◌-◌, ◌^◌, ◌++◌, length, min, true, false, IfOk, IfSome, IsOk, OnErr, OnOk};
+ghost use Rattle.std.specs.Prelude.{ℕ, List, [], Option, None, Some, Bool, ◌≡◌, ◌<◌, ◌≤◌, ◌+◌, ◌-◌, ◌^◌, ◌++◌, length, min, option_map, true, false, IfOk, IfSome, IsOk, OnErr, OnOk};
 ghost use Rattle.std.specs.Duration.{as_nanos};
 ghost use Rattle.std.specs.Io.{StartsWith};
 ghost use Rattle.std.specs.Io.KnownBytes.{Appends, WriteAppends};
 ghost use Rattle.ymx_cli.specs.Log.{dropped_note, left_out_note, notes_text, said_text};
-ghost use Rattle.ymx_cli.specs.Repeats.{is_left_out, kind_of, kinds, remembered};
+ghost use Rattle.ymx_cli.specs.Repeats.{is_left_out, kind_of, kinds, remembered, told_last, told_now};
 
-use crate::repeats::{RecentLines, kind_of};
+use crate::repeats::{Kind, PAUSE, RecentLines, kind_of};
 use crate::standard::Ready;
 use crate::time::{TIME, time_text};
 use arrayvec::{ArrayString, ArrayVec};
@@ -63,8 +63,10 @@ pub(crate) struct Log<D> {
     device: D,
     /// How many lines were dropped since one was said. It stays at the greatest `u64`.
     dropped: u64,
-    /// How many lines were left out since one was said. It stays at the greatest `u64`.
+    /// How many lines were left out of which was not told yet. It stays at the greatest `u64`.
     left_out: u64,
+    /// When it was told last how many were, since some beginning.
+    told_at: Option<Duration>,
     /// Which lines were said last, of those that may be left out.
     recent: RecentLines,
 }
@@ -74,11 +76,13 @@ impl<D: LineDevice> Log<D> {
     pub(crate) fn new(device: D) -> Log<D>
         ensures counts { (result.device ≡ device) × (result.dropped ≡ 0) × (result.left_out ≡ 0) }
         ensures recent { kinds result.recent.lines.items ≡ [] }
+        ensures untold { result.told_at ≡ None }
     {
         Log {
             device,
             dropped: 0,
             left_out: 0,
+            told_at: None,
             recent: RecentLines::new(),
         }
     }
@@ -92,48 +96,79 @@ impl<D: LineDevice> Log<D> {
         patience: u16,
     ) -> Result<(), DeviceFault>
         ensures left_out { is_left_out (kinds self.old.recent.lines.items) (kind_of line.now) (as_nanos now) ≡ true →
-            IsOk result × (self.new.left_out ≡ min (self.old.left_out + 1) (2 ^ 64 - 1)) × (self.new.dropped ≡ self.old.dropped)
-            × (self.new.device ≡ self.old.device) × (self.new.recent ≡ self.old.recent) }
+            IsOk result × (self.new ≡ record self.old { left_out = min (self.old.left_out + 1) (2 ^ 64 - 1) }) }
         ensures said { is_left_out (kinds self.old.recent.lines.items) (kind_of line.now) (as_nanos now) ≡ false →
-            OnOk result (Appends (D.contents self.old.device) (D.contents self.new.device) (said_text time.now self.old.left_out self.old.dropped line.now)) }
+            OnOk result (Appends (D.contents self.old.device) (D.contents self.new.device) (said_text time.now (told_now self.old.left_out (option_map as_nanos self.old.told_at) (as_nanos now)) self.old.dropped line.now)) }
         ensures none { is_left_out (kinds self.old.recent.lines.items) (kind_of line.now) (as_nanos now) ≡ false →
-            OnOk result ((self.new.left_out ≡ 0) × (self.new.dropped ≡ 0)) }
+            OnOk result ((self.new.left_out ≡ self.old.left_out - told_now self.old.left_out (option_map as_nanos self.old.told_at) (as_nanos now)) × (self.new.dropped ≡ 0)) }
+        ensures told { is_left_out (kinds self.old.recent.lines.items) (kind_of line.now) (as_nanos now) ≡ false →
+            OnOk result (option_map as_nanos self.new.told_at ≡ told_last (told_now self.old.left_out (option_map as_nanos self.old.told_at) (as_nanos now)) (option_map as_nanos self.old.told_at) (as_nanos now)) }
         ensures remembered { is_left_out (kinds self.old.recent.lines.items) (kind_of line.now) (as_nanos now) ≡ false →
             OnOk result (kinds self.new.recent.lines.items ≡ remembered (kinds self.old.recent.lines.items) (kind_of line.now) (as_nanos now)) }
-        ensures part { OnErr result ((part : List ℕ) × StartsWith (said_text time.now self.old.left_out self.old.dropped line.now) part × Appends (D.contents self.old.device) (D.contents self.new.device) part) }
+        ensures part { OnErr result ((part : List ℕ) × StartsWith (said_text time.now (told_now self.old.left_out (option_map as_nanos self.old.told_at) (as_nanos now)) self.old.dropped line.now) part × Appends (D.contents self.old.device) (D.contents self.new.device) part) }
         ensures counted { OnErr result ((self.new.dropped ≡ min (self.old.dropped + 1) (2 ^ 64 - 1)) × (self.new.left_out ≡ self.old.left_out)) }
         // A line that was dropped is no reason to leave the next one out.
-        ensures unseen { OnErr result (self.new.recent ≡ self.old.recent) }
+        ensures unseen { OnErr result ((self.new.recent ≡ self.old.recent) × (self.new.told_at ≡ self.old.told_at)) }
     {
-        let Some(kind) = kind_of(line) else {
-            return self.say(time, line, patience);
-        };
-        if self.recent.has(&kind, now) {
+        let kind = kind_of(line);
+        if self.has_just_said(&kind, now) {
             self.left_out = self.left_out.saturating_add(1);
             return Ok(());
         }
-        self.say(time, line, patience)?;
-        self.recent.note(kind, now);
+        let told = self.told_now(now);
+        self.say(time, told, line, patience)?;
+        if told > 0 {
+            self.told_at = Some(now);
+        }
+        if let Some(kind) = kind {
+            self.recent.note(kind, now);
+        }
         Ok(())
     }
 
-    /// Says a line behind this time, and before it how many were left out or dropped, if any were, in one write where the
-    /// device takes all of it. One that it doesn't take within so many milliseconds is dropped itself, and counted. So is one
-    /// that is too long with what stands before it.
-    fn say(&mut self, time: &[u8], line: &[u8], patience: u16) -> Result<(), DeviceFault>
-        ensures said { OnOk result (Appends (D.contents self.old.device) (D.contents self.new.device) (said_text time.now self.old.left_out self.old.dropped line.now)) }
-        ensures none { OnOk result ((self.new.left_out ≡ 0) × (self.new.dropped ≡ 0)) }
-        ensures part { OnErr result ((part : List ℕ) × StartsWith (said_text time.now self.old.left_out self.old.dropped line.now) part × Appends (D.contents self.old.device) (D.contents self.new.device) part) }
-        ensures counted { OnErr result ((self.new.dropped ≡ min (self.old.dropped + 1) (2 ^ 64 - 1)) × (self.new.left_out ≡ self.old.left_out)) }
-        ensures kept { self.new.recent ≡ self.old.recent }
+    /// Whether a line of this kind was said less than a second ago.
+    fn has_just_said(&self, kind: &Option<Kind>, now: Duration) -> bool
+        ensures { result ≡ is_left_out (kinds self.now.recent.lines.items) (option_map (λ kind. kind.items) kind.now) (as_nanos now) }
     {
-        let said = match text_of(time, self.left_out, self.dropped, line) {
+        match kind {
+            Some(kind) => self.recent.has(kind, now),
+            None => false,
+        }
+    }
+
+    /// How many of those left out are told with a line that is said now.
+    fn told_now(&self, now: Duration) -> u64
+        ensures { result ≡ told_now self.now.left_out (option_map as_nanos self.now.told_at) (as_nanos now) }
+    {
+        match self.told_at {
+            Some(at) if now.saturating_sub(at) < Duration::from_secs(PAUSE) => 0,
+            _ => self.left_out,
+        }
+    }
+
+    /// Says a line behind this time, and before it that so many were left out, if any, and how many were dropped, if any were, in
+    /// one write where the device takes all of it. One that it doesn't take within so many milliseconds is dropped itself, and
+    /// counted. So is one that is too long with what stands before it.
+    fn say(
+        &mut self,
+        time: &[u8],
+        left_out: u64,
+        line: &[u8],
+        patience: u16,
+    ) -> Result<(), DeviceFault>
+        ensures said { OnOk result (Appends (D.contents self.old.device) (D.contents self.new.device) (said_text time.now left_out self.old.dropped line.now)) }
+        ensures none { OnOk result ((self.new.left_out ≡ self.old.left_out - left_out) × (self.new.dropped ≡ 0)) }
+        ensures part { OnErr result ((part : List ℕ) × StartsWith (said_text time.now left_out self.old.dropped line.now) part × Appends (D.contents self.old.device) (D.contents self.new.device) part) }
+        ensures counted { OnErr result ((self.new.dropped ≡ min (self.old.dropped + 1) (2 ^ 64 - 1)) × (self.new.left_out ≡ self.old.left_out)) }
+        ensures kept { (self.new.recent ≡ self.old.recent) × (self.new.told_at ≡ self.old.told_at) }
+    {
+        let said = match text_of(time, left_out, self.dropped, line) {
             Some(text) => self.write_all(text.as_slice(), Some(patience)),
             None => Err(DeviceFault),
         };
         match said {
             Ok(()) => {
-                self.left_out = 0;
+                self.left_out = self.left_out.saturating_sub(left_out);
                 self.dropped = 0;
             }
             Err(_) => self.dropped = self.dropped.saturating_add(1),
@@ -161,7 +196,7 @@ impl<D: LineDevice> Log<D> {
     fn write_all(&mut self, bytes: &[u8], patience: Option<u16>) -> Result<(), DeviceFault>
         ensures all { OnOk result (Appends (D.contents self.old.device) (D.contents self.new.device) bytes.now) }
         ensures part { OnErr result ((part : List ℕ) × StartsWith bytes.now part × Appends (D.contents self.old.device) (D.contents self.new.device) part) }
-        ensures kept { (self.new.left_out ≡ self.old.left_out) × (self.new.dropped ≡ self.old.dropped) × (self.new.recent ≡ self.old.recent) }
+        ensures kept { (self.new.left_out ≡ self.old.left_out) × (self.new.dropped ≡ self.old.dropped) × (self.new.recent ≡ self.old.recent) × (self.new.told_at ≡ self.old.told_at) }
     {
         let mut taken = 0;
         'push: while taken < bytes.len() {
@@ -284,7 +319,10 @@ impl<R: Wait + Clock, D: LineDevice> LogWriter<'_, R, D> {
         match (self.patience, now) {
             (None, _) => log.write_all(line, None),
             (Some(patience), Ok(now)) => log.tell(text_or_none(&time), line, now, patience),
-            (Some(patience), Err(_)) => log.say(text_or_none(&time), line, patience),
+            (Some(patience), Err(_)) => {
+                let left_out = log.left_out;
+                log.say(text_or_none(&time), left_out, line, patience)
+            }
         }
     }
 

@@ -4,7 +4,7 @@
 ghost use Rattle.std.specs.Prelude.{◌≡◌, [], Some};
 ghost use Rattle.std.specs.Option.{option_map};
 ghost use Rattle.std.specs.Duration.{as_nanos};
-ghost use Rattle.ymx_cli.specs.Repeats.{is_like, kind_of, kinds, may_repeat, remembered, was_just_said};
+ghost use Rattle.ymx_cli.specs.Repeats.{is_like, is_shortage, kind_of, kinds, may_repeat, remembered, was_just_said};
 
 use arrayvec::ArrayVec;
 use std::time::Duration;
@@ -16,7 +16,7 @@ const RECENT: usize = 16;
 const KIND: usize = 128;
 
 /// For how many seconds behind a line others of its kind are left out.
-const PAUSE: u64 = 1;
+pub(crate) const PAUSE: u64 = 1;
 
 /// What lines have in common that differ by a port alone.
 pub(crate) type Kind = ArrayVec<u8, KIND>;
@@ -106,4 +106,15 @@ fn may_repeat(line: &[u8]) -> bool
         || line.starts_with(b"ymx: closed a stranger")
         || line.starts_with(b"ymx: closed a peer too many")
         || line.starts_with(b"ymx: the peer has gone without a sign of life")
+        || is_shortage(line)
+}
+
+/// Whether a line says that the system has not now what an option needs.
+fn is_shortage(line: &[u8]) -> bool
+    ensures { result ≡ is_shortage line.now }
+{
+    line.starts_with(b"ymx: --")
+        && (line.ends_with(b": no descriptor left\n")
+            || line.ends_with(b": no memory\n")
+            || line.ends_with(b": no thread\n"))
 }

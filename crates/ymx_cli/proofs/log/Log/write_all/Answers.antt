@@ -7,4 +7,4 @@ use Rattle.ymx_cli.proofs.log.Log.write_all.Goals as goal
 pub push-preserved : goal.push-preserved
 push-preserved g c =
     let fits : c.push.taken + c.in-Ok.count ≤ length c.args.bytes.now = grind (arith, common_steps) in
-    (fits, asked_and_pushed _ _ _ _ _ _ _ c.ask.ensures c.push.invariant.1 c.in-Ok.ensures.moved, c.push.invariant.2, c.push.invariant.3, c.push.invariant.4)
+    (fits, asked_and_pushed _ _ _ _ _ _ _ c.ask.ensures c.push.invariant.1 c.in-Ok.ensures.moved, c.push.invariant.2, c.push.invariant.3, c.push.invariant.4, c.push.invariant.5)
