@@ -28,8 +28,9 @@ STRANGERS = 400
 BYTES = random.Random(11).randbytes(20_000)
 DROPPED = re.compile(r"ymx: (\d+) lines? w(?:as|ere) dropped\n")
 LEFT_OUT = re.compile(r"ymx: (\d+) lines? like those before w(?:as|ere) left out\n")
-# How many seconds it is waited for lines that may come.
-PAUSE = 0.2
+# How many seconds it is waited for lines that may come, before a further stranger makes one: more than the second within
+# which it isn't told again how many were left out.
+PAUSE = 1.2
 # How often a pipe is read late, where this process may have been held up for longer than last words wait.
 ATTEMPTS = 5
 
