@@ -1,5 +1,6 @@
 -- Which peers are let in (this project's own).
-use Rattle.std.specs.Prelude.{◌≡◌, Bool, true, Option, Some, None}
+use Rattle.std.specs.Prelude.{◌≡◌, ◌||◌, Bool, true, not, is_some, Option, Some, None}
+use Rattle.std.specs.declared.time.Duration.{Duration}
 use Rattle.ymx_policy.specs.Networks.{admits}
 use Rattle.ymx_policy.specs.declared.options.Networks.{Networks}
 use Rattle.ymx_policy.specs.declared.asks.PoolHappened.{PoolHappened}
@@ -7,6 +8,8 @@ use Rattle.ymx_policy.specs.declared.asks.PoolHappened.TheVariants.{Came, Listen
 use Rattle.ymx_policy.specs.declared.asks.Happened.{Happened}
 use Rattle.ymx_policy.specs.declared.asks.Happened.TheVariants.{PeerCame}
 use Rattle.ymx_forward.specs.declared.peer.Peer.{Peer}
+use Rattle.ymx_forward.specs.Sessions.{nanoseconds}
+use Rattle.ymx_forward.specs.Times.{has_gone_by}
 use Rattle.ymx_forward.specs.declared.doorkeeper.Caller.{Caller}
 use Rattle.ymx_forward.specs.declared.doorkeeper.Caller.TheVariants as caller
 
@@ -23,6 +26,10 @@ IsAdmitted from other = Unit {0}
 abbrev pub IsNobody : Caller → Type 0
 IsNobody (caller.Peer peer) = ⊥
 IsNobody other = Unit {0}
+
+-- Who is closed at this time is told, where nobody was told of, or a second has gone by since then.
+abbrev pub is_told : (told now : Option Duration) → Bool
+is_told told now = not (is_some told) || has_gone_by told now (nanoseconds 1)
 
 -- there is a peer, and it may call from where it does
 abbrev pub IsMet : Networks → Option Peer → Type 0

@@ -18,5 +18,6 @@ pub mod Sides
 pub mod Signs
 pub mod Sockets
 pub mod Standings
+pub mod Times
 pub mod Users
 pub mod Waits

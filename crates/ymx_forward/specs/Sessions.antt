@@ -56,6 +56,11 @@ silence_of s = option_map nanoseconds s.ping
 abbrev pub close_of : Session → Option ℕ
 close_of s = if s.is_followed then Some (nanoseconds 10) else silence_of s
 
+-- so long as was given, and else for 10 seconds where no more streams were to be taken, or for ever
+abbrev pub close_limit_of : (given : Option ℕ) → (drained : Bool) → Option ℕ
+close_limit_of (Some limit) drained = Some limit
+close_limit_of None drained = if drained then Some (nanoseconds 10) else None
+
 -- These are the limits of such a session.
 pub record AreLimitsOf (asked : Session) (limits : Limits) : Type 0 where
   pub silence : option_map as_nanos limits.silence ≡ silence_of asked

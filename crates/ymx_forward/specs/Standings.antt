@@ -1,4 +1,5 @@
 -- Which link gets the next connection (this project's own).
+use Rattle.std.specs.declared.time.Duration.{Duration}
 use Rattle.std.specs.Prelude.{ℕ, zero, suc, ◌||◌, ◌&&◌, ◌==◌, List, fold, Bool, true, false, not, if◌then◌else◌, nat_lt, Option, Some, None}
 use Rattle.ymx_forward.specs.declared.content.Standing.{Standing}
 use Rattle.ymx_forward.specs.declared.content.Standing.TheVariants as standing
@@ -6,8 +7,16 @@ use Rattle.ymx_forward.specs.declared.inbox.Room.{Room}
 use Rattle.ymx_forward.specs.declared.inbox.Room.TheVariants as room
 use Rattle.ymx_forward.specs.declared.inbox.Weight.{Weight}
 use Rattle.ymx_forward.specs.declared.stillness.Stillness.{Stillness}
+use Rattle.ymx_forward.specs.Sessions.{nanoseconds}
+use Rattle.ymx_forward.specs.Times.{has_gone_by}
 
 -- ---- how a link stands
+
+-- The rest of a link is over at this time: it rested for ten seconds, or doesn't rest. Where it began at a time that nobody knows, it goes on
+-- until the link has a peer.
+abbrev pub has_rested : (rest : Option Stillness) → (now : Option Duration) → Bool
+has_rested (Some rest) now = has_gone_by rest.since now (nanoseconds 10)
+has_rested None now = true
 
 -- A link without a peer rests until its rest has lasted. Another one does while its peer takes no more streams.
 abbrev pub is_resting : (rest : Option Stillness) → (has_rested is_away : Bool) → Bool

@@ -1,10 +1,13 @@
 //! The end of the wire.
 
-ghost use Rattle.std.specs.Prelude.{◌≡◌, ◌⊎◌, ◌||◌, is_some, false, true, None};
+ghost use Rattle.std.specs.Prelude.{◌≡◌, ◌⊎◌, ◌||◌, is_some, false, true};
+ghost use Rattle.std.specs.Duration.{as_nanos};
+ghost use Rattle.std.specs.Option.{option_map_or};
 ghost use Rattle.ymx_forward.specs.Counts.{CountsSome};
+ghost use Rattle.ymx_forward.specs.Times.{has_gone_by};
 
 use crate::socket::Socket;
-use crate::stillness::Stillness;
+use crate::stillness::{Stillness, time_of};
 use crate::stream::Stream;
 use crate::system::Poll;
 use std::sync::Wait;
@@ -39,10 +42,11 @@ pub(crate) fn close<R: Clock + Wait, S: Stream + Drop>(
         if wire.pulled() != before {
             stillness.end();
         }
-        if wire.is_over() || is_too_still(rt, stillness, limit) {
+        let now = time_of(rt);
+        if wire.is_over() || is_too_still(stillness, now, limit) {
             return;
         }
-        stillness.go_on(rt);
+        stillness.go_on(now);
         if poll.wait(limit).is_err() {
             return;
         }
@@ -50,12 +54,12 @@ pub(crate) fn close<R: Clock + Wait, S: Stream + Drop>(
     unreachable!()
 }
 
-/// Whether nothing has moved for so long, if there is a limit.
-fn is_too_still<R: Clock>(rt: &R, stillness: Stillness, limit: Option<Duration>) -> bool
-    ensures { stillness.since ≡ None → result ≡ false }
+/// Whether nothing has moved for so long at this time, if there is a limit.
+fn is_too_still(stillness: Stillness, now: Option<Duration>, limit: Option<Duration>) -> bool
+    ensures { result ≡ option_map_or (λ limit. has_gone_by stillness.since now (as_nanos limit)) limit false }
 {
     match limit {
-        Some(limit) => stillness.has_lasted(rt, limit),
+        Some(limit) => stillness.has_lasted(now, limit),
         None => false,
     }
 }

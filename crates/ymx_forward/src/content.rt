@@ -3,13 +3,13 @@
 
 ghost use Rattle.std.specs.Prelude.{◌≡◌, ◌++◌, ◌∷◌, ◌-◌, ◌||◌, ◌&&◌, [], None, Some, true, false, length, nat_lt, not, IfOk, IfErr, IfSome};
 ghost use Rattle.ymx_forward.specs.Inboxes.{ComesBackFor, IsTaken, is_never, places_of};
-ghost use Rattle.ymx_forward.specs.Standings.{is_resting, lacks_place, rank_of, standing_of, told_by};
+ghost use Rattle.ymx_forward.specs.Standings.{has_rested, is_resting, lacks_place, rank_of, standing_of, told_by};
 
 use crate::stillness::Stillness;
 use crate::system::TcpConnection;
 use std::alloc::{AllocFailed, Global};
 use std::collections::VecDeque;
-use std::time::{Clock, Duration};
+use std::time::Duration;
 use ymx_policy::Notice;
 
 /// How many seconds a link gets no connection after its peer could not be reached or was lost, where another link is
@@ -205,14 +205,12 @@ impl Content {
         is_woken
     }
 
-    /// Whether the rest of its link is over, by the clock. So it is of one that doesn't rest.
-    pub(crate) fn has_rested<R: Clock>(&self, rt: &R) -> bool
-        ensures none { self.now.rest ≡ None → result ≡ true }
-        // Nobody knows how long a rest has lasted that began when the clock couldn't be read.
-        ensures unknown { IfSome self.now.rest (λ rest. rest.since ≡ None → result ≡ false) }
+    /// Whether the rest of its link is over at this time. So it is of one that doesn't rest.
+    pub(crate) fn has_rested(&self, now: Option<Duration>) -> bool
+        ensures { result ≡ has_rested self.now.rest now }
     {
         match self.rest {
-            Some(rest) => rest.has_lasted(rt, Duration::from_secs(REST)),
+            Some(rest) => rest.has_lasted(now, Duration::from_secs(REST)),
             None => true,
         }
     }

@@ -1,12 +1,13 @@
 //! Who lets peers in.
 
-ghost use Rattle.std.specs.Prelude.{◌≡◌, None};
-ghost use Rattle.ymx_forward.specs.Doors.{IsAdmitted, IsNobody};
+ghost use Rattle.std.specs.Prelude.{◌≡◌, if◌then◌else◌};
+ghost use Rattle.ymx_forward.specs.Doors.{IsAdmitted, IsNobody, is_told};
 
 use crate::peer::Peer;
+use crate::stillness::{has_passed, time_of};
 use crate::system::TcpConnection;
 use std::net::SocketAddrV4;
-use std::time::{Clock, Duration, Instant};
+use std::time::{Clock, Duration};
 use ymx_policy::Networks;
 
 /// How many seconds lie between two of those who are closed and told, at least.
@@ -29,7 +30,7 @@ pub(crate) struct Doorkeeper {
     /// From where peers may call.
     from: Networks,
     /// When somebody was last closed who was told.
-    told: Option<Instant>,
+    told: Option<Duration>,
 }
 
 impl Doorkeeper {
@@ -53,7 +54,7 @@ impl Doorkeeper {
         if self.from.admits(address) {
             Caller::Peer(peer)
         } else {
-            self.turn_away(rt, address)
+            self.turn_away(time_of(rt), address)
         }
     }
 
@@ -66,25 +67,19 @@ impl Doorkeeper {
             Some(peer) => peer.address(),
             None => None,
         };
-        self.turn_away(rt, address)
+        self.turn_away(time_of(rt), address)
     }
 
-    /// Somebody is closed. Of those in a second the first is told.
-    fn turn_away<R: Clock>(&mut self, rt: &R, address: Option<SocketAddrV4>) -> Caller
-        ensures from { self.new.from ≡ self.old.from }
-        ensures nobody { IsNobody result }
-        ensures first { self.old.told ≡ None → result ≡ Caller.TurnedAway address }
+    /// Somebody is closed at this time. Of those in a second the first is told.
+    fn turn_away(&mut self, now: Option<Duration>, address: Option<SocketAddrV4>) -> Caller
+        ensures told { result ≡ (if is_told self.old.told now then Caller.TurnedAway address else Caller.Closed) }
+        ensures last { self.new ≡ record self.old { told = if is_told self.old.told now then now else self.old.told } }
     {
-        let is_due = match self.told {
-            Some(told) => told
-                .elapsed(rt)
-                .is_ok_and(|passed| passed >= Duration::from_secs(PAUSE)),
-            None => true,
-        };
-        if !is_due {
+        let is_told = self.told.is_none() || has_passed(self.told, now, Duration::from_secs(PAUSE));
+        if !is_told {
             return Caller::Closed;
         }
-        self.told = Instant::now(rt).ok();
+        self.told = now;
         Caller::TurnedAway(address)
     }
 }

@@ -12,7 +12,7 @@ ghost use Rattle.ymx_forward.specs.declared.content.Standing.{Standing as Stands
 ghost use Rattle.ymx_forward.specs.declared.inbox.Weight.{Weight as Load};
 
 use crate::content::{Content, Left, NotLeft, Places, Standing, Taken};
-use crate::stillness::Stillness;
+use crate::stillness::{Stillness, time_of};
 use crate::system::{TcpConnection, Waker};
 use std::alloc::{AllocFailed, Global};
 use std::collections::VecDeque;
@@ -233,7 +233,7 @@ impl Inbox {
     /// The link has no peer now: others are to be preferred for a while.
     pub(crate) fn rest<R: Clock + Wait>(&self, rt: &R) {
         let mut stillness = Stillness::new();
-        stillness.go_on(rt);
+        stillness.go_on(time_of(rt));
         self.begin_anew(rt, Some(stillness), ROOM);
     }
 
@@ -261,7 +261,7 @@ impl Inbox {
     /// thread that accepts once it has a place.
     fn weight<R: Clock + Wait>(&self, rt: &R) -> Option<Weight> {
         let mut content = self.content.lock(rt);
-        let has_rested = content.has_rested(rt);
+        let has_rested = content.has_rested(time_of(rt));
         let standing = content.standing(has_rested)?;
         let load = self.load.load(Ordering::SeqCst);
         Some(Weight { standing, load })

@@ -1,12 +1,12 @@
 //! How long a peer has been silent.
 
-ghost use Rattle.std.specs.Prelude.{◌≡◌, ◌+◌, ◌≤◌, false, true, option_map};
+ghost use Rattle.std.specs.Prelude.{◌≡◌, ◌⊎◌, false, true, option_map, IfNone, IfSome, None, Some};
 ghost use Rattle.std.specs.Duration.{as_nanos};
-ghost use Rattle.std.specs.declared.time.Duration.{Duration as DurationValue};
 ghost use Rattle.ymx_forward.specs.Signs.{is_sign};
+ghost use Rattle.ymx_forward.specs.Times.{IsDueAfter, IsDueNow, since_last};
 ghost use Rattle.ymx_forward.specs.Waits.{shorter_of};
 
-use std::time::{Clock, Duration, Instant};
+use std::time::Duration;
 
 /// What is due where a peer is silent.
 #[derive(Clone, Copy, PartialEq, Eq)]
@@ -28,7 +28,8 @@ const LONG_PART: u64 = 4_108;
 pub(crate) struct Silence {
     /// How long it may be silent before it is asked, and then before it counts as gone.
     pub(crate) patience: Duration,
-    since: Instant,
+    /// When it last gave a sign or was asked for one, by the clock.
+    since: Duration,
     was_asked: bool,
     /// How many bytes had come of it when it last gave a sign.
     heard: u64,
@@ -37,11 +38,14 @@ pub(crate) struct Silence {
 }
 
 impl Silence {
-    /// It has just given a sign. None where nobody listens for silence, or the clock can't be read.
-    pub(crate) fn new<R: Clock>(rt: &R, patience: Option<Duration>) -> Option<Silence> {
+    /// It gives a sign at this time. None where nobody listens for silence, or the time is unknown.
+    pub(crate) fn new(now: Option<Duration>, patience: Option<Duration>) -> Option<Silence>
+        ensures new { IfSome result (λ silence. (patience ≡ Some silence.patience) × (now ≡ Some silence.since) × (silence.was_asked ≡ false) × (silence.heard ≡ 0) × (silence.pending ≡ None)) }
+        ensures none { IfNone result ((patience ≡ None) ⊎ (now ≡ None)) }
+    {
         Some(Silence {
             patience: patience?,
-            since: Instant::now(rt).ok()?,
+            since: now?,
             was_asked: false,
             heard: 0,
             pending: None,
@@ -50,9 +54,14 @@ impl Silence {
 
     /// So many bytes have come of the peer, of which this many stand behind the last whole frame, or a payload is under way.
     /// Whether it has given a sign since the last one: then the time begins anew.
-    pub(crate) fn hear<R: Clock>(&mut self, rt: &R, heard: u64, unframed: Option<usize>) -> bool
+    pub(crate) fn hear(
+        &mut self,
+        now: Option<Duration>,
+        heard: u64,
+        unframed: Option<usize>,
+    ) -> bool
         ensures sign { result ≡ is_sign self.old.heard heard unframed }
-        ensures heard { result ≡ true → (self.new.heard ≡ heard) × (self.new.was_asked ≡ false) }
+        ensures heard { result ≡ true → self.new ≡ record self.old { since = since_last self.old.since now; was_asked = false; heard = heard } }
         ensures silent { result ≡ false → self.new ≡ self.old }
     {
         if !is_sign(self.heard, heard, unframed) {
@@ -60,34 +69,38 @@ impl Silence {
         }
         self.heard = heard;
         self.was_asked = false;
-        self.begin(rt);
+        self.begin(now);
         true
     }
 
     /// It was asked for a sign, and has as long again.
-    pub(crate) fn note_asked<R: Clock>(&mut self, rt: &R)
-        ensures { self.new.was_asked ≡ true }
+    pub(crate) fn note_asked(&mut self, now: Option<Duration>)
+        ensures { self.new ≡ record self.old { since = since_last self.old.since now; was_asked = true } }
     {
         self.was_asked = true;
-        self.begin(rt);
+        self.begin(now);
     }
 
-    /// The time begins anew.
-    fn begin<R: Clock>(&mut self, rt: &R)
-        ensures { (self.new.heard ≡ self.old.heard) × (self.new.was_asked ≡ self.old.was_asked) }
+    /// The time begins anew, unless it is unknown.
+    fn begin(&mut self, now: Option<Duration>)
+        ensures { self.new ≡ record self.old { since = since_last self.old.since now } }
     {
-        if let Ok(now) = Instant::now(rt) {
+        if let Some(now) = now {
             self.since = now;
         }
     }
 
-    /// What is due now. Where the clock can't be read, nothing is.
-    pub(crate) fn due<R: Clock>(&self, rt: &R) -> Due
-        ensures { result ≡ Due.Loss → self.now.was_asked ≡ true }
+    /// What is due now. Where the time is unknown, nothing is.
+    pub(crate) fn due(&self, now: Option<Duration>) -> Due
+        ensures { IsDueNow self.now now result }
     {
-        match self.since.elapsed(rt) {
-            Ok(passed) => due_after(self.patience, passed, self.was_asked),
-            Err(_) => Due::In(self.patience),
+        match now {
+            Some(now) => due_after(
+                self.patience,
+                now.saturating_sub(self.since),
+                self.was_asked,
+            ),
+            None => Due::In(self.patience),
         }
     }
 }
@@ -105,9 +118,7 @@ pub(crate) fn is_sign(before: u64, bytes: u64, unframed: Option<usize>) -> bool
 
 /// What is due after so long a silence. A loss only behind a sign that was asked for.
 fn due_after(patience: Duration, passed: Duration, was_asked: bool) -> Due
-    ensures left { (left : DurationValue) → result ≡ Due.In left → as_nanos left + as_nanos passed ≡ as_nanos patience }
-    ensures ping { result ≡ Due.Ping → (was_asked ≡ false) × (as_nanos patience ≤ as_nanos passed) }
-    ensures loss { result ≡ Due.Loss → (was_asked ≡ true) × (as_nanos patience ≤ as_nanos passed) }
+    ensures { IsDueAfter (as_nanos patience) (as_nanos passed) was_asked result }
 {
     match patience.checked_sub(passed) {
         Some(left) if left > Duration::ZERO => Due::In(left),

@@ -1,9 +1,10 @@
 //! Where an end runs its sessions: its runtime, its allocator, and the poll that tells it of events.
 
-ghost use Rattle.std.specs.Prelude.{◌≡◌, IfErr, IfOk, false, true, is_err};
+ghost use Rattle.std.specs.Prelude.{◌≡◌, IfErr, IfOk, false, true};
 ghost use Rattle.ymx_forward.specs.Calls.{RunsOver};
 ghost use Rattle.ymx_forward.specs.Counts.{CountsOne};
-ghost use Rattle.ymx_forward.specs.Sessions.{Serves};
+ghost use Rattle.ymx_forward.specs.Sessions.{Serves, nanoseconds};
+ghost use Rattle.ymx_forward.specs.Times.{has_gone_by};
 
 use crate::closing::close;
 use crate::drain::Drain;
@@ -11,15 +12,15 @@ use crate::end::wake_by;
 use crate::peer::Peer;
 use crate::socket::Socket;
 use crate::starting::StartFault;
+use crate::stillness::{has_passed, time_of};
 use crate::system::{NoEvents, Poll};
 use crate::tunnel::{Served, TunnelLoop, wire_of};
-use crate::tunnel_end::{RETRY, TunnelEnd};
+use crate::tunnel_end::{RETRY, TunnelEnd, close_limit};
 use crate::watching::Watcher;
 use std::alloc::Global;
-use std::io;
 use std::net::Net;
 use std::sync::{Arc, Wait};
-use std::time::{Clock, Duration, Instant};
+use std::time::{Clock, Duration};
 use ymx_policy::{Session, SessionEnd};
 
 /// How many seconds a session lasts at least behind which the peer is called again at once.
@@ -121,7 +122,7 @@ impl<R: Net + Clock + Wait> Site<'_, R> {
         ensures over { RunsOver peer result }
     {
         self.sessions = self.sessions.saturating_add(1);
-        let began = Instant::now(self.rt);
+        let began = time_of(self.rt);
         let address = peer.address();
         end.note_all();
         if let Some(keepalive) = end.limits.keepalive {
@@ -136,7 +137,7 @@ impl<R: Net + Clock + Wait> Site<'_, R> {
             Err(refused) => Served::unbegun(session, refused),
         };
         watcher.peer(false);
-        served.note(self.has_lasted(began), address);
+        served.note(has_lasted(began, time_of(self.rt)), address);
         served
     }
 
@@ -160,7 +161,7 @@ impl<R: Net + Clock + Wait> Site<'_, R> {
         };
         let served = tunnel.serve(self.rt, &mut self.poll, watcher, session);
         let mut wire = tunnel.into_wire();
-        let limit = end.close_limit();
+        let limit = close_limit(end.limits.close, end.is_drained());
         close(
             self.rt,
             &mut self.poll,
@@ -170,18 +171,13 @@ impl<R: Net + Clock + Wait> Site<'_, R> {
         );
         served
     }
+}
 
-    /// Whether it is a while since then. Where the clock can't tell, it isn't.
-    fn has_lasted(&self, began: io::Result<Instant>) -> bool
-        ensures { is_err began ≡ true → result ≡ false }
-    {
-        match began {
-            Ok(began) => began
-                .elapsed(self.rt)
-                .is_ok_and(|passed| passed.as_secs() >= LASTING),
-            Err(_) => false,
-        }
-    }
+/// Whether it was a while at this time since then. Where the clock couldn't tell, it wasn't.
+fn has_lasted(began: Option<Duration>, now: Option<Duration>) -> bool
+    ensures { result ≡ has_gone_by began now (nanoseconds 1) }
+{
+    has_passed(began, now, Duration::from_secs(LASTING))
 }
 
 /// How a session ended of which nothing was done, for want of memory.

@@ -3,7 +3,7 @@
 //! All that moves is moved by calls of [`ymx_engine::Tunnel`], which owns the wire and the connections. Each function
 //! here that makes such calls says that they are all it did: `Runs`.
 
-ghost use Rattle.std.specs.Prelude.{ℕ, Result, ◌≡◌, ◌⊎◌, ◌||◌, [], true, false, not, length, is_err, is_some, option_map, IfErr, IfNone, IfOk, IfSome, IsSome, Some, None};
+ghost use Rattle.std.specs.Prelude.{ℕ, Result, ◌≡◌, ◌⊎◌, ◌||◌, ◌&&◌, [], true, false, not, length, is_err, is_some, option_map, IfErr, IfNone, IfOk, IfSome, IsSome, Some, None};
 ghost use Rattle.std.specs.Duration.{as_nanos};
 ghost use Rattle.ymx_engine.specs.Devices.{Seen};
 ghost use Rattle.ymx_engine.specs.Joins.{IsJoined, IsOpened};
@@ -23,9 +23,10 @@ ghost use Rattle.ymx_forward.specs.Coming.{has_spoken, tells_coming};
 ghost use Rattle.ymx_forward.specs.Signs.{is_sign};
 ghost use Rattle.ymx_engine.specs.Engines.{is_flushed, unframed};
 ghost use Rattle.ymx_forward.specs.Users.{IsBrought, IsStated, awaits_sign, can_open_later, has_no_place, is_followed, leaves_users, must_wait, user_is_due};
+ghost use Rattle.ymx_forward.specs.Times.{has_gone_by};
 ghost use Rattle.ymx_forward.specs.Waits.{places_at, time_to_wait};
 ghost use Rattle.ymx_forward.specs.Offers.{BeginsFor, CallsTarget, EndsOffer, IsAnswered, NoneWaitsForPlace};
-ghost use Rattle.ymx_forward.specs.Sessions.{IsBegunFor, IsUnmade, IsUnserved, asked_to_go, free_target, has_failed, is_said, rule_of};
+ghost use Rattle.ymx_forward.specs.Sessions.{IsBegunFor, IsUnmade, IsUnserved, asked_to_go, free_target, has_failed, is_said, nanoseconds, rule_of};
 ghost use Rattle.ymx_policy.specs.declared.asks.Session.{Session as Wanted};
 ghost use Rattle.ymx_law_session.specs.Limits.{IsWithin};
 ghost use Rattle.ymx_forward.specs.Sides.{role_at};
@@ -41,7 +42,7 @@ use crate::peer::Peer;
 use crate::silence::{Due, Silence, is_sign, shorter};
 use crate::site::{lacking, unwatched};
 use crate::socket::Socket;
-use crate::stillness::Stillness;
+use crate::stillness::{Stillness, time_of};
 use crate::stream::Stream;
 use crate::system::{Event, NoEvents, Poll, SystemDialer, TcpConnection};
 use crate::tunnel_end::{LISTENER, NoEnd, RETRY, Side, TunnelEnd};
@@ -393,7 +394,7 @@ impl<'a> TunnelLoop<'a> {
                 self.leave_all(watcher);
                 return Err(refused);
             }
-            if is_kept && self.is_to_be_left(rt) {
+            if is_kept && self.is_to_be_left(time_of(rt)) {
                 self.leave_all(watcher);
                 return Ok(Finished { was_left: true });
             }
@@ -403,10 +404,12 @@ impl<'a> TunnelLoop<'a> {
     }
 
     /// Whether the session was lost, another one follows, and nothing has moved for too long.
-    fn is_to_be_left<R: Clock>(&self, rt: &R) -> bool
-        ensures { result ≡ true → is_running self.now.tunnel.engine.session.status ≡ false }
+    fn is_to_be_left(&self, now: Option<Duration>) -> bool
+        ensures exact { result ≡ (is_followed self.now.tunnel_end.now self.now.tunnel && has_gone_by self.now.stillness.since now (nanoseconds 10)) }
+        ensures over { result ≡ true → is_running self.now.tunnel.engine.session.status ≡ false }
     {
-        self.is_to_be_followed() && self.stillness.has_lasted(rt, Duration::from_secs(PATIENCE))
+        let patience = Duration::from_secs(PATIENCE);
+        self.is_to_be_followed() && self.stillness.has_lasted(now, patience)
     }
 
     /// Asks the peer for its first sign of life, if it is to give one before it is given users.
@@ -417,7 +420,7 @@ impl<'a> TunnelLoop<'a> {
         let is_sounded = self.tunnel_end.limits.is_sounded;
         let pending = self.ask_first(is_sounded);
         self.is_heard = !is_sounded;
-        let mut silence = Silence::new(rt, self.tunnel_end.limits.silence)?;
+        let mut silence = Silence::new(time_of(rt), self.tunnel_end.limits.silence)?;
         silence.pending = pending;
         Some(silence)
     }
@@ -464,12 +467,13 @@ impl<'a> TunnelLoop<'a> {
         let Some(silence) = silence else {
             return None;
         };
-        let _ = silence.hear(rt, pulled, self.tunnel.unframed());
-        match silence.due(rt) {
+        let now = time_of(rt);
+        let _ = silence.hear(now, pulled, self.tunnel.unframed());
+        match silence.due(now) {
             Due::In(left) => Some(left),
             Due::Ping => {
                 silence.pending = self.ask(silence.pending);
-                silence.note_asked(rt);
+                silence.note_asked(now);
                 Some(silence.patience)
             }
             Due::Loss => {
@@ -571,7 +575,7 @@ impl<'a> TunnelLoop<'a> {
         ensures { self.new.tunnel ≡ self.old.tunnel }
     {
         if is_waiting {
-            self.stillness.go_on(rt);
+            self.stillness.go_on(time_of(rt));
         }
     }
 

@@ -7,7 +7,7 @@ ghost use Rattle.ymx_forward.specs.Doors.{MayCall};
 ghost use Rattle.ymx_forward.specs.Inboxes.{no_session};
 ghost use Rattle.ymx_forward.specs.declared.system.TcpConnection.{TcpConnection as Connection};
 ghost use Rattle.ymx_page.specs.Counts.{with_begun, with_declined};
-ghost use Rattle.ymx_forward.specs.Sessions.{AreLimitsOf, HasNoEnd, Serves, asked_to_go, goes_to, has_failed, nanoseconds};
+ghost use Rattle.ymx_forward.specs.Sessions.{AreLimitsOf, HasNoEnd, Serves, asked_to_go, close_limit_of, goes_to, has_failed};
 ghost use Rattle.ymx_forward.specs.Users.{comes_at_most, comes_to, may_wait};
 ghost use Rattle.ymx_forward.specs.Waits.{is_full_at, owes_room_at};
 
@@ -201,19 +201,6 @@ impl TunnelEnd {
     /// Whether that was asked.
     pub(crate) fn is_drained(&self) -> bool {
         is_asked(&self.drain)
-    }
-
-    /// After how long a silence the connection is closed at the end, though the peer hasn't closed it. None if never. Where no
-    /// more streams were to be taken, the peer isn't waited for without end.
-    pub(crate) fn close_limit(&self) -> Option<Duration>
-        ensures given { IfSome self.now.limits.close (λ limit. result ≡ Some limit) }
-        // Else it is 10 seconds, if any.
-        ensures drained { self.now.limits.close ≡ None → IfSome result (λ limit. as_nanos limit ≡ nanoseconds 10) }
-    {
-        match self.limits.close {
-            None if self.is_drained() => Some(Duration::from_secs(CLOSING)),
-            limit => limit,
-        }
     }
 
     /// Connections may wait, of which an event was told before.
@@ -446,5 +433,16 @@ impl TunnelEnd {
             Side::Local(_) => Some(Happened::AllCame),
             Side::Remote { .. } => Some(Happened::NoUsers(None)),
         }
+    }
+}
+
+/// After how long a silence the connection is closed at the end, though the peer hasn't closed it. None if never. Where no limit
+/// is given and no more streams were to be taken, the peer isn't waited for without end.
+pub(crate) fn close_limit(given: Option<Duration>, is_drained: bool) -> Option<Duration>
+    ensures { option_map as_nanos result ≡ close_limit_of (option_map as_nanos given) is_drained }
+{
+    match given {
+        None if is_drained => Some(Duration::from_secs(CLOSING)),
+        limit => limit,
     }
 }

@@ -35,7 +35,7 @@ pub returns-then-is_to_be_left-clause-lost : goal.returns-then-is_to_be_left-cla
 returns-then-is_to_be_left-clause-lost g c _ = record {
   between = _;
   before = runs_then _ _ _ c.loop.invariant.runs (runs_then _ _ _ c.hear_silence-limit.ensures.runs c.await_events.ensures.runs);
-  over = c.is_to_be_left.ensures c.if-is_to_be_left.true;
+  over = c.is_to_be_left.ensures.over c.if-is_to_be_left.true;
   behind = c.leave_all-then-is_to_be_left.ensures;
 }
 
