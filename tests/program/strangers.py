@@ -14,7 +14,7 @@ import threading
 import time
 
 import raw
-from kept import COME, is_served, says
+from kept import COME, is_refused, is_served, says
 from links import ask, echo
 from raw import ACK, ANY, BAD, GONE, PING, SYN, WINDOW, Program
 from raw import accept, call, frame, free_places, has_ended, leave, listen, take
@@ -28,6 +28,8 @@ PLACES = 16
 USERS, LINKS = 64, 32
 # So many don't speak yamux.
 BAD_CALLS = 2_000
+# So often a silent one may be the peer before one that speaks is, where this process is held up.
+SILENT_TURNS = 10
 SILENT = "ymx: the peer has gone without a sign of life\n"
 LEFT_OUT = re.compile(r"ymx: (\d+) lines? like those before w(?:as|ere) left out\n")
 
@@ -100,6 +102,38 @@ def silent_ones():
     question = take(peer, 12)
     peer.sendall(question[:3] + bytes([ACK]) + question[4:])
     assert is_served(peer)
+
+
+def call_again_and_again(place, is_over):
+    """Calls there, says nothing, and calls again as soon as that is closed, until it is over."""
+    while not is_over.is_set():
+        try:
+            connection = call(place)
+            while connection.recv(4096):
+                pass
+        except OSError:
+            pass
+
+
+def a_silent_one_that_calls_again():
+    """It keeps nobody out: who calls meanwhile is the next peer, and its users are served. Then nobody else may call."""
+    target, address = listen()
+    threading.Thread(target=echo, args=(target,), daemon=True).start()
+    near = Program("local", "-v", "--keep", "--ping", "1", "--bind", ANY, "--listen", ANY)
+    place, users = near.place(), near.place()
+    is_over = threading.Event()
+    threading.Thread(target=call_again_and_again, args=(place, is_over), daemon=True).start()
+    says(near, GONE)
+    Program("remote", "--keep", "--peer", place, "--target", address)
+    turns = 1
+    while (said := near.line()) != COME:
+        turns += 1
+        assert said == GONE and turns < SILENT_TURNS, f"the peer has not come, but {said!r}, {turns} times"
+    bad = []
+    ask(users, 1, bad)
+    assert not bad, "a user was not served"
+    assert is_refused(place), "somebody else may call"
+    is_over.set()
 
 
 def garbage():
@@ -193,6 +227,7 @@ TESTS = (
     ("local --from", of_local, ()),
     ("local --keep --from", of_local, ("--keep",)),
     ("silent ones", silent_ones, ()),
+    ("a silent one that calls again and again", a_silent_one_that_calls_again, ()),
     ("garbage", garbage, ()),
     ("links without a place", links_without_a_place, ()),
     ("what is told of links without a place", what_is_told_of_them, ()),

@@ -1,5 +1,5 @@
 -- Which peers are let in (this project's own).
-use Rattle.std.specs.Prelude.{◌≡◌, ◌||◌, Bool, true, not, is_some, Option, Some, None}
+use Rattle.std.specs.Prelude.{◌≡◌, ◌||◌, Bool, true, false, not, is_some, Option, Some, None}
 use Rattle.std.specs.declared.time.Duration.{Duration}
 use Rattle.ymx_policy.specs.Networks.{admits}
 use Rattle.ymx_policy.specs.declared.options.Networks.{Networks}
@@ -7,7 +7,9 @@ use Rattle.ymx_policy.specs.declared.asks.PoolHappened.{PoolHappened}
 use Rattle.ymx_policy.specs.declared.asks.PoolHappened.TheVariants.{Came, Listening}
 use Rattle.ymx_policy.specs.declared.asks.Happened.{Happened}
 use Rattle.ymx_policy.specs.declared.asks.Happened.TheVariants.{PeerCame}
+use Rattle.ymx_forward.specs.declared.accepting.Listening.{Listening as Comings}
 use Rattle.ymx_forward.specs.declared.peer.Peer.{Peer}
+use Rattle.ymx_forward.specs.declared.tunnel_end.TunnelEnd.{TunnelEnd}
 use Rattle.ymx_forward.specs.Sessions.{nanoseconds}
 use Rattle.ymx_forward.specs.Times.{has_gone_by}
 use Rattle.ymx_forward.specs.declared.doorkeeper.Caller.{Caller}
@@ -50,3 +52,15 @@ LetsAdmittedIn from peer other = Unit {0}
 abbrev pub ListensAttended : (attended : Bool) → PoolHappened → Type 0
 ListensAttended attended (Listening at) = attended ≡ true
 ListensAttended attended other = Unit {0}
+
+-- ---- who calls while a peer is there
+
+-- another session follows one that is lost
+abbrev pub goes_on : Option TunnelEnd → Bool
+goes_on (Some end) = end.is_kept
+goes_on None = false
+
+-- where others call while the peer that is there is still to give a sign of life
+abbrev pub awaited_at : Option TunnelEnd → Option Comings
+awaited_at (Some end) = end.callers
+awaited_at None = None

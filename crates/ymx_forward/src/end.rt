@@ -1,6 +1,6 @@
 //! What an end with one session after another asks for, done over sockets.
 
-ghost use Rattle.std.specs.Prelude.{ℕ, List, Option, [], ◌∷◌, ◌≡◌, ◌⊎◌, None, IfErr, IfOk, IfSome, IsErr, IsNone, IsOk, IsSome, option_map, ⊤};
+ghost use Rattle.std.specs.Prelude.{ℕ, List, Option, [], ◌∷◌, ◌≡◌, ◌⊎◌, None, Some, true, IfErr, IfOk, IfSome, IsErr, IsNone, IsOk, IsSome, option_map, ⊤};
 ghost use Rattle.ymx_policy.specs.Past.{Adds};
 ghost use Rattle.ymx_policy.specs.declared.asks.Callee.{Callee as Calls};
 ghost use Rattle.ymx_policy.specs.declared.asks.Deed.{Deed as Asked};
@@ -11,7 +11,8 @@ ghost use Rattle.ymx_policy.specs.declared.asks.Users.{Users as Comers};
 ghost use Rattle.ymx_forward.specs.Calls.{MeetsCalled, RanOver};
 ghost use Rattle.ymx_forward.specs.Comers.{Takes, TakesCount};
 ghost use Rattle.ymx_forward.specs.Counts.{CountsOne};
-ghost use Rattle.ymx_forward.specs.Doors.{MayCall, MeetsAdmitted};
+ghost use Rattle.ymx_forward.specs.Doors.{MayCall, MeetsAdmitted, awaited_at, goes_on};
+ghost use Rattle.ymx_forward.specs.declared.accepting.Listening.{Listening as Comings};
 ghost use Rattle.ymx_forward.specs.Served.{IsNoEnd, IsServed, IsUnplaced, ServesAsAsked, count_of};
 ghost use Rattle.ymx_forward.specs.Sessions.{HasNoEnd, Serves};
 
@@ -121,12 +122,18 @@ impl<'a, R: Host> EndSockets<'a, R> {
         }
     }
 
-    /// Listens for the peer, and makes the place in which it is awaited: a want of memory for it is told as such.
+    /// Listens for the peer, and makes the place in which it is awaited: a want of memory for it is told as such. It does so on
+    /// where the last peer gave no sign of life: who has called meanwhile is next.
     fn listen_for_peer(&mut self, peers: Peers) -> Happened
         // Only those are let in that may call.
-        ensures { self.new.keeper.from ≡ peers.from }
+        ensures from { self.new.keeper.from ≡ peers.from }
+        ensures on { (callers : Comings) → awaited_at self.old.end ≡ Some callers → (result ≡ Happened.Listening peers.address) × (self.new.callers ≡ Some callers) }
     {
         self.keeper = Doorkeeper::new(peers.from);
+        if let Some(callers) = self.take_callers() {
+            self.callers = Some(callers);
+            return Happened::Listening(peers.address);
+        }
         match listen_at(self.rt, peers.address) {
             Ok((listener, at)) => {
                 self.listener = Some(listener);
@@ -221,15 +228,29 @@ impl<'a, R: Host> EndSockets<'a, R> {
         Happened::SessionEnded(served.end())
     }
 
-    /// Waits until the peer calls, after which nobody listens for it. Who may not call is closed.
+    /// Where others called while the last peer was there, if it gave no sign of life.
+    fn take_callers(&mut self) -> Option<Listening>
+        ensures taken { result ≡ awaited_at self.old.end }
+        ensures keeper { self.new.keeper ≡ self.old.keeper }
+    {
+        match &mut self.end {
+            Some(end) => end.take_callers(),
+            None => None,
+        }
+    }
+
+    /// Waits until the peer calls, after which nobody listens for another, but with `--keep` until it has given a sign of life. Who may
+    /// not call is closed.
     fn await_peer<V: ProgramWatcher>(&mut self, watcher: &mut V) -> Happened
         // The peer that came may call from where it does.
-        ensures { MeetsAdmitted self.old.keeper.from self.new.peer result }
+        ensures met { MeetsAdmitted self.old.keeper.from self.new.peer result }
+        ensures shut { result ≡ Happened.PeerCame → (self.new.listener ≡ None) × (self.new.callers ≡ None) }
+        ensures open { result ≡ Happened.PeerCame → goes_on self.new.end ≡ true → IsSome (awaited_at self.new.end) }
     {
         match self.meet(watcher) {
             Ok(peer) => {
                 self.listener = None;
-                self.callers = None;
+                self.leave_open();
                 self.peer = Some(peer);
                 Happened::PeerCame
             }
@@ -241,9 +262,24 @@ impl<'a, R: Host> EndSockets<'a, R> {
         }
     }
 
+    /// With `--keep` others may call until the peer that is there gives a sign of life.
+    fn leave_open(&mut self)
+        ensures shut { self.new.callers ≡ None }
+        ensures open { goes_on self.new.end ≡ true → awaited_at self.new.end ≡ self.old.callers }
+        ensures listener { self.new.listener ≡ self.old.listener }
+    {
+        let callers = self.callers.take();
+        if let Some(end) = &mut self.end {
+            if end.is_kept {
+                end.await_others(callers);
+            }
+        }
+    }
+
     /// The next peer that calls. With `--keep` users that come meanwhile are closed, and without they wait.
     fn meet<V: ProgramWatcher>(&mut self, watcher: &mut V) -> Result<Peer, Happened>
-        ensures { IfOk result (MayCall self.old.keeper.from) }
+        ensures may { IfOk result (MayCall self.old.keeper.from) }
+        ensures there { IsOk result → IsSome self.new.callers }
     {
         self.watch_callers()?;
         let keeper = &mut self.keeper;

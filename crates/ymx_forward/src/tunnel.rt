@@ -419,7 +419,10 @@ impl<'a> TunnelLoop<'a> {
     {
         let is_sounded = self.tunnel_end.limits.is_sounded;
         let pending = self.ask_first(is_sounded);
-        self.is_heard = !is_sounded;
+        self.is_heard = false;
+        if !is_sounded {
+            self.note_heard();
+        }
         let mut silence = Silence::new(time_of(rt), self.tunnel_end.limits.silence)?;
         silence.pending = pending;
         Some(silence)
@@ -442,9 +445,19 @@ impl<'a> TunnelLoop<'a> {
         ensures same { self.new.tunnel ≡ self.old.tunnel }
     {
         if !self.is_heard && is_sign(0, pulled, self.tunnel.unframed()) {
-            self.is_heard = true;
+            self.note_heard();
             self.show_room(rt);
         }
+    }
+
+    /// The peer has given a sign of life, or isn't asked for one: no other is awaited any more.
+    fn note_heard(&mut self)
+        ensures heard { self.new.is_heard ≡ true }
+        ensures alone { self.new.tunnel_end.now.callers ≡ None }
+        ensures same { self.new.tunnel ≡ self.old.tunnel }
+    {
+        self.is_heard = true;
+        let _ = self.tunnel_end.take_callers();
     }
 
     /// Hears whether the peer is silent: then it is asked for a sign, and given up where none comes. How long it may be

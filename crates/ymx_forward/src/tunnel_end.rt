@@ -39,7 +39,7 @@ const WAITING: u32 = 4_096;
 /// The token of the listener for connections of users.
 pub(crate) const LISTENER: usize = 1;
 
-/// The token of the listener for peers, which is there while there is no session.
+/// The token of the listener for peers, which is there while none has given a sign of life.
 pub(crate) const PEERS: usize = 2;
 
 /// Where connections come from, or where they go to.
@@ -119,6 +119,8 @@ pub(crate) struct TunnelEnd {
     drain: Option<Arc<Drain, Global>>,
     /// Where its users come from, if they come to it.
     users: Option<SocketAddrV4>,
+    /// Where others call while the peer that is there is still to give a sign of life: who calls is the next one.
+    callers: Option<Listening>,
 }
 
 impl TunnelEnd {
@@ -162,6 +164,7 @@ impl TunnelEnd {
             waiting: None,
             drain: None,
             users: None,
+            callers: None,
         }
     }
 
@@ -201,6 +204,21 @@ impl TunnelEnd {
     /// Whether that was asked.
     pub(crate) fn is_drained(&self) -> bool {
         is_asked(&self.drain)
+    }
+
+    /// Others may call here until the peer that is there gives a sign of life.
+    pub(crate) fn await_others(&mut self, callers: Option<Listening>)
+        ensures { self.new ≡ record self.old { callers = callers } }
+    {
+        self.callers = callers;
+    }
+
+    /// Where others called, if the last peer gave no sign of life.
+    pub(crate) fn take_callers(&mut self) -> Option<Listening>
+        ensures taken { result ≡ self.old.callers }
+        ensures none { self.new ≡ record self.old { callers = None } }
+    {
+        self.callers.take()
     }
 
     /// Connections may wait, of which an event was told before.
