@@ -16,7 +16,7 @@ use ymx_model::{CallFault, Got, Status, Wrote};
 
 impl State {
     /// The stream that the caller has under this id, or why the caller has none.
-    fn stream(&self, id: u32) -> Result<&StreamRec, CallFault>
+    pub(crate) fn stream(&self, id: u32) -> Result<&StreamRec, CallFault>
         ensures there { IfOk result (λ stream. look id self.now.table.entries ≡ Some stream.now) }
         ensures may { IfOk result (λ stream. stream_fault id self.now ≡ None) }
         ensures refused { IfErr result (λ fault. stream_fault id self.now ≡ Some fault) }
@@ -84,16 +84,6 @@ impl State {
         Ok(Got::Wait)
     }
 
-    /// The unread bytes, as they lie in the stream's ring.
-    pub(crate) fn unread(&self, id: u32) -> (&[u8], &[u8])
-        ensures all { result.0.now ++ result.1.now ≡ waiting id self.now }
-    {
-        match self.stream(id) {
-            Ok(stream) => stream.unread(),
-            Err(_) => (&[], &[]),
-        }
-    }
-
     /// Drops the first unread bytes, as a read of them would take them out.
     pub(crate) fn consume(&mut self, id: u32, count: usize) -> Result<Got, CallFault>
         ensures reply { read_or result (take count (waiting id self.old)) ≡ (read_from id count self.old).reply }
@@ -133,93 +123,6 @@ impl State {
         stream.credit() as usize
     }
 
-    /// Whether the peer has finished the stream and all was read.
-    pub(crate) fn is_at_end(&self, id: u32) -> bool
-        ensures { IsTrue result ↔ ((read_from id 1 self.now).reply ≡ ReadEnd) }
-    {
-        match self.stream(id) {
-            Ok(stream) => stream.has_ended() && stream.unread_len() == 0,
-            Err(_) => false,
-        }
-    }
-
-    /// Whether a read finds neither bytes nor the end, nor a refusal.
-    pub(crate) fn read_waits(&self, id: u32) -> bool
-        ensures { IsTrue result ↔ ((read_from id 1 self.now).reply ≡ ReadWait) }
-    {
-        match self.stream(id) {
-            Ok(stream) => { stream.unread_len() == 0 && !stream.has_ended() && !self.is_lost() }
-            Err(_) => false,
-        }
-    }
-
-    /// Whether a write of one byte finds no credit, and no refusal.
-    pub(crate) fn write_waits(&self, id: u32) -> bool
-        ensures { IsTrue result ↔ ((write_to id (0 ∷ []) self.now).reply ≡ WroteReply Wrote.Wait) }
-    {
-        match self.stream(id) {
-            Ok(stream) => { stream.credit() == 0 && !stream.is_finished() && !self.is_lost() }
-            Err(_) => false,
-        }
-    }
-
-    /// Whether the peer's end of the stream has arrived.
-    pub(crate) fn has_ended(&self, id: u32) -> bool
-        ensures { result ≡ has_ended id self.now }
-    {
-        match self.stream(id) {
-            Ok(stream) => stream.has_ended(),
-            Err(_) => false,
-        }
-    }
-
-    /// How many bytes were written and stand in no frame begun yet.
-    pub(crate) fn unsent(&self, id: u32) -> usize
-        ensures { result ≡ unsent_of id self.now }
-    {
-        match self.stream(id) {
-            Ok(stream) => stream.unsent_len(),
-            Err(_) => 0,
-        }
-    }
-
-    /// How many bytes of all streams were written and stand in no frame begun yet.
-    pub(crate) fn unsent_total(&self) -> u128
-        ensures { result ≡ unsent_total self.now }
-    {
-        if self.status == Status::Closed {
-            return 0;
-        }
-        self.table.unsent_sum()
-    }
-
-    /// How many bytes wait to be read.
-    pub(crate) fn waiting_count(&self, id: u32) -> usize
-        ensures { result ≡ length (waiting id self.now) }
-    {
-        match self.stream(id) {
-            Ok(stream) => stream.unread_len(),
-            Err(_) => 0,
-        }
-    }
-
-    /// Whether the peer has acknowledged the stream.
-    pub(crate) fn is_acknowledged(&self, id: u32) -> bool
-        ensures { result ≡ is_acknowledged id self.now }
-    {
-        match self.stream(id) {
-            Ok(stream) => stream.is_acknowledged(),
-            Err(_) => false,
-        }
-    }
-
-    /// Whether the stream was reset, by either side.
-    pub(crate) fn is_reset(&self, id: u32) -> bool
-        ensures { IsTrue result ↔ (stream_fault id self.now ≡ Some Reset) }
-    {
-        matches!(self.stream(id), Err(CallFault::Reset))
-    }
-
     /// Gives memory of a stream back that it doesn't need.
     pub(crate) fn shrink(&mut self, id: u32) -> Result<bool, CallFault>
         ensures same { self.new ≡ self.old }
@@ -228,29 +131,6 @@ impl State {
     {
         self.stream(id)?;
         Ok(self.table.shrink(id))
-    }
-
-    /// Whether the caller has the stream: it was opened or accepted, and not forgotten.
-    pub(crate) fn has_stream(&self, id: u32) -> bool
-        ensures { result ≡ has_stream id self.now }
-    {
-        match self.table.get(id) {
-            Some(stream) => matches!(stream.stage(), Stage::Live | Stage::Reset),
-            None => false,
-        }
-    }
-
-    /// Whether more may come of the stream.
-    pub(crate) fn goes_on(&self, id: u32) -> bool
-        ensures { result ≡ goes_on id self.now }
-    {
-        if self.status != Status::Running {
-            return false;
-        }
-        match self.table.get(id) {
-            Some(stream) => stream.stage() == Stage::Live && !stream.has_ended(),
-            None => false,
-        }
     }
 
     /// Half-closes a stream.
