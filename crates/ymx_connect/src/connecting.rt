@@ -16,6 +16,7 @@ use std::alloc::Global;
 use std::net::TcpStream;
 use std::sync::{Arc, Wait};
 use std::thread::Threads;
+use ymx_header::FIRST_CREDIT;
 use ymx_hub::{Hub, Off, Seat};
 use ymx_memory::RefusedAllocation;
 use ymx_model::{Config, Inlet, Outlet, Role};
@@ -23,7 +24,7 @@ use ymx_session::Session;
 
 /// The configuration of most sessions: a window of 262,144 bytes, and the least own id first.
 pub const USUAL_CONFIG: Config = Config {
-    window: 262_144,
+    window: FIRST_CREDIT,
     first: 0,
 };
 

@@ -14,6 +14,7 @@ use std::marker::PhantomData;
 use std::snapshot::Snapshot;
 use std::sync::Wait;
 use std::thread::Promise;
+use ymx_header::FRAME_LENGTH;
 use ymx_hub::{Hub, Recorder, Seat};
 use ymx_memory::RefusedAllocation;
 use ymx_model::{Inlet, Outlet};
@@ -21,10 +22,10 @@ use ymx_seats::Sight;
 
 /// Bytes that the read pump reads at once: 13 whole frames of the longest that are sent. With 16 a session would take more
 /// than 600,000 bytes.
-const READ_BUFFER: usize = 13 * (12 + 16_384);
+const READ_BUFFER: usize = 13 * FRAME_LENGTH;
 
 /// Bytes that the write pump writes at once: 16 whole frames of the longest that are sent.
-const WRITE_BUFFER: usize = 16 * (12 + 16_384);
+const WRITE_BUFFER: usize = 16 * FRAME_LENGTH;
 
 /// What a pump moves bytes through.
 #[derive(Drop)]

@@ -23,9 +23,9 @@ ghost use Rattle.ymx_engine.specs.Ways.{may_push};
 ghost use Rattle.ymx_engine.specs.Work.{Reads};
 
 use crate::device::{Device, Pulled};
-use crate::row::{HEADER, Row, row_of};
+use crate::row::{Row, row_of};
 use crate::tunnel::Tunnel;
-use ymx_header::{TYPE_PING, decode};
+use ymx_header::{HEADER_LENGTH, TYPE_PING, decode};
 use ymx_model::Status;
 
 impl<D: Device + Drop, W: Device + Drop> Tunnel<D, W> {
@@ -182,8 +182,8 @@ impl<D: Device + Drop, W: Device + Drop> Tunnel<D, W> {
     {
         let places = self.session.records_left();
         let limit = match self.session.header_begun() {
-            Some(begun) => HEADER * places.max(1) - begun,
-            None => self.session.payload_left() as usize + HEADER * places,
+            Some(begun) => HEADER_LENGTH * places.max(1) - begun,
+            None => self.session.payload_left() as usize + HEADER_LENGTH * places,
         };
         limit.max(1)
     }
@@ -298,7 +298,7 @@ impl<D: Device + Drop, W: Device + Drop> Tunnel<D, W> {
 fn may_open(waits: &[u8]) -> bool
     ensures { result ≡ may_open waits.now }
 {
-    let Some(header) = waits.first_chunk::<HEADER>() else {
+    let Some(header) = waits.first_chunk::<HEADER_LENGTH>() else {
         return !waits.is_empty();
     };
     let header = decode(header);

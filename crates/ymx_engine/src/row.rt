@@ -9,10 +9,8 @@ ghost use Rattle.ymx_engine.specs.Passes.{IsRow, MayFollow, counts_of, payload_o
 
 use crate::device::{Device, Pushed};
 use std::io::IoSlice;
+use ymx_header::HEADER_LENGTH;
 use ymx_session::Session;
-
-/// How many bytes a header has.
-pub(crate) const HEADER: usize = 12;
 
 /// For fewer bytes in a row a call of the device is not worth making.
 const LEAST_IN_ROW: usize = 4_096;
@@ -69,7 +67,7 @@ impl<'a> Piece<'a> {
         if self.has_ended {
             return None;
         }
-        let header = self.behind.first_chunk::<HEADER>()?;
+        let header = self.behind.first_chunk::<HEADER_LENGTH>()?;
         session.passing_behind(self.ahead, header)
     }
 
@@ -79,10 +77,10 @@ impl<'a> Piece<'a> {
     {
         match self.following(session) {
             Some(said) => {
-                let count = (said as usize).min(self.behind.len() - HEADER);
+                let count = (said as usize).min(self.behind.len() - HEADER_LENGTH);
                 Piece {
                     count: count as u32,
-                    behind: behind(self.behind, HEADER + count),
+                    behind: behind(self.behind, HEADER_LENGTH + count),
                     ahead: self.ahead + said,
                     has_ended: false,
                 }
@@ -170,9 +168,9 @@ impl Row {
     pub(crate) fn push_to<D: Device>(&self, waits: &[u8], device: &mut D) -> Pushed
         ensures { IsPushed result (payload_of self.now waits.now) (D.seen device.old) (D.seen device.new) }
     {
-        let second = behind(waits, self.first as usize + HEADER);
-        let third = behind(second, self.second as usize + HEADER);
-        let fourth = behind(third, self.third as usize + HEADER);
+        let second = behind(waits, self.first as usize + HEADER_LENGTH);
+        let third = behind(second, self.second as usize + HEADER_LENGTH);
+        let fourth = behind(third, self.third as usize + HEADER_LENGTH);
         device.push_pieces(&[
             IoSlice::new(front(waits, self.first as usize)),
             IoSlice::new(front(second, self.second as usize)),

@@ -14,10 +14,8 @@ ghost use Rattle.ymx_engine.specs.Serves.{Sends, PutsDue};
 use crate::block::Block;
 use crate::buffers::FRAMES;
 use crate::calls::write;
+use ymx_header::DATA_LIMIT;
 use ymx_session::Session;
-
-/// How many bytes one frame carries.
-const FRAME: usize = 16_384;
 
 /// What is due waits behind what waits for the wire, where nothing waits or there is room for eight whole frames.
 pub(crate) fn put_due(session: &mut Session, outgoing: &mut Block)
@@ -62,7 +60,7 @@ fn send_through(session: &mut Session, id: u32, bytes: &[u8], outgoing: &mut Blo
 {
     let mut done = 0;
     'frame: for _ in 0..bytes.len() {
-        let count = FRAME.min(bytes.len() - done);
+        let count = (DATA_LIMIT as usize).min(bytes.len() - done);
         if !outgoing.write_through(session, id, &bytes[done..done + count]) {
             return done;
         }

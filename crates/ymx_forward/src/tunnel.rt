@@ -53,6 +53,7 @@ use std::net::{Net, SocketAddr, SocketAddrV4};
 use std::sync::Wait;
 use std::time::{Clock, Duration};
 use ymx_engine::{Device, NotJoined, Readiness, Registry, Tunnel};
+use ymx_header::{FIRST_EXHAUSTED, MOST_RECORDS};
 use ymx_model::{CallFault, Config, Role, Status};
 use ymx_policy::{Reason, Session as Asked, SessionEnd};
 use ymx_session::{NewFault, Session};
@@ -66,12 +67,6 @@ const STREAMS: usize = 2;
 
 /// How many connections are accepted at most before bytes move again.
 const ACCEPTS: u32 = 64;
-
-/// How many streams there are at most.
-const STREAMS_AT_ONCE: usize = 1_024;
-
-/// From this id on no stream is opened.
-const EXHAUSTED: u32 = 4_294_967_294;
 
 /// How often the wire is read before connections have their turns. So about as many bytes are read of it as are written
 /// to it, and bytes wait at their own connections, and not in the wire before those of all others.
@@ -699,14 +694,14 @@ impl<'a> TunnelLoop<'a> {
     fn can_open_later(&self) -> bool
         ensures { result ≡ can_open_later self.now.tunnel.engine.session }
     {
-        !self.is_lost() && !self.tunnel.is_peer_away() && self.tunnel.next_id() < EXHAUSTED
+        !self.is_lost() && !self.tunnel.is_peer_away() && self.tunnel.next_id() < FIRST_EXHAUSTED
     }
 
     /// Whether no stream can be opened now.
     fn has_no_place(&self) -> bool
         ensures { result ≡ has_no_place self.now.tunnel }
     {
-        self.tunnel.len() >= STREAMS_AT_ONCE || self.tunnel.opens_left() == 0
+        self.tunnel.len() >= MOST_RECORDS || self.tunnel.opens_left() == 0
     }
 
     /// How many streams can be opened for connections that come. None now where those are left to the next session.

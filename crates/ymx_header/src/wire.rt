@@ -1,4 +1,4 @@
-//! The constants of the wire, and the two limits of a window.
+//! The constants of the wire, and the limits of a session.
 
 /// The version of the protocol: 0, the only one (framing).
 pub const VERSION: u8 = 0;
@@ -35,3 +35,15 @@ pub const GO_AWAY_INTERNAL_ERROR: u32 = 2;
 pub const FIRST_CREDIT: u32 = 262_144;
 /// The widest window that a session grants, in bytes (this project's own).
 pub const WIDEST_WINDOW: u32 = 16_777_216;
+
+/// The longest payload of a Data frame that is sent, in bytes (this project's own).
+pub const DATA_LIMIT: u32 = 16_384;
+/// The length of the longest frame that is sent, in bytes.
+pub const FRAME_LENGTH: usize = HEADER_LENGTH + DATA_LIMIT as usize;
+
+/// From this id on no stream is opened: there are two numbers of 32 bits more (stream identifiers).
+pub const FIRST_EXHAUSTED: u32 = 4_294_967_294;
+/// How many own streams may be neither acknowledged, reset nor forgotten (this project's own, and that of the Go package).
+pub const MOST_UNACKNOWLEDGED: usize = 256;
+/// How many streams a session has at most (this project's own).
+pub const MOST_RECORDS: usize = 1_024;

@@ -12,12 +12,10 @@ use crate::hub::Hub;
 use crate::settled::Settled;
 use crate::shared::Shared;
 use std::sync::Wait;
+use ymx_header::MOST_RECORDS;
 use ymx_memory::RefusedAllocation;
 use ymx_model::{CallFault, Got};
 use ymx_seats::{Recorder, Seat};
-
-/// How many streams a session has at most, so that no more are released.
-pub(crate) const MOST_RELEASED: usize = 1_024;
 
 /// Bytes that are read at once, and dropped.
 const CHUNK: usize = 4_096;
@@ -81,7 +79,7 @@ impl<R: Recorder> Shared<R> {
         ensures off { R.KEEPS ≡ false → IsOk result }
     {
         let mut at = 0;
-        for _ in 0..MOST_RELEASED {
+        for _ in 0..MOST_RECORDS {
             let Some(id) = self.released.get_index(at) else {
                 return Ok(());
             };
@@ -132,7 +130,7 @@ impl<R: Recorder> Hub<R> {
     {
         let mut shared = take_lock(rt, &self.shared);
         let was_due = shared.booked.due();
-        if shared.released.len() >= MOST_RELEASED {
+        if shared.released.len() >= MOST_RECORDS {
             return Err(HubFault::Call(CallFault::TooMany));
         }
         let _has_room = shared.released.insert(id);

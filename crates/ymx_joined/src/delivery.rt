@@ -10,13 +10,11 @@ ghost use Rattle.ymx_joined.specs.declared.fault.DeliveryFault.TheVariants.{TooL
 use crate::fault::DeliveryFault;
 use crate::stages::{accept, finish, open, read, settle, write};
 use std::alloc::Global;
+use ymx_header::FIRST_CREDIT;
 use ymx_memory::{RefusalCount, RefusedAllocation};
 use ymx_model::Config;
 use ymx_session::NewFault;
 use ymx_world::World;
-
-/// The least window, in bytes: what may be written before anything is read.
-const WINDOW: u32 = 262_144;
 
 /// Sends a text from one new session to another, over one stream, and gives back what came out.
 ///
@@ -30,7 +28,7 @@ pub fn deliver(alloc: Global, text: &[u8]) -> Result<Vec<u8>, DeliveryFault>
     ensures too_long { first_credit < length text.now → result ≡ Err TooLong }
     ensures memory { length text.now ≤ first_credit → IfErr result (λ fault. fault ≡ Memory evidence) }
 {
-    if text.len() > WINDOW as usize {
+    if text.len() > FIRST_CREDIT as usize {
         return Err(DeliveryFault::TooLong);
     }
     match deliver_fitting(alloc, text) {
@@ -44,7 +42,7 @@ fn begin(alloc: Global) -> Result<World, RefusedAllocation>
     ensures { IfOk result (λ world. IsNewWorld world) }
 {
     let config = Config {
-        window: WINDOW,
+        window: FIRST_CREDIT,
         first: 0,
     };
     match World::new(alloc, config, config) {

@@ -1,5 +1,5 @@
 -- `opens_left` counts the streams that may be opened one behind another.
-use Rattle.std.proofs.Common.{◌≡◌, ℕ, ◌+◌, ◌-◌, ◌/◌, ◌<◌, ◌≤◌, List, [], ◌∷◌, ◌++◌, length, take, Bool, true, false, not, ◌&&◌, ◌||◌, nat_le, if◌then◌else◌, refl, sym, ap, ◌∙◌, subst, arith}
+use Rattle.std.proofs.Common.{◌≡◌, ℕ, ◌+◌, ◌<◌, List, [], ◌∷◌, ◌++◌, length, take, Bool, true, false, ◌||◌, nat_le, if◌then◌else◌, refl, sym, ap, ◌∙◌, arith}
 use Rattle.std.specs.Prelude.{count_by, min}
 use Rattle.std.proofs.lemmas.List.{length-append}
 use Rattle.std.proofs.lemmas.List.Recursion.{is_count_by}
@@ -8,11 +8,11 @@ use Rattle.ymx_machine.specs.declared.types.CallFault.TheVariants.{Lost, Closed,
 use Rattle.ymx_machine.specs.declared.types.Reply.TheVariants.{Opened, OpenedWith}
 use Rattle.ymx_machine.specs.shared.Limits.{first_credit, first_exhausted, most_unacknowledged, most_records}
 use Rattle.ymx_machine.specs.shared.Phases.Phase.{Live}
-use Rattle.ymx_model.specs.session.Records.{End, new_end, end_write}
+use Rattle.ymx_model.specs.session.Records.{new_end, end_write}
 use Rattle.ymx_model.specs.session.Sessions.{Session, is_own, is_lost, is_closed}
 use Rattle.ymx_model.specs.session.Calls.{Outcome, open_or, open_stream, open_with, answers, session_opened, refused, is_unacknowledged}
 use Rattle.ymx_law_session.specs.Limits.{IsWithin}
-use Rattle.ymx_machine.proofs.Tests.{split, none_of, not_le, is_le}
+use Rattle.ymx_machine.proofs.Tests.{split, not_le, is_le}
 use Rattle.ymx_session.specs.Opens.{ids_left, unacknowledged_left, records_left, opens_left}
 
 -- ---- one more is counted

@@ -11,9 +11,9 @@ use crate::session::Session;
 use crate::touched::Touched;
 use std::alloc::Global;
 use std::marker::Model;
+use ymx_header::MOST_RECORDS;
 use ymx_memory::RefusedAllocation;
 use ymx_model::{CallFault, Status};
-use ymx_table::MOST_RECORDS;
 
 /// The streams of one session that were released: their users are done with them, and what was written to them is still
 /// to arrive, as after `Close` of Go's package. Whoever has it lends it the session.

@@ -6,9 +6,8 @@ ghost use Rattle.ymx_model.specs.session.Emissions.{is_ready};
 ghost use Rattle.ymx_session.specs.Streams.{room_of};
 ghost use Rattle.ymx_session.specs.Through.{goes_through, WritesThrough};
 
-use crate::frame_buffer::DATA_LIMIT;
 use crate::state::State;
-use ymx_header::HEADER_LENGTH;
+use ymx_header::{DATA_LIMIT, HEADER_LENGTH};
 
 impl State {
     /// Writes these bytes to a stream, and emits the frame that carries them, if nothing else is to go first.

@@ -9,9 +9,8 @@ ghost use Rattle.ymx_session.specs.Touched.{nothing_noted, note, note_head};
 use indexmap::IndexSet;
 use std::alloc::Global;
 use std::marker::Model;
-use ymx_header::{Header, TYPE_GO_AWAY, TYPE_PING};
+use ymx_header::{Header, MOST_RECORDS, TYPE_GO_AWAY, TYPE_PING};
 use ymx_memory::RefusedAllocation;
-use ymx_table::MOST_RECORDS;
 
 /// How many ids are taken out one by one. The index of a set holds up to 12 in a group, and a group that was once too
 /// full stays marked, and later searches go on behind it, until the whole index is cleared. So few mark none.

@@ -33,11 +33,9 @@ use std::marker::Model;
 pub use turn::NextFrame;
 use unsent::retotal;
 use ymx_half::StreamRec;
+use ymx_header::MOST_RECORDS;
 use ymx_memory::RefusedAllocation;
 use ymx_ring::Warm;
-
-/// How many records a table holds at most: 1,024.
-pub const MOST_RECORDS: usize = 1024;
 
 /// The records of a session by stream id. A contract sees the record `Table` of `ymx_model`: the window
 /// of the session, the records with their ids in order, and the place of the next turn.
