@@ -1,6 +1,6 @@
 -- How what waits is fed, and passed on.
 use Rattle.std.proofs.Common.{◌≡◌, ℕ, ◌+◌, ◌-◌, ◌≤◌, List, [], ◌∷◌, ◌++◌, length, take, drop, Bool, true, false, ◌||◌, ◌&&◌, Option, refl, sym, ap, ◌∙◌, subst, arith, append-nil, append_assoc, take-append-drop, length-append, drop-drop, ◌<◌, inl, inr, min}
-use Rattle.std.specs.Prelude.{option_map, nat_lt}
+use Rattle.std.specs.Prelude.{option_map}
 use Rattle.std.specs.Io.KnownBytes.{Appends}
 use Rattle.std.proofs.lemmas.Grind.{common_steps}
 use Rattle.std.proofs.Math.Seq.{take-append_seam}
@@ -19,7 +19,7 @@ use Rattle.ymx_engine.specs.Devices.{Seen, Marks, may_take_more, IsPushed, IsShu
 use Rattle.ymx_engine.specs.declared.device.Pushed.{Pushed}
 use Rattle.ymx_engine.specs.Events.{Happen, given}
 use Rattle.ymx_engine.specs.Engines.{Engine}
-use Rattle.ymx_engine.specs.Wires.{fed_at, fed, is_of_read, has_feed_end, FeedsFront, HandlesIn, OffersFront, ReadsWire, has_starved}
+use Rattle.ymx_engine.specs.Wires.{fed_at, fed, is_of_read, has_feed_end, FeedsFront, HandlesIn, OffersFront, ReadsWire, rejections}
 use Rattle.ymx_engine.specs.Passes.{PassesOn, OffersOnce, Settles}
 use Rattle.ymx_engine.proofs.Exchanging.{happen_then, or_same, or_none, or_true, same_id, none_pushed, some_bytes, take_both}
 use Rattle.ymx_engine.proofs.Following.{ways_passed, ways_reset, breaks}
@@ -134,11 +134,14 @@ feeds_some a b told s waits same all x incoming outgoing =
       heard = refl;
     }
 
--- and memory was lacked as it says
+plus_none : (n : ℕ) → n + 0 ≡ n
+plus_none n = omega arith
+
+-- and as many streams were rejected as it says
 pub feeds_some_so : (a b : Engine) (told : Fed) (s : Session) (waits : List ℕ) → s ≡ a.session → waits ≡ a.incoming → FeedsSome s waits told b.session →
-    b.incoming ≡ drop told.taken a.incoming → b.outgoing ≡ a.outgoing → (h : HandlesIn false a b) × (has_starved h.events ≡ nat_lt 0 told.no_memory)
+    b.incoming ≡ drop told.taken a.incoming → b.outgoing ≡ a.outgoing → (h : HandlesIn false a b) × (rejections h.events ≡ told.no_memory)
 unfolding feeds_some
-feeds_some_so a b told s waits same all x incoming outgoing = (feeds_some a b told s waits same all x incoming outgoing, or_none (nat_lt 0 told.no_memory))
+feeds_some_so a b told s waits same all x incoming outgoing = (feeds_some a b told s waits same all x incoming outgoing, plus_none told.no_memory)
 
 front_more : (waits more : List ℕ) (e : Event) → OffersFront waits e → OffersFront (waits ++ more) e
 front_more waits more (event.Feed bytes) h = (h.0 ++ more, ap (λ (v : List ℕ). v ++ more) h.1 ∙ append_assoc bytes h.0 more)

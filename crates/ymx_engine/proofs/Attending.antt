@@ -1,5 +1,5 @@
 -- How a tunnel goes on: who is served, and whose turn comes.
-use Rattle.std.proofs.Common.{◌≡◌, ◌⊎◌, inl, inr, ◌++◌, ℕ, ◌+◌, ◌<◌, ◌≤◌, List, [], ◌∷◌, Bool, true, false, ◌||◌, Some, length, refl, sym, ap, ◌∙◌, subst, arith, length-append}
+use Rattle.std.proofs.Common.{◌≡◌, ◌⊎◌, inl, inr, ◌++◌, ℕ, ◌+◌, ◌<◌, ◌≤◌, List, [], ◌∷◌, Bool, true, false, Some, length, refl, sym, ap, ◌∙◌, subst, arith, length-append}
 use Rattle.std.specs.Prelude.{nat_eq}
 use Rattle.std.specs.List.{list_all}
 use Rattle.std.proofs.lemmas.List.Folds.{list_all-append}
@@ -17,7 +17,7 @@ use Rattle.ymx_engine.specs.Steps.{Keeps, ReadsOn, WritesOnce}
 use Rattle.ymx_engine.specs.Tunnels.{Tunnel}
 use Rattle.ymx_engine.specs.Turns.{Line, line_of, Extends, IsBehind, IsIdle, LeavesQueues}
 use Rattle.ymx_engine.specs.Ways.{is_over}
-use Rattle.ymx_engine.specs.Wires.{is_of_flush, has_starved}
+use Rattle.ymx_engine.specs.Wires.{count_on, is_of_flush, rejections}
 use Rattle.ymx_engine.specs.Work.{Attends, ComesNearer, HadTurn, HasLeft, ServesOne, ServesFirst, Reads, WasOver, Writes, HasRead, HasWritten, may_have_bytes}
 use Rattle.ymx_engine.proofs.Carrying.{memory_then, memory_same}
 use Rattle.ymx_engine.proofs.Entries.{eq_ids}
@@ -142,7 +142,7 @@ pub all_then : (p : Event → Bool) (es fs all : List (Event × Reply)) → all 
 all_then p es fs all e x y = ap (list_all (λ (k : Event × Reply). p k.0)) e ∙ rw (list_all-append (λ (k : Event × Reply). p k.0) es fs, x, y) refl
 
 pub keeps_none : (a : Tunnel) → Keeps a a
-keeps_none a = record { moves = (moves_same_so a).0; own = ap (list_all (λ (e : Event × Reply). is_of_reading e.0)) (moves_same_so a).1; wire = refl; over = refl; lines = keeps_same a.lines; serves = λ s. s; memory = memory_same a.has_lacked_memory a.has_lacked_memory (moves_same_so a).0.events refl (ap has_starved (moves_same_so a).1) }
+keeps_none a = record { moves = (moves_same_so a).0; own = ap (list_all (λ (e : Event × Reply). is_of_reading e.0)) (moves_same_so a).1; wire = refl; over = refl; lines = keeps_same a.lines; serves = λ s. s; memory = memory_same a.no_memory a.no_memory (moves_same_so a).0.events refl (ap rejections (moves_same_so a).1) }
 
 pub keeps_on : (a b c : Tunnel) → Keeps a b → Keeps b c → Keeps a c
 keeps_on a b c x y = let both = moves_then_so a b c x.moves y.moves in record {
@@ -152,7 +152,7 @@ keeps_on a b c x y = let both = moves_then_so a b c x.moves y.moves in record {
   over = y.over ∙ x.over;
   lines = keeps_then a.lines b.lines c.lines x.lines y.lines;
   serves = λ s. y.serves (x.serves s);
-  memory = memory_then a.has_lacked_memory b.has_lacked_memory c.has_lacked_memory x.moves.events y.moves.events both.0.events both.3 x.memory y.memory;
+  memory = memory_then a.no_memory b.no_memory c.no_memory x.moves.events y.moves.events both.0.events both.3 x.memory y.memory;
 }
 
 -- it read on, and then what waited was fed
@@ -162,7 +162,7 @@ reads_on_then a b c x k =
     record {
       runs = record { moves = both.0; attends = attends_then a b c x.runs.moves k.moves x.runs.attends (attends_on b c k.serves k.lines.queues) };
       own = all_then is_of_reading x.runs.moves.events k.moves.events both.0.events both.3 x.own k.own;
-      memory = memory_then a.has_lacked_memory b.has_lacked_memory c.has_lacked_memory x.runs.moves.events k.moves.events both.0.events both.3 x.memory k.memory;
+      memory = memory_then a.no_memory b.no_memory c.no_memory x.runs.moves.events k.moves.events both.0.events both.3 x.memory k.memory;
     }
 
 pub reads_on_from : (a b c : Tunnel) → a ≡ b → ReadsOn a c → ReadsOn b c
@@ -181,7 +181,7 @@ same_may : (b c : Tunnel) → c.wire ≡ b.wire → c.is_wire_over ≡ b.is_wire
 same_may b c wire over = rw (wire, over) refl
 
 -- what was done behind a read left the wire alone
-pub reads_then : (a b c : Tunnel) → Reads a b → (m : Moves b c) → list_all (λ e. is_of_reading e.0) m.events ≡ true → c.wire ≡ b.wire → c.is_wire_over ≡ b.is_wire_over → c.has_lacked_memory ≡ (b.has_lacked_memory || has_starved m.events) → Reads a c
+pub reads_then : (a b c : Tunnel) → Reads a b → (m : Moves b c) → list_all (λ e. is_of_reading e.0) m.events ≡ true → c.wire ≡ b.wire → c.is_wire_over ≡ b.is_wire_over → c.no_memory ≡ count_on b.no_memory (rejections m.events) → Reads a c
 reads_then a b c x m own wire over memory =
     let both = moves_then_so a b c x.moves m in
     record {
@@ -194,7 +194,7 @@ reads_then a b c x m own wire over memory =
           let long = length-append x.moves.came m.came in
           omega (arith, whole, all, long);
       over = λ h. still (x.over (sym over ∙ h));
-      memory = memory_then a.has_lacked_memory b.has_lacked_memory c.has_lacked_memory x.moves.events m.events both.0.events both.3 x.memory memory;
+      memory = memory_then a.no_memory b.no_memory c.no_memory x.moves.events m.events both.0.events both.3 x.memory memory;
     }
   where
     still : (a.is_wire_over ≡ true) ⊎ WasOver a b → (a.is_wire_over ≡ true) ⊎ WasOver a c

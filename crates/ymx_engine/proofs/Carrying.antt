@@ -1,5 +1,5 @@
 -- How an engine and its wire go on.
-use Rattle.std.proofs.Common.{◌≡◌, ℕ, ◌+◌, ◌≤◌, ◌==◌, List, [], ◌∷◌, ◌++◌, length, take, drop, Bool, true, false, ◌||◌, refl, sym, ap, ◌∙◌, subst, arith, append-nil, append_assoc, take-append-drop}
+use Rattle.std.proofs.Common.{◌≡◌, ℕ, ◌+◌, ◌-◌, ◌^◌, min, ◌≤◌, ◌==◌, List, [], ◌∷◌, ◌++◌, length, take, drop, Bool, true, false, ◌||◌, refl, sym, ap, ◌∙◌, subst, arith, append-nil, append_assoc, take-append-drop}
 use Rattle.std.proofs.Math.Bool.{or_assoc}
 use Rattle.std.proofs.lemmas.Grind.{common_steps}
 use Rattle.std.proofs.KnownBytes.{Appends-nil, Appends-trans, Consumes-nil}
@@ -19,8 +19,8 @@ use Rattle.std.specs.Prelude.{option_map}
 use Rattle.ymx_engine.specs.Devices.{Seen, pulled_count, pushed_count, is_end, is_pull_failure, is_push_failure}
 use Rattle.ymx_engine.specs.Events.{Happen}
 use Rattle.ymx_engine.specs.Engines.{Engine}
-use Rattle.ymx_engine.specs.Wires.{emitted_at, emitted, is_of_flush, ends_feed, has_feed_end, FeedsFront, ReadsWire, ReadsWireSo, FlushesWire, FlushesWireSo, HandlesIn, HandlesOut, TakesIn, GivesOut, starves_at, has_starved}
-use Rattle.ymx_engine.proofs.Exchanging.{happen_then, or_none, or_same, or_twice}
+use Rattle.ymx_engine.specs.Wires.{emitted_at, emitted, is_of_flush, ends_feed, has_feed_end, FeedsFront, ReadsWire, ReadsWireSo, FlushesWire, FlushesWireSo, HandlesIn, HandlesOut, TakesIn, GivesOut, count_on, rejections}
+use Rattle.ymx_engine.proofs.Exchanging.{happen_then, or_same, or_twice}
 
 pub emitted_then : (es fs : List (Event × Reply)) → emitted (es ++ fs) ≡ emitted es ++ emitted fs
 emitted_then [] fs = refl
@@ -30,17 +30,24 @@ pub feed_end_then : (es fs : List (Event × Reply)) → has_feed_end (es ++ fs) 
 feed_end_then [] fs = refl
 feed_end_then (e ∷ es) fs = ap (λ (b : Bool). ends_feed e.0 || b) (feed_end_then es fs) ∙ sym (or_assoc (ends_feed e.0) (has_feed_end es) (has_feed_end fs))
 
-pub starved_then : (es fs : List (Event × Reply)) → has_starved (es ++ fs) ≡ (has_starved es || has_starved fs)
-starved_then [] fs = refl
-starved_then (e ∷ es) fs = ap (λ (b : Bool). starves_at e.0 e.1 || b) (starved_then es fs) ∙ sym (or_assoc (starves_at e.0 e.1) (has_starved es) (has_starved fs))
+pub rejected_then : (es fs : List (Event × Reply)) → rejections (es ++ fs) ≡ rejections es + rejections fs
+rejected_then [] fs = let none : rejections [] ≡ 0 = refl in omega (arith, none)
+rejected_then (e ∷ es) fs = let rest = rejected_then es fs in omega (arith, rest)
 
--- what was lacked before, and then at these events
-pub memory_then : (x y z : Bool) (es fs all : List (Event × Reply)) → all ≡ es ++ fs → y ≡ (x || has_starved es) → z ≡ (y || has_starved fs) → z ≡ (x || has_starved all)
-memory_then x y z es fs all e p q = q ∙ ap (λ (v : Bool). v || has_starved fs) p ∙ or_assoc x (has_starved es) (has_starved fs) ∙ ap (λ (v : Bool). x || v) (sym (starved_then es fs) ∙ ap has_starved (sym e))
+-- so many more, and then so many
+count_then : (most n a b : ℕ) → (n + min a (most - n)) + min b (most - (n + min a (most - n))) ≡ n + min (a + b) (most - n)
+count_then most n a b = grind arith
 
--- none was lacked at these events
-pub memory_same : (x y : Bool) (es : List (Event × Reply)) → y ≡ x → has_starved es ≡ false → y ≡ (x || has_starved es)
-memory_same x y es e none = e ∙ sym (ap (λ (v : Bool). x || v) none ∙ or_none x)
+-- how many were rejected before, and then at these events
+pub memory_then : (x y z : ℕ) (es fs all : List (Event × Reply)) → all ≡ es ++ fs → y ≡ count_on x (rejections es) → z ≡ count_on y (rejections fs) → z ≡ count_on x (rejections all)
+memory_then x y z es fs all e p q = q ∙ ap (λ (v : ℕ). count_on v (rejections fs)) p ∙ count_then (2 ^ 64 - 1) x (rejections es) (rejections fs) ∙ ap (λ (v : ℕ). count_on x v) (sym (rejected_then es fs) ∙ ap rejections (sym e))
+
+count_none : (most n : ℕ) → n + min 0 (most - n) ≡ n
+count_none most n = grind arith
+
+-- none was rejected at these events
+pub memory_same : (x y : ℕ) (es : List (Event × Reply)) → y ≡ x → rejections es ≡ 0 → y ≡ count_on x (rejections es)
+memory_same x y es e none = e ∙ sym (ap (λ (v : ℕ). count_on x v) none ∙ count_none (2 ^ 64 - 1) x)
 
 -- what waited and came is what went and waits, twice
 pub waits_on : (a b c came went more gone : List ℕ) → a ++ came ≡ went ++ b → b ++ more ≡ gone ++ c → a ++ (came ++ more) ≡ (went ++ gone) ++ c
@@ -83,7 +90,7 @@ gives_from e told s t u same g = subst (λ (v : Session). Gives in_turn v e told
 pub handles_in_none : (a : Engine) → HandlesIn false a a
 handles_in_none a = record { events = []; happen = refl; own = refl; fronts = tt; from_wire = refl; outgoing = refl; heard = refl }
 
-pub handles_none_so : (a : Engine) → (h : HandlesIn false a a) × (has_starved h.events ≡ false)
+pub handles_none_so : (a : Engine) → (h : HandlesIn false a a) × (rejections h.events ≡ 0)
 unfolding handles_in_none
 handles_none_so a = (handles_in_none a, refl)
 
@@ -188,7 +195,7 @@ feeds_one a b told s bytes same waits h incoming outgoing =
 pub loses_in : (a b : Engine) (s : Session) → s ≡ a.session → Gives in_turn s event.FeedEnd reply.Done b.session → b.incoming ≡ a.incoming → b.outgoing ≡ a.outgoing → HandlesIn true a b
 loses_in a b s same h incoming outgoing = let g = gives_from event.FeedEnd reply.Done s b.session a.session same h in record { events = (event.FeedEnd, reply.Done) ∷ []; happen = (b.session, g, refl); own = refl; fronts = (tt, tt); from_wire = sym incoming; outgoing = outgoing; heard = refl }
 
-pub loses_in_so : (a b : Engine) (s : Session) → s ≡ a.session → Gives in_turn s event.FeedEnd reply.Done b.session → b.incoming ≡ a.incoming → b.outgoing ≡ a.outgoing → (h : HandlesIn true a b) × (has_starved h.events ≡ false)
+pub loses_in_so : (a b : Engine) (s : Session) → s ≡ a.session → Gives in_turn s event.FeedEnd reply.Done b.session → b.incoming ≡ a.incoming → b.outgoing ≡ a.outgoing → (h : HandlesIn true a b) × (rejections h.events ≡ 0)
 unfolding loses_in
 loses_in_so a b s same h incoming outgoing = (loses_in a b s same h incoming outgoing, refl)
 

@@ -135,7 +135,7 @@ pushed_on r bytes d e x h = (two_of d.marks.may_push (may_take_more r (length by
 -- The wire was called with what waited, what it said was heard, and where nothing waits then nobody is held back any more.
 pub pushes_once : (r : Pushed) (on : Bool) (a b c d : Tunnel) → GivesOut r a.engine b.engine a.wire b.wire → b.lines ≡ a.lines → HandlesOut (is_push_failure r) b.engine c.engine → c.engine.outgoing ≡ b.engine.outgoing → c.wire ≡ b.wire →
     KeepsLines b.lines c.lines → (Serving b → Serving c) → d.engine ≡ c.engine → d.wire ≡ c.wire → KeepsLines c.lines d.lines → (d.engine.outgoing ≡ [] → d.lines.held ≡ []) → on ≡ d.wire.marks.may_push →
-    0 < length a.engine.outgoing → a.wire.marks.may_push ≡ true → d.has_lacked_memory ≡ a.has_lacked_memory → WritesOnce on a d
+    0 < length a.engine.outgoing → a.wire.marks.may_push ≡ true → d.no_memory ≡ a.no_memory → WritesOnce on a d
 pushes_once r on a b c d gave still heard waits wire keeps serves engine beside behind free is some may memory =
     let same_wire : d.wire ≡ b.wire = beside ∙ wire in
     let g : GivesOut r a.engine b.engine a.wire d.wire = subst (λ (w : Seen). GivesOut r a.engine b.engine a.wire w) (sym same_wire) gave in
@@ -234,7 +234,7 @@ nothing_due (b ∷ out) out_new ready due more none h = let x = more (omega arit
 
 -- nothing waits for the wire and nothing is due: nobody is held back any more
 pub writes_none : (a b : Tunnel) → PutsDue a.engine.session b.engine.session a.engine.outgoing b.engine.outgoing → (is_ready a.engine.session ≡ true → 0 < length b.engine.outgoing) → (0 < length a.engine.outgoing → 0 < length b.engine.outgoing) →
-    b.engine.outgoing ≡ [] → b.engine.incoming ≡ a.engine.incoming → b.wire ≡ a.wire → KeepsLines a.lines b.lines → b.lines.held ≡ [] → b.has_lacked_memory ≡ a.has_lacked_memory → WritesOnce false a b
+    b.engine.outgoing ≡ [] → b.engine.incoming ≡ a.engine.incoming → b.wire ≡ a.wire → KeepsLines a.lines b.lines → b.lines.held ≡ [] → b.no_memory ≡ a.no_memory → WritesOnce false a b
 writes_none a b x due more none incoming wire keeps free memory = record {
   writes = record {
     moves = (puts_moves a b x incoming wire keeps).0;
@@ -262,7 +262,7 @@ some_waits [] some ready = absurd (omega (arith, some))
 some_waits (x ∷ xs) some ready = refl
 
 -- what was due waited, and it was written to
-pub writes_put : (on : Bool) (a b c : Tunnel) → PutsDue a.engine.session b.engine.session a.engine.outgoing b.engine.outgoing → b.engine.incoming ≡ a.engine.incoming → b.wire ≡ a.wire → b.lines ≡ a.lines → 0 < length b.engine.outgoing → b.has_lacked_memory ≡ a.has_lacked_memory → WritesOnce on b c → WritesOnce on a c
+pub writes_put : (on : Bool) (a b c : Tunnel) → PutsDue a.engine.session b.engine.session a.engine.outgoing b.engine.outgoing → b.engine.incoming ≡ a.engine.incoming → b.wire ≡ a.wire → b.lines ≡ a.lines → 0 < length b.engine.outgoing → b.no_memory ≡ a.no_memory → WritesOnce on b c → WritesOnce on a c
 writes_put on a b c x incoming wire still some memory y =
     let keeps : KeepsLines a.lines b.lines = subst (KeepsLines a.lines) (sym still) (keeps_same a.lines) in
     let put = puts_moves a b x incoming wire keeps in

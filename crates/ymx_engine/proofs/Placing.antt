@@ -21,7 +21,7 @@ use Rattle.ymx_engine.proofs.Readings.{same_seen}
 use Rattle.ymx_engine.proofs.Running.{moves_handled}
 use Rattle.ymx_engine.proofs.Tending.{serving_lines}
 use Rattle.ymx_engine.proofs.Turning.{turns_kept}
-use Rattle.ymx_engine.specs.Wires.{has_starved}
+use Rattle.ymx_engine.specs.Wires.{rejections}
 
 -- only the turns are counted for which it waits
 keeps_turns : (a : Tunnel) (turns : Option ℕ) → Keeps a (record a { lines = record a.lines { turns_to_place = turns } })
@@ -30,7 +30,7 @@ keeps_turns a turns =
     let lines : KeepsLines a.lines b.lines = keeps_counted a.lines turns in
     let none = handles_none_so a.engine in
     let moved = moves_handled a b none.0 refl (same_seen a b lines) in
-    record { moves = moved.0; own = moved.1; wire = refl; over = refl; lines = lines; serves = serving_lines a b refl lines; memory = memory_same a.has_lacked_memory b.has_lacked_memory (moved.0).events refl (ap has_starved moved.2 ∙ none.1) }
+    record { moves = moved.0; own = moved.1; wire = refl; over = refl; lines = lines; serves = serving_lines a b refl lines; memory = memory_same a.no_memory b.no_memory (moved.0).events refl (ap rejections moved.2 ∙ none.1) }
 
 pub keeps_waits : (a : Tunnel) (l : Lines) (turns : Option ℕ) → l ≡ record a.lines { turns_to_place = turns } → Keeps a (record a { lines = l })
 keeps_waits a l turns e = subst (λ (x : Lines). Keeps a (record a { lines = x })) (sym e) (keeps_turns a turns)

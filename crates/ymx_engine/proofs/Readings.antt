@@ -31,7 +31,7 @@ use Rattle.ymx_engine.specs.Steps.{Keeps, ReadsOn, OffersPart, PassesPart, Stays
 use Rattle.ymx_engine.specs.Tunnels.{Tunnel}
 use Rattle.ymx_engine.specs.Turns.{Line, Lines, line_of, Awaits, Extends, SameLines, SameQueues, Puts, AddsTurn, KeepsLines}
 use Rattle.ymx_engine.specs.Ways.{is_over, is_open, may_push, ways_after}
-use Rattle.ymx_engine.specs.Wires.{HandlesIn, TakesIn, has_starved}
+use Rattle.ymx_engine.specs.Wires.{count_on, HandlesIn, TakesIn, rejections}
 use Rattle.ymx_engine.specs.Moves.{Moves}
 use Rattle.ymx_engine.specs.Work.{Reads, WasOver, may_have_bytes}
 use Rattle.ymx_engine.proofs.Advancing.{feeds_some_so, offers_front}
@@ -55,12 +55,12 @@ same_seen a b keeps id = ap (option_map (λ (l : Line). l.seen)) (keeps.lines id
 
 pub keeps_fed : (n : Noted) (f : Fed) (a b : Tunnel) (t : Session) (rest : List ℕ) (q : Lines) → FeedsSome a.engine.session a.engine.incoming f t → rest ≡ drop f.taken a.engine.incoming → NotesChanges a.engine.session t n → KeepsLines a.lines q →
     ((id : ℕ) → is_noted id n ≡ true → IsSome (line_of id a.lines) → Awaits id q) → b.engine ≡ record { session = t; outgoing = a.engine.outgoing; incoming = rest } → b.wire ≡ a.wire → b.is_wire_over ≡ a.is_wire_over → KeepsLines q b.lines →
-    (is_running b.engine.session.status ≡ false → (id : ℕ) → IsSome (line_of id b.lines) → Awaits id b.lines) → b.has_lacked_memory ≡ (a.has_lacked_memory || nat_lt 0 f.no_memory) → Keeps a b
+    (is_running b.engine.session.status ≡ false → (id : ℕ) → IsSome (line_of id b.lines) → Awaits id b.lines) → b.no_memory ≡ count_on a.no_memory f.no_memory → Keeps a b
 keeps_fed n f a b t rest q x left notes keeps all engine wire over later stopped memory =
     let lines = keeps_then a.lines q b.lines keeps later in
     let now : Engine = record { session = t; outgoing = a.engine.outgoing; incoming = rest } in
-    let handled : (h : HandlesIn false a.engine b.engine) × (has_starved h.events ≡ nat_lt 0 f.no_memory) =
-    subst (λ (v : Engine). (h : HandlesIn false a.engine v) × (has_starved h.events ≡ nat_lt 0 f.no_memory)) (sym engine) (feeds_some_so a.engine now f a.engine.session a.engine.incoming refl refl x left refl) in
+    let handled : (h : HandlesIn false a.engine b.engine) × (rejections h.events ≡ f.no_memory) =
+    subst (λ (v : Engine). (h : HandlesIn false a.engine v) × (rejections h.events ≡ f.no_memory)) (sym engine) (feeds_some_so a.engine now f a.engine.session a.engine.incoming refl refl x left refl) in
     let moved = moves_handled a b handled.0 wire (same_seen a b lines) in
     record {
       moves = moved.0;
@@ -69,7 +69,7 @@ keeps_fed n f a b t rest q x left notes keeps all engine wire over later stopped
       over = over;
       lines = lines;
       serves = serving_fed n a.engine.incoming f a b t q x notes keeps all (ap (λ (e : Engine). e.session) engine) later stopped;
-      memory = memory ∙ ap (λ (v : Bool). a.has_lacked_memory || v) (sym (ap has_starved moved.2 ∙ handled.1));
+      memory = memory ∙ ap (λ (v : ℕ). count_on a.no_memory v) (sym (ap rejections moved.2 ∙ handled.1));
     }
 
 none_dropped : (n : ℕ) (xs : List ℕ) → nat_lt n (length xs) ≡ false → drop n xs ≡ []
@@ -109,14 +109,14 @@ whole_given r buffer a b x room may near =
 
 -- the wire was called for bytes, and what it said was heard
 reads_pulled : (r : Pulled) (buffer : List ℕ) (a m b : Tunnel) → a.engine.incoming ≡ [] → IsPulled r buffer a.wire m.wire → one_read ≤ length buffer → m.engine.session ≡ a.engine.session → m.engine.outgoing ≡ a.engine.outgoing →
-    m.engine.incoming ≡ take (pulled_count r) buffer → (h : HandlesIn (is_end r || is_pull_failure r) m.engine b.engine) × (has_starved h.events ≡ false) → b.has_lacked_memory ≡ a.has_lacked_memory → b.wire ≡ m.wire → SameSeen a b → (gives r ≡ false → may_have_bytes b ≡ false) →
+    m.engine.incoming ≡ take (pulled_count r) buffer → (h : HandlesIn (is_end r || is_pull_failure r) m.engine b.engine) × (rejections h.events ≡ 0) → b.no_memory ≡ a.no_memory → b.wire ≡ m.wire → SameSeen a b → (gives r ≡ false → may_have_bytes b ≡ false) →
     (b.is_wire_over ≡ true → (a.is_wire_over ≡ true) ⊎ (is_running b.engine.session.status ≡ false)) → Reads a b
 reads_pulled r buffer a m b none x room session outgoing incoming heard memory wire same off over =
     let y : IsPulled r buffer a.wire b.wire = subst (IsPulled r buffer a.wire) (sym wire) x in
     let t : TakesIn r a.engine m.engine a.wire b.wire = record { buffer = buffer; pulled = y; incoming = incoming; outgoing = outgoing; session = session } in
     let moved = pulled_so r a.engine m.engine b.engine a.wire b.wire none t heard.0 in
     let moves = moves_read_so a b 1 moved.0 same in
-    record { moves = moves.0; own = ap (list_all (λ (e : Event × Reply). is_of_reading e.0)) moves.2 ∙ reads_reading (moved.0).events (moved.0).own; asks = λ fed may. by (moves.0).came (moves.1 ∙ moved.1) (gives r) refl; fills = λ fed may on near. let whole = whole_given r buffer a b y room on near in let came = ap length (moves.1 ∙ moved.1) in omega (arith, whole, came); over = λ h. was moves.0 (over h); memory = memory_same a.has_lacked_memory b.has_lacked_memory (moves.0).events memory (ap has_starved (moves.2 ∙ moved.2) ∙ heard.1) }
+    record { moves = moves.0; own = ap (list_all (λ (e : Event × Reply). is_of_reading e.0)) moves.2 ∙ reads_reading (moved.0).events (moved.0).own; asks = λ fed may. by (moves.0).came (moves.1 ∙ moved.1) (gives r) refl; fills = λ fed may on near. let whole = whole_given r buffer a b y room on near in let came = ap length (moves.1 ∙ moved.1) in omega (arith, whole, came); over = λ h. was moves.0 (over h); memory = memory_same a.no_memory b.no_memory (moves.0).events memory (ap rejections (moves.2 ∙ moved.2) ∙ heard.1) }
   where
     was : Moves a b → (a.is_wire_over ≡ true) ⊎ (is_running b.engine.session.status ≡ false) → (a.is_wire_over ≡ true) ⊎ WasOver a b
     was to (inl h) = inl h
@@ -167,18 +167,18 @@ rests_pulled r buffer a b x same = record {
 
 -- it gave some, or has none yet
 pub reads_gave : (r : Pulled) (buffer : List ℕ) (a b : Tunnel) → a.engine.incoming ≡ [] → IsPulled r buffer a.wire b.wire → one_read ≤ length buffer → b.engine.session ≡ a.engine.session → b.engine.outgoing ≡ a.engine.outgoing →
-    b.engine.incoming ≡ take (pulled_count r) buffer → ((n : ℕ) × (r ≡ pulled.Gave n)) ⊎ (r ≡ pulled.NotNow) → b.lines ≡ record a.lines { turns_to_place = None } → b.has_lacked_memory ≡ a.has_lacked_memory → b.is_wire_over ≡ a.is_wire_over → Reads a b × Runs a b
+    b.engine.incoming ≡ take (pulled_count r) buffer → ((n : ℕ) × (r ≡ pulled.Gave n)) ⊎ (r ≡ pulled.NotNow) → b.lines ≡ record a.lines { turns_to_place = None } → b.no_memory ≡ a.no_memory → b.is_wire_over ≡ a.is_wire_over → Reads a b × Runs a b
 reads_gave r buffer a b none x room session outgoing incoming is lines memory over =
-    runs_gave a b (reads_pulled r buffer a b b none x room session outgoing incoming (subst (λ (v : Bool). (h : HandlesIn v b.engine b.engine) × (has_starved h.events ≡ false)) (sym (goes_on r is)) (handles_none_so b.engine)) memory refl
+    runs_gave a b (reads_pulled r buffer a b b none x room session outgoing incoming (subst (λ (v : Bool). (h : HandlesIn v b.engine b.engine) × (rejections h.events ≡ 0)) (sym (goes_on r is)) (handles_none_so b.engine)) memory refl
     (λ id. ap (λ (v : Lines). option_map (λ (l : Line). l.seen) (line_of id v)) lines) (λ h. none_to_read b (pulled_off r buffer a.wire b.wire x h)) (λ h. inl (sym over ∙ h))) session lines
 
 -- it ended or failed, and the session heard of it
 pub reads_lost : (r : Pulled) (buffer : List ℕ) (a m b : Tunnel) → a.engine.incoming ≡ [] → IsPulled r buffer a.wire m.wire → one_read ≤ length buffer → m.engine.session ≡ a.engine.session → m.engine.outgoing ≡ a.engine.outgoing →
     m.engine.incoming ≡ take (pulled_count r) buffer → (r ≡ pulled.Ended) ⊎ (r ≡ pulled.Failed) → m.lines ≡ a.lines → b.wire ≡ m.wire → b.is_wire_over ≡ true → Gives in_turn m.engine.session event.FeedEnd reply.Done b.engine.session → KeepsWire m.engine b.engine →
-    KeepsLines m.lines b.lines → (Serving m → Serving b) → b.has_lacked_memory ≡ a.has_lacked_memory → is_running b.engine.session.status ≡ false → Reads a b × (Runs a b × Rests a b)
+    KeepsLines m.lines b.lines → (Serving m → Serving b) → b.no_memory ≡ a.no_memory → is_running b.engine.session.status ≡ false → Reads a b × (Runs a b × Rests a b)
 reads_lost r buffer a m b none x room session outgoing incoming is lines wire over g keeps later serves memory lost =
     let heard = loses_in_so m.engine b.engine m.engine.session refl g keeps.incoming keeps.outgoing in
-    let reads = reads_pulled r buffer a m b none x room session outgoing incoming (subst (λ (v : Bool). (h : HandlesIn v m.engine b.engine) × (has_starved h.events ≡ false)) (sym (ends r is)) heard) memory wire (λ id. same_seen m b later id ∙ ap (λ (v : Lines). option_map (λ (l : Line). l.seen) (line_of id v)) lines) (λ h. over_to_read b over) (λ h. inr lost) in
+    let reads = reads_pulled r buffer a m b none x room session outgoing incoming (subst (λ (v : Bool). (h : HandlesIn v m.engine b.engine) × (rejections h.events ≡ 0)) (sym (ends r is)) heard) memory wire (λ id. same_seen m b later id ∙ ap (λ (v : Lines). option_map (λ (l : Line). l.seen) (line_of id v)) lines) (λ h. over_to_read b over) (λ h. inr lost) in
     let kept : KeepsLines a.lines b.lines = subst (λ (v : Lines). KeepsLines v b.lines) lines later in (
       reads,
       (runs_on a b reads.moves (λ h. serves (serving_alike a m session lines h)) kept.queues, rests_pulled r buffer a b (subst (IsPulled r buffer a.wire) (sym wire) x) kept.lines),
@@ -193,7 +193,7 @@ pub reads_none : (a : Tunnel) → (a.engine.incoming ≡ [] → may_have_bytes a
 reads_none a h =
     let none = handles_none_so a.engine in
     let moved = moves_handled a a none.0 refl (λ id. refl) in
-    record { moves = moved.0; own = moved.1; asks = λ fed may. absurd (h fed may); fills = λ fed may on near. absurd (h fed may); over = λ h. inl h; memory = memory_same a.has_lacked_memory a.has_lacked_memory (moved.0).events refl (ap has_starved moved.2 ∙ none.1) }
+    record { moves = moved.0; own = moved.1; asks = λ fed may. absurd (h fed may); fills = λ fed may on near. absurd (h fed may); over = λ h. inl h; memory = memory_same a.no_memory a.no_memory (moved.0).events refl (ap rejections moved.2 ∙ none.1) }
 
 pub reads_from : (a b c : Tunnel) → a ≡ b → Reads a c → Reads b c
 reads_from a b c e x = subst (λ (v : Tunnel). Reads v c) e x
@@ -326,14 +326,14 @@ drop_none : (n : ℕ) (xs ys : List ℕ) → n ≡ 0 → ys ≡ drop n xs → ys
 drop_none n xs ys e h = grind (arith, common_steps)
 
 -- nothing was offered
-still_there : (a b : Tunnel) → b.lines ≡ a.lines → b.engine.session ≡ a.engine.session → b.engine.outgoing ≡ a.engine.outgoing → b.engine.incoming ≡ a.engine.incoming → b.wire ≡ a.wire → b.has_lacked_memory ≡ a.has_lacked_memory → ReadsOn a b
+still_there : (a b : Tunnel) → b.lines ≡ a.lines → b.engine.session ≡ a.engine.session → b.engine.outgoing ≡ a.engine.outgoing → b.engine.incoming ≡ a.engine.incoming → b.wire ≡ a.wire → b.no_memory ≡ a.no_memory → ReadsOn a b
 still_there a b lines session outgoing incoming wire memory =
     let handled : HandlesIn false a.engine b.engine = record { events = []; happen = session; own = refl; fronts = tt; from_wire = sym incoming; outgoing = outgoing; heard = refl } in
     let moved = moves_handled a b handled wire (λ id. ap (λ (v : Lines). option_map (λ (l : Line). l.seen) (line_of id v)) lines) in
-    record { runs = record { moves = moved.0; attends = attends_on a b (serving_alike a b session lines) (subst (Extends a.lines) (sym lines) (extends_same a.lines)) }; own = moved.1; memory = memory_same a.has_lacked_memory b.has_lacked_memory (moved.0).events memory (ap has_starved moved.2) }
+    record { runs = record { moves = moved.0; attends = attends_on a b (serving_alike a b session lines) (subst (Extends a.lines) (sym lines) (extends_same a.lines)) }; own = moved.1; memory = memory_same a.no_memory b.no_memory (moved.0).events memory (ap rejections moved.2) }
 
 offered_runs : (id count : ℕ) (waits : List ℕ) (a b : Tunnel) (was : Line) → waits ≡ a.engine.incoming → line_of id a.lines ≡ Some was → (x : OffersPart id was waits a.engine.session b.engine.session a.lines b.lines count) → AddsTurn id a.lines b.lines → Awaits id b.lines →
-    ((other : ℕ) → nat_eq id other ≡ false → GainsNone other a.engine.session b.engine.session) → b.engine.session.status ≡ a.engine.session.status → b.engine.incoming ≡ drop count a.engine.incoming → b.engine.outgoing ≡ a.engine.outgoing → b.wire ≡ a.wire → b.has_lacked_memory ≡ a.has_lacked_memory → ReadsOn a b
+    ((other : ℕ) → nat_eq id other ≡ false → GainsNone other a.engine.session b.engine.session) → b.engine.session.status ≡ a.engine.session.status → b.engine.incoming ≡ drop count a.engine.incoming → b.engine.outgoing ≡ a.engine.outgoing → b.wire ≡ a.wire → b.no_memory ≡ a.no_memory → ReadsOn a b
 offered_runs id count waits a b was is there x turn awaits others status incoming outgoing wire memory =
     let passed = offers_front id count waits a.engine b.engine a.engine.session was.seen x.now.seen was.ways x.now.ways refl is x.offered incoming outgoing in
     let grown = extends_added id a.lines b.lines turn in
@@ -341,10 +341,10 @@ offered_runs id count waits a b was is there x turn awaits others status incomin
     let attends = attends_on a b
     (λ h. serving_with id a b (λ w. record { within = happen_within (x.offered).events a.engine.session b.engine.session (x.offered).happen w; came = others; runs = λ over. sym (ap is_running status) ∙ over })
     (others_put id (Some x.now) a.lines b.lines x.lines grown turn.missed (λ other held. subst (λ (v : List ℕ). Contains v other) (sym turn.held) held)) (λ w. served_waits id b awaits) (but_of id a h)) grown in
-    record { runs = record { moves = moved.0; attends = attends }; own = moved.1; memory = memory_same a.has_lacked_memory b.has_lacked_memory (moved.0).events memory (ap has_starved moved.2 ∙ passed.starves) }
+    record { runs = record { moves = moved.0; attends = attends }; own = moved.1; memory = memory_same a.no_memory b.no_memory (moved.0).events memory (ap rejections moved.2 ∙ passed.starves) }
 
 pub runs_offered : (id count : ℕ) (waits : List ℕ) (a b : Tunnel) → waits ≡ a.engine.incoming → PassesPart id waits a.engine.session b.engine.session a.lines b.lines count →
-    ((other : ℕ) → nat_eq id other ≡ false → GainsNone other a.engine.session b.engine.session) → b.engine.session.status ≡ a.engine.session.status → b.engine.incoming ≡ drop count a.engine.incoming → b.engine.outgoing ≡ a.engine.outgoing → b.wire ≡ a.wire → b.has_lacked_memory ≡ a.has_lacked_memory → ReadsOn a b
+    ((other : ℕ) → nat_eq id other ≡ false → GainsNone other a.engine.session b.engine.session) → b.engine.session.status ≡ a.engine.session.status → b.engine.incoming ≡ drop count a.engine.incoming → b.engine.outgoing ≡ a.engine.outgoing → b.wire ≡ a.wire → b.no_memory ≡ a.no_memory → ReadsOn a b
 runs_offered id count waits a b is (inl (was, there, x, turn, awaits)) others status incoming outgoing wire memory = offered_runs id count waits a b was is there x turn awaits others status incoming outgoing wire memory
 runs_offered id count waits a b is (inr (lines, session, none)) others status incoming outgoing wire memory = still_there a b lines session outgoing (drop_none count a.engine.incoming b.engine.incoming none incoming) wire memory
 

@@ -20,14 +20,14 @@ use Rattle.ymx_session.specs.declared.passing.Passing.{Passing}
 use Rattle.ymx_session.specs.Passing.{passing, all_fed, Passes, IsPlainHeader, PassesBehind}
 use Rattle.ymx_session.proofs.Passes.{passing-is}
 use Rattle.ymx_engine.specs.Events.{given, has_end, has_reset, has_stop}
-use Rattle.ymx_engine.specs.Wires.{fed, has_starved}
+use Rattle.ymx_engine.specs.Wires.{fed}
 use Rattle.ymx_engine.specs.declared.row.Row.{Row}
 use Rattle.ymx_engine.specs.Engines.{Engine}
 use Rattle.ymx_engine.specs.Passes.{is_of_pass, IsPayload, counts_of, payload_in, payload_of, behind_row, InRow, IsRow, Follows, MayFollow, Settles}
 use Rattle.ymx_engine.specs.Served.{GainsNone}
 use Rattle.ymx_engine.proofs.Advancing.{fed_then, fronts_then, rest_of, fed_on, take_all}
 use Rattle.ymx_engine.proofs.Beside.{IsPiece, passes_beside, piece_came, header_came, whole_piece}
-use Rattle.ymx_engine.proofs.Carrying.{starved_then}
+use Rattle.ymx_engine.proofs.Carrying.{rejected_then}
 use Rattle.ymx_engine.proofs.Gaining.{gains_then, gains_none}
 use Rattle.ymx_engine.proofs.Exchanging.{happen_then, given_then, end_then, reset_then, stop_then, same_id, take_both}
 
@@ -247,7 +247,7 @@ settles_then id xs ys a b c s t u x y =
       happen = happen_then es fs s t u x.happen y.happen;
       own = rw (list_all-append (λ (e : Event × Reply). is_of_pass id e.0) es fs, x.own, y.own) refl;
       fronts = fronts_then es fs a b (rest_of es a b x.took) x.fronts y.fronts;
-      starves = starved_then es fs ∙ ap (λ (v : Bool). v || has_starved fs) x.starves ∙ y.starves;
+      starves = let p = rejected_then es fs in omega (arith, p, x.starves, y.starves);
       took = fed_on es fs a b c x.took y.took;
       gave = given_then id es fs ∙ ap (λ (v : List ℕ). v ++ given id fs) x.gave ∙ ap (λ (v : List ℕ). xs ++ v) y.gave;
       some =

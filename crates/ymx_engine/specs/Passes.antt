@@ -16,7 +16,7 @@ use Rattle.ymx_engine.specs.Events.{Happen, given, has_end, has_reset, has_stop}
 use Rattle.ymx_engine.specs.Engines.{Engine}
 use Rattle.ymx_engine.specs.Exchanges.{has_bytes}
 use Rattle.ymx_engine.specs.Ways.{ways_after, may_push}
-use Rattle.ymx_engine.specs.Wires.{fed, has_starved, FeedsFront}
+use Rattle.ymx_engine.specs.Wires.{fed, rejections, FeedsFront}
 
 -- the first so many of the bytes that wait are payload of this stream, and may be passed on
 pub record IsPayload (id count : ℕ) (e : Engine) : Type 0 where
@@ -51,7 +51,7 @@ pub record PassesOn (id : ℕ) (old new : Engine) (before after : Seen) (calls :
   pub happen : Happen events old.session new.session
   pub own : list_all (λ e. is_of_pass id e.0) events ≡ true
   pub fronts : FeedsFront old.incoming events
-  pub starves : has_starved events ≡ false
+  pub starves : rejections events ≡ 0
   pub from_wire : old.incoming ≡ fed events ++ new.incoming
   pub from_peer : Appends before.had after.had (given id events)
   pub fails : Bool
@@ -77,7 +77,7 @@ pub record OffersOnce (id : ℕ) (bytes : List ℕ) (count : ℕ) (s t : Session
   pub happen : Happen events s t
   pub own : list_all (λ e. is_of_pass id e.0) events ≡ true
   pub fronts : FeedsFront bytes events
-  pub starves : has_starved events ≡ false
+  pub starves : rejections events ≡ 0
   pub within : count ≤ length bytes
   pub took : fed events ≡ take count bytes
   pub from_peer : Appends before.had after.had (given id events)
@@ -158,7 +158,7 @@ pub record Settles (id : ℕ) (bytes waits rest : List ℕ) (s t : Session) : Ty
   pub happen : Happen events s t
   pub own : list_all (λ e. is_of_pass id e.0) events ≡ true
   pub fronts : FeedsFront waits events
-  pub starves : has_starved events ≡ false
+  pub starves : rejections events ≡ 0
   pub took : waits ≡ fed events ++ rest
   pub gave : given id events ≡ bytes
   pub some : length bytes ≤ length (fed events)

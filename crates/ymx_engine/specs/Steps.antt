@@ -1,5 +1,5 @@
 -- The steps that a tunnel's calls are made of (this project's own).
-use Rattle.std.specs.Prelude.{ℕ, ◌≡◌, ◌⊎◌, ◌||◌, List, Bool, true, false, Some}
+use Rattle.std.specs.Prelude.{ℕ, ◌≡◌, ◌⊎◌, List, Bool, true, false, Some}
 use Rattle.ymx_model.specs.session.Sessions.{Session}
 use Rattle.ymx_engine.specs.Exchanges.{has_bytes}
 use Rattle.ymx_engine.specs.Moves.{Moves}
@@ -11,7 +11,7 @@ use Rattle.ymx_engine.specs.Serves.{Turn}
 use Rattle.ymx_engine.specs.Tunnels.{Tunnel}
 use Rattle.ymx_engine.specs.Turns.{Line, Lines, line_of, Puts, Extends, AddsTurn, KeepsLines, SameTurns, WaitsAlone, StaysMissed, StaysOrAdds, Awaits, Attended}
 use Rattle.ymx_engine.specs.Ways.{is_over, may_pull}
-use Rattle.ymx_engine.specs.Wires.{has_starved}
+use Rattle.ymx_engine.specs.Wires.{count_on, rejections}
 use Rattle.ymx_engine.specs.Work.{Writes}
 
 -- ---- a connection's part
@@ -49,12 +49,12 @@ StaysOver old new = (id : ℕ) (now : Line) → line_of id new ≡ Some now → 
 
 -- ---- a tunnel's
 
--- It ran on, and nothing happened but feeds, and reads and resets of streams. It has lacked memory where it had, or where a feed
--- did now.
+-- It ran on, and nothing happened but feeds, and reads and resets of streams. As many more streams were rejected for want of
+-- memory as the feeds say.
 pub record ReadsOn (old new : Tunnel) : Type 0 where
   pub runs : Runs old new
   pub own : list_all (λ e. is_of_reading e.0) runs.moves.events ≡ true
-  pub memory : new.has_lacked_memory ≡ (old.has_lacked_memory || has_starved runs.moves.events)
+  pub memory : new.no_memory ≡ count_on old.no_memory (rejections runs.moves.events)
 
 -- The same, where the wire was left alone, and so was each connection. Nobody who can be served was forgotten, or left his place.
 pub record Keeps (old new : Tunnel) : Type 0 where
@@ -64,7 +64,7 @@ pub record Keeps (old new : Tunnel) : Type 0 where
   pub over : new.is_wire_over ≡ old.is_wire_over
   pub lines : KeepsLines old.lines new.lines
   pub serves : Serving old → Serving new
-  pub memory : new.has_lacked_memory ≡ (old.has_lacked_memory || has_starved moves.events)
+  pub memory : new.no_memory ≡ count_on old.no_memory (rejections moves.events)
 
 -- It was written to once. Where it goes on, the wire took some bytes, all that waited, and may take more.
 pub record WritesOnce (goes_on : Bool) (old new : Tunnel) : Type 0 where
@@ -76,4 +76,4 @@ pub record WritesOnce (goes_on : Bool) (old new : Tunnel) : Type 0 where
   pub push : new.wire.marks.may_push ≡ true → old.wire.marks.may_push ≡ true
   pub ended : new.wire.ended ≡ old.wire.ended
   pub shut : new.wire.shut ≡ old.wire.shut
-  pub memory : new.has_lacked_memory ≡ old.has_lacked_memory
+  pub memory : new.no_memory ≡ old.no_memory

@@ -1,17 +1,17 @@
 -- What a contract sees of a tunnel (this project's own).
-use Rattle.std.specs.Prelude.{◌≡◌, Bool, true, IfSome}
+use Rattle.std.specs.Prelude.{ℕ, ◌≡◌, Bool, true, IfSome}
 use Rattle.ymx_engine.specs.Devices.{Seen}
 use Rattle.ymx_engine.specs.Engines.{Engine}
 use Rattle.ymx_engine.specs.Turns.{Lines}
 
 -- Its session and the bytes under way between that and its wire; what is seen of its wire, and whether the session heard of
--- the wire's end; its connections; and whether a feed of it ever lacked memory.
+-- the wire's end; its connections; and how many streams of the peer's were rejected for want of memory.
 pub record Tunnel : Type 0 where
   pub engine : Engine
   pub wire : Seen
   pub is_wire_over : Bool
   pub lines : Lines
-  pub has_lacked_memory : Bool
+  pub no_memory : ℕ
 
 -- the device failed, as far as it can tell
 abbrev pub HasFailed : Seen → Type 0

@@ -1,5 +1,5 @@
 -- What an engine and its wire move (this project's own).
-use Rattle.std.specs.Prelude.{ℕ, ⊤, ◌≡◌, ◌+◌, ◌≤◌, ◌++◌, ◌∷◌, ◌||◌, List, [], length, take, drop, Bool, true, false, option_map, nat_lt}
+use Rattle.std.specs.Prelude.{ℕ, ⊤, ◌≡◌, ◌+◌, ◌-◌, ◌^◌, min, ◌≤◌, ◌++◌, ◌∷◌, ◌||◌, List, [], length, take, drop, Bool, true, false, option_map}
 use Rattle.std.specs.List.{list_all}
 use Rattle.std.specs.Io.KnownBytes.{Appends, Consumes}
 use Rattle.ymx_model.specs.session.Events.{Event}
@@ -55,14 +55,18 @@ abbrev pub has_feed_end : List (Event × Reply) → Bool
 has_feed_end [] = false
 has_feed_end (e ∷ es) = ends_feed e.0 || has_feed_end es
 
--- a stream of the peer's was rejected at a feed, as there was no memory for it
-abbrev pub starves_at : Event → Reply → Bool
-starves_at (event.Feed bytes) (reply.Fed fed) = nat_lt 0 fed.no_memory
-starves_at _ told = false
+-- how many streams of the peer's were rejected at a feed, as there was no memory for them
+abbrev pub rejected_at : Event → Reply → ℕ
+rejected_at (event.Feed bytes) (reply.Fed fed) = fed.no_memory
+rejected_at _ told = 0
 
-abbrev pub has_starved : List (Event × Reply) → Bool
-has_starved [] = false
-has_starved (e ∷ es) = starves_at e.0 e.1 || has_starved es
+abbrev pub rejections : List (Event × Reply) → ℕ
+rejections [] = 0
+rejections (e ∷ es) = rejected_at e.0 e.1 + rejections es
+
+-- so many more, as long as a `u64` can count them
+abbrev pub count_on : ℕ → ℕ → ℕ
+count_on n added = n + min added (2 ^ 64 - 1 - n)
 
 -- a feed offers the front of what waits
 abbrev pub OffersFront : List ℕ → Event → Type 0

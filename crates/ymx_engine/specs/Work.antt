@@ -12,7 +12,7 @@ use Rattle.ymx_engine.specs.Served.{Serving}
 use Rattle.ymx_engine.specs.Serves.{Turn}
 use Rattle.ymx_engine.specs.Tunnels.{Tunnel}
 use Rattle.ymx_engine.specs.Passes.{is_of_reading}
-use Rattle.ymx_engine.specs.Wires.{is_of_flush, has_starved}
+use Rattle.ymx_engine.specs.Wires.{count_on, is_of_flush, rejections}
 use Rattle.ymx_engine.specs.Turns.{Line, Lines, line_of, is_idle, Extends, SameTurns, WaitsAlone, TakesTurn, IsBehind}
 use Rattle.ymx_engine.specs.Ways.{is_over}
 
@@ -58,14 +58,14 @@ pub record WasOver (old new : Tunnel) : Type 0 where
 -- The wire was read, and nothing else happened: what it gave was fed, or went to the devices of its streams, of which one that failed
 -- had its stream reset. Where nothing waited to be fed and the wire might have bytes, some came, or it may have none now; and where it
 -- may have more still, a whole read came, unless its end is near. It is read no more only where it wasn't before, or where the session
--- was over. It has lacked memory where it had, or where a feed did now.
+-- was over. As many more streams were rejected for want of memory as the feeds say.
 pub record Reads (old new : Tunnel) : Type 0 where
   pub moves : Moves old new
   pub own : list_all (λ e. is_of_reading e.0) moves.events ≡ true
   pub asks : old.engine.incoming ≡ [] → may_have_bytes old ≡ true → (has_bytes moves.came ≡ true) ⊎ (may_have_bytes new ≡ false)
   pub fills : old.engine.incoming ≡ [] → may_have_bytes old ≡ true → may_have_bytes new ≡ true → new.wire.marks.is_closing ≡ false → one_read ≤ length moves.came
   pub over : new.is_wire_over ≡ true → (old.is_wire_over ≡ true) ⊎ WasOver old new
-  pub memory : new.has_lacked_memory ≡ (old.has_lacked_memory || has_starved moves.events)
+  pub memory : new.no_memory ≡ count_on old.no_memory (rejections moves.events)
 
 -- What was due was written to the wire, and nothing else happened. Where it might take bytes and some waited or were due, it took
 -- some, or may take none now; it took all, or may take none now; and then nobody is held back any more.

@@ -52,7 +52,7 @@ impl<D: Device + Drop, W: Device + Drop> Tunnel<D, W> {
         // A stream was opened, and the device joined it, of which the registry was told.
         ensures joined { IfOk result (λ id. IsJoined IsOpened id (D.seen device) self.old self.new (G.told registry.old) (G.told registry.new)) }
         ensures refused { IfErr result (λ why. IsNotOpened why self.old self.new (G.told registry.old) (G.told registry.new)) }
-        ensures memory { self.new.has_lacked_memory ≡ self.old.has_lacked_memory }
+        ensures memory { self.new.no_memory ≡ self.old.no_memory }
     {
         if let Err(refused) = self.lines.reserve() {
             return Err(NotJoined::BySession(CallFault::OutOfMemory(refused)));
@@ -76,7 +76,7 @@ impl<D: Device + Drop, W: Device + Drop> Tunnel<D, W> {
         ensures joined { IfOk result (λ offered. IfSome offered (λ id. IsJoined IsAccepted id (D.seen device) self.old self.new (G.told registry.old) (G.told registry.new))) }
         ensures none { IfOk result (λ offered. IfNone offered (OffersNone self.old.engine.session self.new.engine.session × SameLines self.old.lines self.new.lines × (G.told registry.new ≡ G.told registry.old))) }
         ensures refused { IfErr result (λ why. IsNotAccepted why self.old self.new (G.told registry.old) (G.told registry.new)) }
-        ensures memory { self.new.has_lacked_memory ≡ self.old.has_lacked_memory }
+        ensures memory { self.new.no_memory ≡ self.old.no_memory }
     {
         if let Err(refused) = self.lines.reserve() {
             self.reject();
@@ -95,7 +95,7 @@ impl<D: Device + Drop, W: Device + Drop> Tunnel<D, W> {
         ensures lines { self.new.lines ≡ self.old.lines }
         ensures wire { self.new.wire ≡ self.old.wire }
         ensures over { self.new.is_wire_over ≡ self.old.is_wire_over }
-        ensures memory { self.new.has_lacked_memory ≡ self.old.has_lacked_memory }
+        ensures memory { self.new.no_memory ≡ self.old.no_memory }
         ensures bytes { KeepsWire self.old.engine self.new.engine }
         ensures none { result ≡ false → OffersNone self.old.engine.session self.new.engine.session }
         ensures some { result ≡ true → Rejects self.old.engine.session self.new.engine.session }
@@ -120,7 +120,7 @@ impl<D: Device + Drop, W: Device + Drop> Tunnel<D, W> {
         ensures given { option_map D.seen result ≡ look id self.old.lines }
         ensures gone { Leaves id self.old self.new }
         ensures status { self.new.engine.session.status ≡ self.old.engine.session.status }
-        ensures memory { self.new.has_lacked_memory ≡ self.old.has_lacked_memory }
+        ensures memory { self.new.no_memory ≡ self.old.no_memory }
     {
         let device = self.lines.remove(id);
         let _ = self.session.forget(id);
@@ -140,7 +140,7 @@ impl<D: Device + Drop, W: Device + Drop> Tunnel<D, W> {
         ensures joined { OnOk result (Joins id (D.seen device) self.old self.new) }
         ensures registered { OnOk result (Told id true (G.told registry.old) (G.told registry.new)) }
         ensures refused { IfErr result (λ why. IsUnjoined id why self.old self.new (G.told registry.old) (G.told registry.new)) }
-        ensures memory { self.new.has_lacked_memory ≡ self.old.has_lacked_memory }
+        ensures memory { self.new.no_memory ≡ self.old.no_memory }
     {
         // no id is given twice, so this never is
         if self.lines.contains(id) {

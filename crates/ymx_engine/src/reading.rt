@@ -10,6 +10,7 @@ ghost use Rattle.ymx_model.specs.session.Histories.{Gives};
 ghost use Rattle.ymx_model.specs.session.Sessions.{is_running};
 ghost use Rattle.ymx_session.specs.Passing.{passing};
 ghost use Rattle.ymx_engine.specs.Engines.{KeepsWire};
+ghost use Rattle.ymx_engine.specs.Wires.{count_on};
 ghost use Rattle.ymx_engine.specs.Exchanges.{has_bytes};
 ghost use Rattle.ymx_engine.specs.Moves.{Moves};
 ghost use Rattle.ymx_engine.specs.Passes.{IsRow, row_len};
@@ -37,7 +38,7 @@ impl<D: Device + Drop, W: Device + Drop> Tunnel<D, W> {
     /// a turn in which it may make place: until each that waits for one as the frame comes has had it. So no stream is rejected for
     /// one that has ended before it.
     ///
-    /// This call alone lacks memory, as `has_lacked_memory` tells: where a feed rejects
+    /// This call alone lacks memory, as `no_memory` tells: where a feed rejects
     /// a stream of the peer's for want of it.
     pub fn read_wire(&mut self, least: usize)
         ensures runs { Runs self.old self.new }
@@ -93,7 +94,7 @@ impl<D: Device + Drop, W: Device + Drop> Tunnel<D, W> {
         ensures over { self.new.is_wire_over ≡ true }
         ensures wire { self.new.wire ≡ self.old.wire }
         ensures lines { KeepsLines self.old.lines self.new.lines }
-        ensures memory { self.new.has_lacked_memory ≡ self.old.has_lacked_memory }
+        ensures memory { self.new.no_memory ≡ self.old.no_memory }
         ensures event { Gives in_turn self.old.engine.session event.FeedEnd reply.Done self.new.engine.session }
         ensures bytes { KeepsWire self.old.engine self.new.engine }
         ensures serves { Serving self.old → Serving self.new }
@@ -206,7 +207,7 @@ impl<D: Device + Drop, W: Device + Drop> Tunnel<D, W> {
             .incoming
             .feed_to_payload(&mut self.session, limit, &mut self.touched);
         self.lines.hear_touched(&mut self.touched);
-        self.hear_fed(fed.no_memory.get() > 0);
+        self.hear_fed(fed.no_memory.get());
         if fed.taken < limit {
             return false;
         }
@@ -227,21 +228,21 @@ impl<D: Device + Drop, W: Device + Drop> Tunnel<D, W> {
             .incoming
             .feed_some(&mut self.session, most.min(lack), &mut self.touched);
         self.lines.hear_touched(&mut self.touched);
-        self.hear_fed(fed.no_memory.get() > 0);
+        self.hear_fed(fed.no_memory.get());
     }
 
-    /// A feed was made, for a part of which there may have been no memory. Those that missed a turn have one, and where the
+    /// A feed was made, at which so many streams were rejected for want of memory. Those that missed a turn have one, and where the
     /// session runs no more all have.
-    fn hear_fed(&mut self, lacks_memory: bool)
+    fn hear_fed(&mut self, rejected: u32)
         ensures engine { self.new.engine ≡ self.old.engine }
         ensures wire { self.new.wire ≡ self.old.wire }
         ensures over { self.new.is_wire_over ≡ self.old.is_wire_over }
         ensures lines { KeepsLines self.old.lines self.new.lines }
-        ensures memory { self.new.has_lacked_memory ≡ (self.old.has_lacked_memory || lacks_memory) }
+        ensures memory { self.new.no_memory ≡ count_on self.old.no_memory rejected }
         ensures all { is_running self.new.engine.session.status ≡ false → (id : ℕ) → IsSome (line_of id self.new.lines) → Awaits id self.new.lines }
         ensures place { self.new.lines.turns_to_place ≡ self.old.lines.turns_to_place }
     {
-        self.has_lacked_memory |= lacks_memory;
+        self.no_memory = self.no_memory.saturating_add(rejected as u64);
         self.lines.enqueue_missed();
         if self.session.status() != Status::Running {
             self.lines.enqueue_all();

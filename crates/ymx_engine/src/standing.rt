@@ -138,11 +138,12 @@ impl<D: Device + Drop, W: Device + Drop> Tunnel<D, W> {
         self.lines.queued_count()
     }
 
-    /// Whether a stream of the peer's was ever rejected for want of memory: a feed of `read_wire` said so.
-    pub fn has_lacked_memory(&self) -> bool
-        ensures { result ≡ self.now.has_lacked_memory }
+    /// How many streams of the peer's were rejected for want of memory, as the feeds of `read_wire` said. It stays at the
+    /// greatest `u64`.
+    pub fn no_memory(&self) -> u64
+        ensures { result ≡ self.now.no_memory }
     {
-        self.has_lacked_memory
+        self.no_memory
     }
 
     /// How many streams wait to be accepted.

@@ -57,7 +57,8 @@ pub struct Tunnel<D: Device + Drop, W: Device + Drop> {
     pub(crate) wire: W,
     /// The session heard that no more bytes come from the wire.
     pub(crate) is_wire_over: bool,
-    pub(crate) has_lacked_memory: bool,
+    /// How many streams of the peer's were rejected for want of memory.
+    pub(crate) no_memory: u64,
 }
 
 impl<D: Device + Drop, W: Device + Drop> Model for Tunnel<D, W> {
@@ -67,7 +68,7 @@ impl<D: Device + Drop, W: Device + Drop> Model for Tunnel<D, W> {
 
     ghost Value = { TunnelValue };
 
-    ghost view = { λ t. record { engine = record { session = t.session; outgoing = t.outgoing; incoming = t.incoming }; wire = W.seen t.wire; is_wire_over = t.is_wire_over; lines = t.lines; has_lacked_memory = t.has_lacked_memory } };
+    ghost view = { λ t. record { engine = record { session = t.session; outgoing = t.outgoing; incoming = t.incoming }; wire = W.seen t.wire; is_wire_over = t.is_wire_over; lines = t.lines; no_memory = t.no_memory } };
 
     ghost invariant = { λ t. one_read ≤ length t.buffer.items };
 }
@@ -79,7 +80,7 @@ impl<D: Device + Drop, W: Device + Drop> Tunnel<D, W> {
         ensures engine { IfOk result (λ made. made.engine ≡ record { session = session; outgoing = []; incoming = [] }) }
         ensures wire { IfOk result (λ made. (made.wire ≡ W.seen wire) × (made.is_wire_over ≡ false)) }
         ensures none { IfOk result (λ made. (made.lines.by_id ≡ []) × IsIdle made.lines × (made.lines.held ≡ []) × (made.lines.missed ≡ false)) }
-        ensures memory { IfOk result (λ made. made.has_lacked_memory ≡ false) }
+        ensures memory { IfOk result (λ made. made.no_memory ≡ 0) }
         // Nobody is forgotten.
         ensures serves { IsWithin session → IfOk result Serving }
     {
@@ -93,7 +94,7 @@ impl<D: Device + Drop, W: Device + Drop> Tunnel<D, W> {
             buffer: memory.buffer,
             wire,
             is_wire_over: false,
-            has_lacked_memory: false,
+            no_memory: 0,
         })
     }
 
@@ -109,7 +110,7 @@ impl<D: Device + Drop, W: Device + Drop> Tunnel<D, W> {
     /// An event says this of the wire.
     pub fn note_wire(&mut self, ready: Readiness)
         ensures runs { Runs self.old self.new }
-        ensures memory { self.new.has_lacked_memory ≡ self.old.has_lacked_memory }
+        ensures memory { self.new.no_memory ≡ self.old.no_memory }
         ensures noted { IsNoted ready self.old.wire self.new.wire }
         ensures engine { self.new.engine ≡ self.old.engine }
         ensures over { self.new.is_wire_over ≡ self.old.is_wire_over }
@@ -124,7 +125,7 @@ impl<D: Device + Drop, W: Device + Drop> Tunnel<D, W> {
         ensures stays { Stays self.old self.new }
         ensures noted { (was : LineValue) → line_of id self.old.lines ≡ Some was → Notes id ready was self.old.lines self.new.lines }
         ensures none { line_of id self.old.lines ≡ None → self.new ≡ self.old }
-        ensures memory { self.new.has_lacked_memory ≡ self.old.has_lacked_memory }
+        ensures memory { self.new.no_memory ≡ self.old.no_memory }
         ensures engine { self.new.engine ≡ self.old.engine }
         ensures wire { self.new.wire ≡ self.old.wire }
         ensures over { self.new.is_wire_over ≡ self.old.is_wire_over }
@@ -143,7 +144,7 @@ impl<D: Device + Drop, W: Device + Drop> Tunnel<D, W> {
         ensures none { IfNone result (IsIdle self.old.lines) }
         // The first of the queue whose turn it is has its turn, and each other that waits comes nearer.
         ensures turn { IfSome result (λ served. ServesFirst served.id served.gave self.old self.new) }
-        ensures memory { self.new.has_lacked_memory ≡ self.old.has_lacked_memory }
+        ensures memory { self.new.no_memory ≡ self.old.no_memory }
     {
         let id = self.lines.next()?;
         let gave = self.serve(id);
@@ -155,7 +156,7 @@ impl<D: Device + Drop, W: Device + Drop> Tunnel<D, W> {
         ensures served { (was : LineValue) → line_of id self.old.lines ≡ Some was → HasItsTurn id result was self.old.lines self.old self.new }
         ensures none { line_of id self.old.lines ≡ None → (self.new ≡ self.old) × (result ≡ 0) }
         ensures others { KeepsOthers id self.old.lines self.new.lines }
-        ensures memory { self.new.has_lacked_memory ≡ self.old.has_lacked_memory }
+        ensures memory { self.new.no_memory ≡ self.old.no_memory }
         ensures incoming { self.new.engine.incoming ≡ self.old.engine.incoming }
         ensures wire { self.new.wire ≡ self.old.wire }
         ensures over { self.new.is_wire_over ≡ self.old.is_wire_over }
@@ -221,7 +222,7 @@ impl<D: Device + Drop, W: Device + Drop> Tunnel<D, W> {
         ensures event { Gives in_turn self.old.engine.session event.FeedEnd reply.Done self.new.engine.session }
         ensures lost { is_running self.new.engine.session.status ≡ false }
         ensures over { self.new.is_wire_over ≡ true }
-        ensures memory { self.new.has_lacked_memory ≡ self.old.has_lacked_memory }
+        ensures memory { self.new.no_memory ≡ self.old.no_memory }
         ensures bytes { KeepsWire self.old.engine self.new.engine }
         ensures lines { KeepsLines self.old.lines self.new.lines }
     {
@@ -234,7 +235,7 @@ impl<D: Device + Drop, W: Device + Drop> Tunnel<D, W> {
         ensures runs { Runs self.old self.new }
         ensures rests { Rests self.old self.new }
         ensures ended { IsEnded self.old.wire self.new.wire }
-        ensures memory { self.new.has_lacked_memory ≡ self.old.has_lacked_memory }
+        ensures memory { self.new.no_memory ≡ self.old.no_memory }
         ensures engine { self.new.engine ≡ self.old.engine }
         ensures over { self.new.is_wire_over ≡ self.old.is_wire_over }
         ensures lines { self.new.lines ≡ self.old.lines }

@@ -22,7 +22,7 @@ impl<D: Device + Drop, W: Device + Drop> Tunnel<D, W> {
         // Where the wire may take bytes, and some wait or are due, it takes some. It takes all that wait, or may take none
         // now; and nobody is held back any more, unless bytes wait for it.
         ensures writes { Writes self.old self.new }
-        ensures memory { self.new.has_lacked_memory ≡ self.old.has_lacked_memory }
+        ensures memory { self.new.no_memory ≡ self.old.no_memory }
     {
         'write: for turn in 0..4u64 {
             if !self.write_once() {
@@ -61,7 +61,7 @@ impl<D: Device + Drop, W: Device + Drop> Tunnel<D, W> {
     /// Calls the wire with what waits. What it took waits no more.
     fn give_to_wire(&mut self) -> Pushed
         ensures gave { GivesOut result self.old.engine self.new.engine self.old.wire self.new.wire }
-        ensures memory { self.new.has_lacked_memory ≡ self.old.has_lacked_memory }
+        ensures memory { self.new.no_memory ≡ self.old.no_memory }
         ensures lines { self.new.lines ≡ self.old.lines }
     {
         let pushed = self.wire.push(self.outgoing.waiting());
@@ -73,7 +73,7 @@ impl<D: Device + Drop, W: Device + Drop> Tunnel<D, W> {
     fn hear_pushed(&mut self, pushed: Pushed)
         ensures heard { HandlesOut (is_push_failure pushed) self.old.engine self.new.engine }
         ensures waits { self.new.engine.outgoing ≡ self.old.engine.outgoing }
-        ensures memory { self.new.has_lacked_memory ≡ self.old.has_lacked_memory }
+        ensures memory { self.new.no_memory ≡ self.old.no_memory }
         ensures wire { self.new.wire ≡ self.old.wire }
         ensures lines { KeepsLines self.old.lines self.new.lines }
         ensures serves { Serving self.old → Serving self.new }
@@ -89,7 +89,7 @@ impl<D: Device + Drop, W: Device + Drop> Tunnel<D, W> {
         ensures engine { self.new.engine ≡ self.old.engine }
         ensures wire { self.new.wire ≡ self.old.wire }
         ensures keeps { KeepsLines self.old.lines self.new.lines }
-        ensures memory { self.new.has_lacked_memory ≡ self.old.has_lacked_memory }
+        ensures memory { self.new.no_memory ≡ self.old.no_memory }
         ensures free { self.new.engine.outgoing ≡ [] → self.new.lines.held ≡ [] }
     {
         if self.outgoing.waiting().is_empty() {

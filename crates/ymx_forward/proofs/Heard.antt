@@ -14,7 +14,7 @@ differs f None says b is = let no : ⊥ = cc in absurd no
 differs f (Some x) says b is = let said : f ≡ x = says in let same : x ≡ b = cc in said ∙ same
 
 -- the wire was told, as it hasn't failed
-pub wire_noted : (ready : Readiness) (a b : Tunnel) (seen : Seen) (f : Bool) → seen ≡ a.wire → IfSome seen.failed (λ x. f ≡ x) → f ≡ false → IsNoted ready a.wire b.wire → b.engine ≡ a.engine → b.lines ≡ a.lines → b.is_wire_over ≡ a.is_wire_over → b.has_lacked_memory ≡ a.has_lacked_memory → WireHears ready a b
+pub wire_noted : (ready : Readiness) (a b : Tunnel) (seen : Seen) (f : Bool) → seen ≡ a.wire → IfSome seen.failed (λ x. f ≡ x) → f ≡ false → IsNoted ready a.wire b.wire → b.engine ≡ a.engine → b.lines ≡ a.lines → b.is_wire_over ≡ a.is_wire_over → b.no_memory ≡ a.no_memory → WireHears ready a b
 wire_noted ready a b seen f is says off x engine lines over memory = record {
   noted = λ h. x;
   failed = λ h. let on = differs f seen.failed says true (ap (λ (v : Seen). v.failed) is ∙ h) in let no : ⊥ = cc in absurd no;

@@ -48,7 +48,7 @@ pub record WireHears (ready : Readiness) (old new : Tunnel) : Type 0 where
   pub engine : new.engine ≡ old.engine
   pub lines : new.lines ≡ old.lines
   pub over : new.is_wire_over ≡ old.is_wire_over
-  pub memory : new.has_lacked_memory ≡ old.has_lacked_memory
+  pub memory : new.no_memory ≡ old.no_memory
 
 -- The connection of this stream hears it, and waits for a turn then. Nothing happens where there is none, and nothing else changes.
 pub record StreamHears (id : ℕ) (ready : Readiness) (old new : Tunnel) : Type 0 where
@@ -57,7 +57,7 @@ pub record StreamHears (id : ℕ) (ready : Readiness) (old new : Tunnel) : Type 
   pub engine : new.engine ≡ old.engine
   pub wire : new.wire ≡ old.wire
   pub over : new.is_wire_over ≡ old.is_wire_over
-  pub memory : new.has_lacked_memory ≡ old.has_lacked_memory
+  pub memory : new.no_memory ≡ old.no_memory
 
 -- a user may wait where users come, and who brings users is to be told how many places there are
 abbrev pub UsersMayWait : Side → Type 0

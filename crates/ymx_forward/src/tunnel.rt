@@ -1300,7 +1300,7 @@ impl<'a> TunnelLoop<'a> {
                 Status::Broken(fault) => Some(fault.number()),
                 _ => None,
             },
-            lacked_memory: self.lacked_memory || self.tunnel.has_lacked_memory(),
+            lacked_memory: self.lacked_memory || self.tunnel.no_memory() > 0,
             is_unwatched,
             has_lasted: false,
             is_peer_away: self.tunnel.is_peer_away(),

@@ -1,6 +1,6 @@
-use Rattle.std.proofs.Common.{ℕ, ◌≡◌, ◌-◌, length, ap, ◌∙◌, ◌||◌, ◌≤◌, subst, arith}
+use Rattle.std.proofs.Common.{ℕ, ◌≡◌, ◌-◌, length, ap, ◌∙◌, ◌≤◌, subst, arith}
 use Rattle.std.proofs.lemmas.List.{length-drop}
-use Rattle.std.specs.Prelude.{nat_lt}
+use Rattle.ymx_engine.specs.Wires.{count_on}
 use Rattle.ymx_engine.specs.Engines.{Engine}
 use Rattle.ymx_engine.specs.Places.{feed_limit, FeedsToFull}
 use Rattle.ymx_engine.specs.Tunnels.{Tunnel}
@@ -13,7 +13,7 @@ pub returns-clause-keeps : goal.returns-clause-keeps
 returns-clause-keeps g c =
     keeps_from _ _ _ c.self.view_is
     (keeps_fed c.feed_some-fed.new.touched c.feed_some-fed.result _ _ c.feed_some-fed.new.session c.feed_some-fed.new.self c.hear_touched.new.self c.feed_some-fed.ensures.fed c.feed_some-fed.ensures.rest c.feed_some-fed.ensures.notes c.hear_touched.ensures.keeps c.hear_touched.ensures.all c.hear_fed.ensures.engine c.hear_fed.ensures.wire c.hear_fed.ensures.over c.hear_fed.ensures.lines
-    c.hear_fed.ensures.all (c.hear_fed.ensures.memory ∙ ap (λ (n : ℕ). c.self.inside.has_lacked_memory || nat_lt 0 n) c.get.ensures))
+    c.hear_fed.ensures.all (c.hear_fed.ensures.memory ∙ ap (λ (n : ℕ). count_on c.self.inside.no_memory n) c.get.ensures))
 
 pub returns-clause-placed : goal.returns-clause-placed
 returns-clause-placed g c =

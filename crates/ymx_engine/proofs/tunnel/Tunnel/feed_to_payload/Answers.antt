@@ -1,5 +1,5 @@
-use Rattle.std.proofs.Common.{ℕ, ap, ◌∙◌, ◌||◌, ◌≤◌, inl, sym, subst}
-use Rattle.std.specs.Prelude.{nat_lt}
+use Rattle.std.proofs.Common.{ℕ, ap, ◌∙◌, ◌≤◌, inl, sym, subst}
+use Rattle.ymx_engine.specs.Wires.{count_on}
 use Rattle.ymx_engine.specs.Engines.{Engine}
 use Rattle.ymx_engine.specs.Places.{feed_limit, FeedsToFull}
 use Rattle.ymx_engine.specs.Tunnels.{Tunnel}
@@ -13,7 +13,7 @@ pub returns-then-fed-limit-clause-keeps : goal.returns-then-fed-limit-clause-kee
 returns-then-fed-limit-clause-keeps g c =
     keeps_from _ _ _ c.self.view_is
     (keeps_fed c.feed_to_payload-fed.new.touched c.feed_to_payload-fed.result _ _ c.feed_to_payload-fed.new.session c.feed_to_payload-fed.new.self c.hear_touched.new.self c.feed_to_payload-fed.ensures.fed c.feed_to_payload-fed.ensures.rest c.feed_to_payload-fed.ensures.notes c.hear_touched.ensures.keeps c.hear_touched.ensures.all c.hear_fed.ensures.engine c.hear_fed.ensures.wire c.hear_fed.ensures.over c.hear_fed.ensures.lines
-    c.hear_fed.ensures.all (c.hear_fed.ensures.memory ∙ ap (λ (n : ℕ). c.self.inside.has_lacked_memory || nat_lt 0 n) c.get.ensures))
+    c.hear_fed.ensures.all (c.hear_fed.ensures.memory ∙ ap (λ (n : ℕ). count_on c.self.inside.no_memory n) c.get.ensures))
 
 pub returns-then-fed-limit-clause-rest : goal.returns-then-fed-limit-clause-rest
 returns-then-fed-limit-clause-rest g c = λ no.
@@ -23,7 +23,7 @@ pub returns-clause-keeps : goal.returns-clause-keeps
 returns-clause-keeps g c =
     keeps_from _ _ _ c.self.view_is
     (keeps_fed c.feed_to_payload-fed.new.touched c.feed_to_payload-fed.result _ _ c.feed_to_payload-fed.new.session c.feed_to_payload-fed.new.self c.hear_touched.new.self c.feed_to_payload-fed.ensures.fed c.feed_to_payload-fed.ensures.rest c.feed_to_payload-fed.ensures.notes c.hear_touched.ensures.keeps c.hear_touched.ensures.all c.hear_fed.ensures.engine c.hear_fed.ensures.wire c.hear_fed.ensures.over c.hear_fed.ensures.lines
-    c.hear_fed.ensures.all (c.hear_fed.ensures.memory ∙ ap (λ (n : ℕ). c.self.inside.has_lacked_memory || nat_lt 0 n) c.get.ensures))
+    c.hear_fed.ensures.all (c.hear_fed.ensures.memory ∙ ap (λ (n : ℕ). count_on c.self.inside.no_memory n) c.get.ensures))
 
 pub returns-clause-rest : goal.returns-clause-rest
 returns-clause-rest g c = λ no. inl (none_left c.waiting.result.now _ c.is_empty.result c.is_empty.ensures (c.waiting.ensures ∙ ap (λ (t : Tunnel). t.engine.incoming) c.self-2.view_is) no)

@@ -1,11 +1,16 @@
 use Rattle.std.proofs.Common.{arith}
 use Rattle.ymx_engine.proofs.Attending.{reads_on_then}
 use Rattle.ymx_engine.proofs.InPlace.{passes_offered, passes_rest}
-use Rattle.ymx_engine.proofs.Readings.{rests_on}
+use Rattle.ymx_engine.proofs.Readings.{rests_on, stays_kept, stays_then}
 use Rattle.ymx_engine.proofs.tunnel.Tunnel.pass.Goals as goal
 
 pub returns-then-taken-count-clause-runs : goal.returns-then-taken-count-clause-runs
 returns-then-taken-count-clause-runs g c = reads_on_then _ _ _ c.offer-taken.ensures.runs c.feed_payload.ensures.keeps
+
+pub returns-then-taken-count-clause-stays : goal.returns-then-taken-count-clause-stays
+returns-then-taken-count-clause-stays g c =
+    let k = c.feed_payload.ensures.keeps in
+    stays_then _ _ _ c.offer-taken.ensures.stays (stays_kept _ _ k.wire k.lines.lines)
 
 pub returns-then-taken-count-clause-rests : goal.returns-then-taken-count-clause-rests
 returns-then-taken-count-clause-rests g c =
