@@ -52,6 +52,7 @@ impl<D: Device + Drop, W: Device + Drop> Tunnel<D, W> {
         // A stream was opened, and the device joined it, of which the registry was told.
         ensures joined { IfOk result (λ id. IsJoined IsOpened id (D.seen device) self.old self.new (G.told registry.old) (G.told registry.new)) }
         ensures refused { IfErr result (λ why. IsNotOpened why self.old self.new (G.told registry.old) (G.told registry.new)) }
+        ensures wire { self.new.wire ≡ self.old.wire }
         ensures memory { self.new.no_memory ≡ self.old.no_memory }
     {
         if let Err(refused) = self.lines.reserve() {
@@ -76,6 +77,7 @@ impl<D: Device + Drop, W: Device + Drop> Tunnel<D, W> {
         ensures joined { IfOk result (λ offered. IfSome offered (λ id. IsJoined IsAccepted id (D.seen device) self.old self.new (G.told registry.old) (G.told registry.new))) }
         ensures none { IfOk result (λ offered. IfNone offered (OffersNone self.old.engine.session self.new.engine.session × SameLines self.old.lines self.new.lines × (G.told registry.new ≡ G.told registry.old))) }
         ensures refused { IfErr result (λ why. IsNotAccepted why self.old self.new (G.told registry.old) (G.told registry.new)) }
+        ensures wire { self.new.wire ≡ self.old.wire }
         ensures memory { self.new.no_memory ≡ self.old.no_memory }
     {
         if let Err(refused) = self.lines.reserve() {
@@ -140,6 +142,7 @@ impl<D: Device + Drop, W: Device + Drop> Tunnel<D, W> {
         ensures joined { OnOk result (Joins id (D.seen device) self.old self.new) }
         ensures registered { OnOk result (Told id true (G.told registry.old) (G.told registry.new)) }
         ensures refused { IfErr result (λ why. IsUnjoined id why self.old self.new (G.told registry.old) (G.told registry.new)) }
+        ensures wire { self.new.wire ≡ self.old.wire }
         ensures memory { self.new.no_memory ≡ self.old.no_memory }
     {
         // no id is given twice, so this never is

@@ -330,6 +330,8 @@ impl<'a> TunnelLoop<'a> {
         ensures runs { Runs self.old.tunnel self.new.tunnel }
         ensures over { IfOk result.finished (λ finished. finished.was_left ≡ false → IsOver self.new.tunnel) }
         ensures lost { IfOk result.finished (λ finished. finished.was_left ≡ true → WasLost self.old.tunnel self.new.tunnel) }
+        // Its connection is cut off only where its peer may be given up for silence, or the system refused.
+        ensures uncut { self.old.tunnel_end.now.limits.silence ≡ None → IfOk result.finished (λ _. self.new.tunnel.wire.shut ≡ self.old.tunnel.wire.shut) }
         ensures broken { result.how.broken ≡ rule_of self.new.tunnel.engine.session.status }
         ensures away { result.how.is_peer_away ≡ self.new.tunnel.engine.session.away.there }
         // Its peer was told to have come where those who watch were told so.
@@ -376,6 +378,8 @@ impl<'a> TunnelLoop<'a> {
         // One is left only where another session follows, and only once its own was over.
         ensures left { IfOk result (λ finished. finished.was_left ≡ true → is_kept ≡ true) }
         ensures lost { IfOk result (λ finished. finished.was_left ≡ true → WasLost self.old.tunnel self.new.tunnel) }
+        // The connection to the peer is cut off only where the peer may be given up for silence, or the system refused.
+        ensures uncut { self.old.tunnel_end.now.limits.silence ≡ None → IfOk result (λ _. self.new.tunnel.wire.shut ≡ self.old.tunnel.wire.shut) }
     {
         let mut silence = self.begin_silence(rt);
         for _ in rt.forever() {
@@ -410,22 +414,27 @@ impl<'a> TunnelLoop<'a> {
     /// Asks the peer for its first sign of life, if it is to give one before it is given users.
     fn begin_silence<R: Clock>(&mut self, rt: &R) -> Option<Silence>
         ensures runs { Runs self.old.tunnel self.new.tunnel }
+        ensures wire { self.new.tunnel.wire ≡ self.old.tunnel.wire }
+        // Where none is given nobody listens for silence.
+        ensures none { self.old.tunnel_end.now.limits.silence ≡ None → result ≡ None }
         ensures heard { self.new.is_heard ≡ not self.old.tunnel_end.now.limits.is_sounded }
     {
         let is_sounded = self.tunnel_end.limits.is_sounded;
+        let patience = self.tunnel_end.limits.silence;
         let pending = self.ask_first(is_sounded);
         self.is_heard = false;
         if !is_sounded {
             self.note_heard();
         }
-        let mut silence = Silence::new(time_of(rt), self.tunnel_end.limits.silence)?;
+        let mut silence = Silence::new(time_of(rt), patience)?;
         silence.pending = pending;
         Some(silence)
     }
 
     /// Asks the peer for a sign, if it `is_sounded` before it is given users.
     fn ask_first(&mut self, is_sounded: bool) -> Option<u32>
-        ensures { Runs self.old.tunnel self.new.tunnel }
+        ensures runs { Runs self.old.tunnel self.new.tunnel }
+        ensures wire { self.new.tunnel.wire ≡ self.old.tunnel.wire }
     {
         if is_sounded {
             return self.ping();
@@ -465,6 +474,7 @@ impl<'a> TunnelLoop<'a> {
         ensures runs { Runs self.old.tunnel self.new.tunnel }
         // Where nobody listens for silence the peer is never given up, and else only once it was asked for a sign.
         ensures patient { silence.old ≡ None → self.new.tunnel ≡ self.old.tunnel }
+        ensures none { silence.old ≡ None → silence.new ≡ None }
         ensures asked { IfSome silence.old (λ silence. silence.was_asked ≡ false → self.new.tunnel.wire ≡ self.old.tunnel.wire) }
     {
         if self.is_lost() {
@@ -542,6 +552,7 @@ impl<'a> TunnelLoop<'a> {
         limit: Option<Duration>,
     ) -> Result<(), NoEvents>
         ensures runs { Runs self.old.tunnel self.new.tunnel }
+        ensures uncut { self.new.tunnel.wire.shut ≡ self.old.tunnel.wire.shut }
         ensures waits { Serving self.old.tunnel → (poll.new.waits ≡ poll.old.waits) ⊎ (NeedsEvents self.old.tunnel × CountsOne poll.old.waits poll.new.waits) }
         // Where a user may wait whom it can give a stream, it doesn't wait; nor where a stream waits for which there is a place.
         ensures users { user_is_due self.old.is_heard self.old.tunnel_end.now self.old.tunnel ≡ true → poll.new.waits ≡ poll.old.waits }
@@ -613,6 +624,7 @@ impl<'a> TunnelLoop<'a> {
     /// Does what can be done now.
     fn take_turn<R: Net + Clock + Wait, V: Watcher>(&mut self, rt: &R, poll: &Poll, watcher: &mut V)
         ensures runs { Runs self.old.tunnel self.new.tunnel }
+        ensures uncut { self.new.tunnel.wire.shut ≡ self.old.tunnel.wire.shut }
         // The wire is read and written, and each connection that waits for a turn comes nearer, has it or leaves.
         ensures works { WorksOnce self.old.tunnel self.new.tunnel }
     {
@@ -775,6 +787,7 @@ impl<'a> TunnelLoop<'a> {
     /// Notes what the events say that are there.
     fn note_all(&mut self, poll: &Poll)
         ensures runs { Runs self.old.tunnel self.new.tunnel }
+        ensures uncut { self.new.tunnel.wire.shut ≡ self.old.tunnel.wire.shut }
         ensures heard { HearsAll (items poll.now.events) self.old.tunnel self.new.tunnel self.old.tunnel_end.now.side self.new.tunnel_end.now.side }
     {
         'event: for event in poll.events() {
@@ -786,6 +799,7 @@ impl<'a> TunnelLoop<'a> {
     #[tactic(auto, using(crate::proofs::Heard::wire_hears, crate::proofs::Heard::users_hear, crate::proofs::Heard::stream_hears, crate::proofs::Heard::none_hears))]
     fn note(&mut self, event: Event)
         ensures runs { Runs self.old.tunnel self.new.tunnel }
+        ensures uncut { self.new.tunnel.wire.shut ≡ self.old.tunnel.wire.shut }
         ensures heard { Hears event self.old.tunnel self.new.tunnel self.old.tunnel_end.now.side self.new.tunnel_end.now.side }
     {
         if event.token == WIRE {
@@ -802,6 +816,7 @@ impl<'a> TunnelLoop<'a> {
     /// Notes what an event says of the wire.
     fn note_wire(&mut self, event: Event)
         ensures runs { Runs self.old.tunnel self.new.tunnel }
+        ensures uncut { self.new.tunnel.wire.shut ≡ self.old.tunnel.wire.shut }
         ensures heard { WireHears (readiness_of event) self.old.tunnel self.new.tunnel }
         ensures end { self.new.tunnel_end.now ≡ self.old.tunnel_end.now }
     {
@@ -813,6 +828,7 @@ impl<'a> TunnelLoop<'a> {
     /// Notes what an event says of a connection. One that can't be made may be used at once, so that it fails.
     fn note_stream(&mut self, id: u32, event: Event)
         ensures runs { Runs self.old.tunnel self.new.tunnel }
+        ensures uncut { self.new.tunnel.wire.shut ≡ self.old.tunnel.wire.shut }
         ensures heard { StreamHears id (readiness_of event) self.old.tunnel self.new.tunnel }
         ensures end { self.new.tunnel_end.now ≡ self.old.tunnel_end.now }
     {
@@ -824,7 +840,8 @@ impl<'a> TunnelLoop<'a> {
     /// Opens a stream for each connection that waits, as far as there is a place. Those that come for the next session are
     /// left to it.
     fn accept_connections<R: Wait, V: Watcher>(&mut self, rt: &R, poll: &Poll, watcher: &mut V)
-        ensures { Runs self.old.tunnel self.new.tunnel }
+        ensures runs { Runs self.old.tunnel self.new.tunnel }
+        ensures uncut { self.new.tunnel.wire.shut ≡ self.old.tunnel.wire.shut }
     {
         if self.leaves_users() {
             return;
@@ -868,6 +885,7 @@ impl<'a> TunnelLoop<'a> {
     fn begin_local<V: Watcher>(&mut self, socket: TcpConnection, poll: &Poll, watcher: &mut V)
         requires placed { must_wait self.old.tunnel ≡ false }
         ensures runs { Runs self.old.tunnel self.new.tunnel }
+        ensures uncut { self.new.tunnel.wire.shut ≡ self.old.tunnel.wire.shut }
         // It gets a stream, or who watches is told that it gets none.
         ensures brought { (told : Result ℕ NotJoinedFor) × IsBrought told self.old.tunnel self.new.tunnel (V.counts watcher.old) (V.counts watcher.new) }
         // Users are accepted on while the session runs, unless the system refused to watch this one.
@@ -902,6 +920,7 @@ impl<'a> TunnelLoop<'a> {
     /// Opens a stream for a connection.
     fn open(&mut self, socket: Socket, poll: &Poll) -> Result<u32, NotJoined>
         ensures runs { Runs self.old.tunnel self.new.tunnel }
+        ensures uncut { self.new.tunnel.wire.shut ≡ self.old.tunnel.wire.shut }
         ensures opened { IfOk result (λ id. (seen : Seen) × IsJoined IsOpened id seen self.old.tunnel self.new.tunnel None None) }
         ensures stated { must_wait self.old.tunnel ≡ false → IfErr result IsStated }
         ensures end { self.new.tunnel_end.now ≡ self.old.tunnel_end.now }
@@ -974,6 +993,7 @@ impl<'a> TunnelLoop<'a> {
     /// Takes no more streams once that was asked for, and accepts those that came before.
     fn take_streams<R: Net, V: Watcher>(&mut self, rt: &R, poll: &Poll, watcher: &mut V)
         ensures runs { Runs self.old.tunnel self.new.tunnel }
+        ensures uncut { self.new.tunnel.wire.shut ≡ self.old.tunnel.wire.shut }
         // No stream waits then for which there is a place.
         ensures none { NoneWaitsForPlace self.new.tunnel_end.now.side self.new.tunnel }
     {
@@ -984,6 +1004,7 @@ impl<'a> TunnelLoop<'a> {
     /// Tells the peer, once, that no more of its streams are taken, if that was asked for.
     fn heed_drain(&mut self)
         ensures runs { Runs self.old.tunnel self.new.tunnel }
+        ensures uncut { self.new.tunnel.wire.shut ≡ self.old.tunnel.wire.shut }
         ensures told { self.old.is_leaving ≡ false → self.new.is_leaving ≡ true → is_said self.new.tunnel.engine.session ≡ true }
         ensures once { self.old.is_leaving ≡ true → self.new ≡ self.old }
     {
@@ -1005,6 +1026,7 @@ impl<'a> TunnelLoop<'a> {
     fn say_away(&mut self)
         requires { is_running self.old.tunnel.engine.session.status ≡ true }
         ensures runs { Runs self.old.tunnel self.new.tunnel }
+        ensures uncut { self.new.tunnel.wire.shut ≡ self.old.tunnel.wire.shut }
         ensures told { is_said self.new.tunnel.engine.session ≡ true }
         ensures leaving { self.new.is_leaving ≡ self.old.is_leaving }
     {
@@ -1019,6 +1041,7 @@ impl<'a> TunnelLoop<'a> {
         watcher: &mut V,
     )
         ensures runs { Runs self.old.tunnel self.new.tunnel }
+        ensures uncut { self.new.tunnel.wire.shut ≡ self.old.tunnel.wire.shut }
         ensures end { self.new.tunnel_end.now ≡ self.old.tunnel_end.now }
         // Nobody is called but the target.
         ensures called { CallsTarget self.old.tunnel_end.now.side (D.called dialer.old) (D.called dialer.new) }
@@ -1043,6 +1066,7 @@ impl<'a> TunnelLoop<'a> {
     )
         requires { free_target self.old.tunnel_end.now.side (length self.old.tunnel.lines.by_id) ≡ Some target }
         ensures runs { Runs self.old.tunnel self.new.tunnel }
+        ensures uncut { self.new.tunnel.wire.shut ≡ self.old.tunnel.wire.shut }
         ensures end { self.new.tunnel_end.now ≡ self.old.tunnel_end.now }
         // This target is called, and the stream gets that connection, or else is rejected: it waits no more.
         ensures called { BeginsFor target self.old.tunnel self.new.tunnel (D.called dialer.old) (D.called dialer.new) }
@@ -1066,6 +1090,7 @@ impl<'a> TunnelLoop<'a> {
         // The connection was begun to that target.
         requires to { socket.called ≡ free_target self.old.tunnel_end.now.side (length self.old.tunnel.lines.by_id) }
         ensures runs { Runs self.old.tunnel self.new.tunnel }
+        ensures uncut { self.new.tunnel.wire.shut ≡ self.old.tunnel.wire.shut }
         ensures end { self.new.tunnel_end.now ≡ self.old.tunnel_end.now }
         ensures answered { EndsOffer true self.old.tunnel self.new.tunnel }
     {
@@ -1080,6 +1105,7 @@ impl<'a> TunnelLoop<'a> {
     #[tactic(auto, using(crate::proofs::Offers::rejected_or_none))]
     fn reject_first<V: Watcher>(&mut self, error: &io::Error, origin: Origin, watcher: &mut V)
         ensures runs { Runs self.old.tunnel self.new.tunnel }
+        ensures uncut { self.new.tunnel.wire.shut ≡ self.old.tunnel.wire.shut }
         ensures end { self.new.tunnel_end.now ≡ self.old.tunnel_end.now }
         ensures answered { EndsOffer false self.old.tunnel self.new.tunnel }
     {
@@ -1097,6 +1123,7 @@ impl<'a> TunnelLoop<'a> {
         // The connection was begun to the target.
         requires to { socket.socket.called ≡ free_target self.old.tunnel_end.now.side (length self.old.tunnel.lines.by_id) }
         ensures runs { Runs self.old.tunnel self.new.tunnel }
+        ensures uncut { self.new.tunnel.wire.shut ≡ self.old.tunnel.wire.shut }
         ensures end { self.new.tunnel_end.now ≡ self.old.tunnel_end.now }
         ensures answered { IsAnswered result self.old.tunnel self.new.tunnel }
     {
@@ -1125,6 +1152,7 @@ impl<'a> TunnelLoop<'a> {
     /// Reads the wire, so often that about as many bytes are read of it as are written to it.
     fn read_wire(&mut self)
         ensures runs { Runs self.old.tunnel self.new.tunnel }
+        ensures uncut { self.new.tunnel.wire.shut ≡ self.old.tunnel.wire.shut }
         ensures reads { HasRead self.old.tunnel self.new.tunnel }
     {
         'read: for _ in 0..WIRE_READS {
@@ -1136,6 +1164,7 @@ impl<'a> TunnelLoop<'a> {
     /// the peer read.
     fn serve_queued<V: Watcher>(&mut self, watcher: &mut V)
         ensures runs { Runs self.old.tunnel self.new.tunnel }
+        ensures uncut { self.new.tunnel.wire.shut ≡ self.old.tunnel.wire.shut }
         ensures turns { ServesOne self.old.tunnel self.new.tunnel }
     {
         'queued: for _ in 0..self.tunnel.queued_count() {
@@ -1148,6 +1177,7 @@ impl<'a> TunnelLoop<'a> {
     /// Serves the connection whose turn it is, and lets go of it if it is over. Whether another may be served.
     fn serve_next<V: Watcher>(&mut self, watcher: &mut V) -> bool
         ensures runs { Runs self.old.tunnel self.new.tunnel }
+        ensures uncut { self.new.tunnel.wire.shut ≡ self.old.tunnel.wire.shut }
         ensures turns { ServesOne self.old.tunnel self.new.tunnel }
     {
         let Some(served) = self.tunnel.serve_next() else {
@@ -1160,7 +1190,8 @@ impl<'a> TunnelLoop<'a> {
 
     /// Lets go of a connection of which neither way is open.
     fn forget_if_over<V: Watcher>(&mut self, id: u32, watcher: &mut V)
-        ensures { Runs self.old.tunnel self.new.tunnel }
+        ensures runs { Runs self.old.tunnel self.new.tunnel }
+        ensures uncut { self.new.tunnel.wire.shut ≡ self.old.tunnel.wire.shut }
     {
         if self.tunnel.is_line_over(id) {
             self.forget(id, watcher);
@@ -1172,6 +1203,7 @@ impl<'a> TunnelLoop<'a> {
         // Nothing of it is left to move.
         requires over { (line : LineValue) → line_of id self.old.tunnel.lines ≡ Some line → (is_over line.ways ≡ true) ⊎ (is_running self.old.tunnel.engine.session.status ≡ false) }
         ensures runs { Runs self.old.tunnel self.new.tunnel }
+        ensures uncut { self.new.tunnel.wire.shut ≡ self.old.tunnel.wire.shut }
         ensures status { self.new.tunnel.engine.session.status ≡ self.old.tunnel.engine.session.status }
     {
         let ways = self.tunnel.ways(id);
@@ -1252,6 +1284,7 @@ impl<'a> TunnelLoop<'a> {
     /// Writes what is due to the wire, and counts anew what connections give.
     fn flush(&mut self)
         ensures runs { Runs self.old.tunnel self.new.tunnel }
+        ensures uncut { self.new.tunnel.wire.shut ≡ self.old.tunnel.wire.shut }
         ensures writes { Writes self.old.tunnel self.new.tunnel }
     {
         self.unwritten = 0;
@@ -1261,7 +1294,8 @@ impl<'a> TunnelLoop<'a> {
     /// Once the session is lost and all that is due is sent, nothing more goes over the wire, though connections may
     /// still come.
     fn end_lost_wire(&mut self)
-        ensures { Runs self.old.tunnel self.new.tunnel }
+        ensures runs { Runs self.old.tunnel self.new.tunnel }
+        ensures uncut { self.new.tunnel.wire.shut ≡ self.old.tunnel.wire.shut }
     {
         if self.is_lost() && !self.tunnel.wire().was_ended() && self.tunnel.is_flushed() {
             self.tunnel.end_wire();
@@ -1271,7 +1305,8 @@ impl<'a> TunnelLoop<'a> {
     /// Lets go of all connections of a session that is over.
     fn leave_all<V: Watcher>(&mut self, watcher: &mut V)
         requires over { is_running self.old.tunnel.engine.session.status ≡ false }
-        ensures { Runs self.old.tunnel self.new.tunnel }
+        ensures runs { Runs self.old.tunnel self.new.tunnel }
+        ensures uncut { self.new.tunnel.wire.shut ≡ self.old.tunnel.wire.shut }
     {
         'left: for _ in 0..self.tunnel.len() {
             let Some(id) = self.tunnel.first() else {

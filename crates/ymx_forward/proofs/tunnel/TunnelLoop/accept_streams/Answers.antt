@@ -5,7 +5,7 @@ use Rattle.ymx_forward.proofs.Offers.{all_taken, calls_on, calls_none, next_take
 use Rattle.ymx_forward.proofs.tunnel.TunnelLoop.accept_streams.Goals as goal
 
 pub offered-init : goal.offered-init
-offered-init g c = record { runs = runs_same _; end = refl; status = refl; left = λ alive. refl; calls = calls_none _ _ }
+offered-init g c = record { runs = runs_same _; uncut = refl; end = refl; status = refl; left = λ alive. refl; calls = calls_none _ _ }
 
 pub offered-preserved : goal.offered-preserved
 offered-preserved g c =
@@ -14,6 +14,7 @@ offered-preserved g c =
     let takes = taken _ _ _ _ _ begins.called in
     record {
       runs = runs_then _ _ _ at.runs begins.runs;
+      uncut = begins.uncut ∙ at.uncut;
       end = begins.end ∙ at.end;
       status = takes.status ∙ at.status;
       left = λ alive. next_taken c.offered.counter c.args.self.now.tunnel.engine.session.offered _ _ takes (ap is_closed at.status ∙ alive) (at.left alive);

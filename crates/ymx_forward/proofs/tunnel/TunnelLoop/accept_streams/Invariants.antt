@@ -7,6 +7,7 @@ use Rattle.ymx_forward.proofs.tunnel.TunnelLoop.accept_streams.Given as goal
 abbrev pub invariant-offered : goal.invariant-offered
 invariant-offered g l = record {
   runs : Runs l.initial.self.tunnel l.self.tunnel;
+  uncut : l.self.tunnel.wire.shut ≡ l.initial.self.tunnel.wire.shut;
   end : l.self.tunnel_end.now ≡ l.initial.self.tunnel_end.now;
   status : l.self.tunnel.engine.session.status ≡ l.initial.self.tunnel.engine.session.status;
   left : is_closed l.initial.self.tunnel.engine.session.status ≡ false → l.self.tunnel.engine.session.offered ≡ drop l.counter l.initial.self.tunnel.engine.session.offered;

@@ -6,5 +6,6 @@ use Rattle.ymx_forward.proofs.tunnel.TunnelLoop.leave_all.Given as goal
 abbrev pub invariant-left : goal.invariant-left
 invariant-left g l = record {
   runs : Runs l.initial.self.tunnel l.self.tunnel;
+  uncut : l.self.tunnel.wire.shut ≡ l.initial.self.tunnel.wire.shut;
   over : is_running l.self.tunnel.engine.session.status ≡ false;
 }

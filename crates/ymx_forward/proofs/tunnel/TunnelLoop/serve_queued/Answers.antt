@@ -1,13 +1,13 @@
-use Rattle.std.proofs.Common.{arith}
+use Rattle.std.proofs.Common.{◌∙◌, refl, arith}
 use Rattle.ymx_engine.proofs.Attending.{runs_same, runs_then, then_one}
 use Rattle.ymx_forward.proofs.Going.{some_queued}
 use Rattle.ymx_forward.proofs.tunnel.TunnelLoop.serve_queued.Goals as goal
 
 pub queued-init : goal.queued-init
-queued-init g c = (runs_same _, λ some. absurd (omega (arith, some)))
+queued-init g c = (runs_same _, λ some. absurd (omega (arith, some)), refl)
 
 pub queued-preserved : goal.queued-preserved
-queued-preserved g c = (runs_then _ _ _ c.queued.invariant.0 c.serve_next.ensures.runs, λ some. then_one _ _ _ c.queued.invariant.0 c.serve_next.ensures.runs c.serve_next.ensures.turns)
+queued-preserved g c = (runs_then _ _ _ c.queued.invariant.0 c.serve_next.ensures.runs, λ some. then_one _ _ _ c.queued.invariant.0 c.serve_next.ensures.runs c.serve_next.ensures.turns, c.serve_next.ensures.uncut ∙ c.queued.invariant.2)
 
 pub returns-then-not-serve_next-clause-runs : goal.returns-then-not-serve_next-clause-runs
 returns-then-not-serve_next-clause-runs g c = runs_then _ _ _ c.queued.invariant.0 c.serve_next.ensures.runs
@@ -20,3 +20,9 @@ returns-clause-runs g c = c.queued.invariant.0
 
 pub returns-clause-turns : goal.returns-clause-turns
 returns-clause-turns g c = λ id n far. let some = some_queued id n c.args.self.now.tunnel.lines 18446744073709551615 (omega arith) far in c.queued.invariant.1 (omega (arith, some, c.queued_count-end.ensures.count, c.queued-test.false)) id n far
+
+pub returns-then-not-serve_next-clause-uncut : goal.returns-then-not-serve_next-clause-uncut
+returns-then-not-serve_next-clause-uncut g c = c.serve_next.ensures.uncut ∙ c.queued.invariant.2
+
+pub returns-clause-uncut : goal.returns-clause-uncut
+returns-clause-uncut g c = c.queued.invariant.2

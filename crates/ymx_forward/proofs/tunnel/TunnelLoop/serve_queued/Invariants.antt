@@ -1,4 +1,4 @@
-use Rattle.std.specs.Prelude.{◌<◌}
+use Rattle.std.specs.Prelude.{◌≡◌, ◌<◌}
 use Rattle.ymx_engine.specs.Runs.{Runs}
 use Rattle.ymx_engine.specs.Work.{ServesOne}
 use Rattle.ymx_forward.proofs.tunnel.TunnelLoop.serve_queued.Given as goal
@@ -7,3 +7,4 @@ abbrev pub invariant-queued : goal.invariant-queued
 invariant-queued g l =
     Runs l.initial.self.tunnel l.self.tunnel
     × (0 < l.counter → ServesOne l.initial.self.tunnel l.self.tunnel)
+    × (l.self.tunnel.wire.shut ≡ l.initial.self.tunnel.wire.shut)
