@@ -115,6 +115,14 @@ def call_again_and_again(place, is_over):
             pass
 
 
+def see_the_peer_come(near):
+    """Behind some silent ones that have gone it is told that the peer has come."""
+    turns = 1
+    while (said := near.line()) != COME:
+        turns += 1
+        assert said == GONE and turns < SILENT_TURNS, f"the peer has not come, but {said!r}, {turns} times"
+
+
 def a_silent_one_that_calls_again():
     """It keeps nobody out: who calls meanwhile is the next peer, and its users are served. Then nobody else may call."""
     target, address = listen()
@@ -123,17 +131,16 @@ def a_silent_one_that_calls_again():
     place, users = near.place(), near.place()
     is_over = threading.Event()
     threading.Thread(target=call_again_and_again, args=(place, is_over), daemon=True).start()
-    says(near, GONE)
-    Program("remote", "--keep", "--peer", place, "--target", address)
-    turns = 1
-    while (said := near.line()) != COME:
-        turns += 1
-        assert said == GONE and turns < SILENT_TURNS, f"the peer has not come, but {said!r}, {turns} times"
-    bad = []
-    ask(users, 1, bad)
-    assert not bad, "a user was not served"
-    assert is_refused(place), "somebody else may call"
-    is_over.set()
+    try:
+        says(near, GONE)
+        Program("remote", "--keep", "--peer", place, "--target", address)
+        see_the_peer_come(near)
+        bad = []
+        ask(users, 1, bad)
+        assert not bad, "a user was not served"
+        assert is_refused(place), "somebody else may call"
+    finally:
+        is_over.set()
 
 
 def garbage():

@@ -7,7 +7,7 @@ use Rattle.ymx_policy.specs.declared.asks.PoolHappened.{PoolHappened}
 use Rattle.ymx_policy.specs.declared.asks.PoolHappened.TheVariants.{Came, Listening}
 use Rattle.ymx_policy.specs.declared.asks.Happened.{Happened}
 use Rattle.ymx_policy.specs.declared.asks.Happened.TheVariants.{PeerCame}
-use Rattle.ymx_forward.specs.declared.accepting.Listening.{Listening as Comings}
+use Rattle.ymx_forward.specs.declared.accepting.Listening.{Listening as ListeningValue}
 use Rattle.ymx_forward.specs.declared.peer.Peer.{Peer}
 use Rattle.ymx_forward.specs.declared.tunnel_end.TunnelEnd.{TunnelEnd}
 use Rattle.ymx_forward.specs.Sessions.{nanoseconds}
@@ -61,6 +61,6 @@ goes_on (Some end) = end.is_kept
 goes_on None = false
 
 -- where others call while the peer that is there is still to give a sign of life
-abbrev pub awaited_at : Option TunnelEnd → Option Comings
+abbrev pub awaited_at : Option TunnelEnd → Option ListeningValue
 awaited_at (Some end) = end.callers
 awaited_at None = None

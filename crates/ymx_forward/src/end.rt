@@ -1,6 +1,6 @@
 //! What an end with one session after another asks for, done over sockets.
 
-ghost use Rattle.std.specs.Prelude.{ℕ, List, Option, [], ◌∷◌, ◌≡◌, ◌⊎◌, None, Some, true, IfErr, IfOk, IfSome, IsErr, IsNone, IsOk, IsSome, option_map, ⊤};
+ghost use Rattle.std.specs.Prelude.{ℕ, List, Option, [], ◌∷◌, ◌≡◌, ◌⊎◌, None, Some, false, true, IfErr, IfOk, IfSome, IsErr, IsNone, IsOk, IsSome, option_map, ⊤};
 ghost use Rattle.ymx_policy.specs.Past.{Adds};
 ghost use Rattle.ymx_policy.specs.declared.asks.Callee.{Callee as Calls};
 ghost use Rattle.ymx_policy.specs.declared.asks.Deed.{Deed as Asked};
@@ -12,7 +12,7 @@ ghost use Rattle.ymx_forward.specs.Calls.{MeetsCalled, RanOver};
 ghost use Rattle.ymx_forward.specs.Comers.{Takes, TakesCount};
 ghost use Rattle.ymx_forward.specs.Counts.{CountsOne};
 ghost use Rattle.ymx_forward.specs.Doors.{MayCall, MeetsAdmitted, awaited_at, goes_on};
-ghost use Rattle.ymx_forward.specs.declared.accepting.Listening.{Listening as Comings};
+ghost use Rattle.ymx_forward.specs.declared.accepting.Listening.{Listening as ListeningValue};
 ghost use Rattle.ymx_forward.specs.Served.{IsNoEnd, IsServed, IsUnplaced, ServesAsAsked, count_of};
 ghost use Rattle.ymx_forward.specs.Sessions.{HasNoEnd, Serves};
 
@@ -127,7 +127,7 @@ impl<'a, R: Host> EndSockets<'a, R> {
     fn listen_for_peer(&mut self, peers: Peers) -> Happened
         // Only those are let in that may call.
         ensures from { self.new.keeper.from ≡ peers.from }
-        ensures on { (callers : Comings) → awaited_at self.old.end ≡ Some callers → (result ≡ Happened.Listening peers.address) × (self.new.callers ≡ Some callers) }
+        ensures on { (callers : ListeningValue) → awaited_at self.old.end ≡ Some callers → (result ≡ Happened.Listening peers.address) × (self.new.callers ≡ Some callers) }
     {
         self.keeper = Doorkeeper::new(peers.from);
         if let Some(callers) = self.take_callers() {
@@ -265,7 +265,9 @@ impl<'a, R: Host> EndSockets<'a, R> {
     /// With `--keep` others may call until the peer that is there gives a sign of life.
     fn leave_open(&mut self)
         ensures shut { self.new.callers ≡ None }
-        ensures open { goes_on self.new.end ≡ true → awaited_at self.new.end ≡ self.old.callers }
+        ensures open { goes_on self.old.end ≡ true → awaited_at self.new.end ≡ self.old.callers }
+        ensures closed { goes_on self.old.end ≡ false → awaited_at self.new.end ≡ awaited_at self.old.end }
+        ensures kept { goes_on self.new.end ≡ goes_on self.old.end }
         ensures listener { self.new.listener ≡ self.old.listener }
     {
         let callers = self.callers.take();

@@ -418,6 +418,8 @@ impl<'a> TunnelLoop<'a> {
         // Where none is given nobody listens for silence.
         ensures none { self.old.tunnel_end.now.limits.silence ≡ None → result ≡ None }
         ensures heard { self.new.is_heard ≡ not self.old.tunnel_end.now.limits.is_sounded }
+        // Where no sign of life is asked for no other peer is awaited.
+        ensures alone { self.old.tunnel_end.now.limits.is_sounded ≡ false → self.new.tunnel_end.now.callers ≡ None }
     {
         let is_sounded = self.tunnel_end.limits.is_sounded;
         let patience = self.tunnel_end.limits.silence;
@@ -446,6 +448,8 @@ impl<'a> TunnelLoop<'a> {
     /// for users.
     fn hear_first<R: Wait>(&mut self, rt: &R, pulled: u64)
         ensures heard { self.new.is_heard ≡ (self.old.is_heard || is_sign 0 pulled (unframed self.old.tunnel.engine)) }
+        // With its first sign of life no other peer is awaited any more.
+        ensures alone { self.old.is_heard ≡ false → self.new.is_heard ≡ true → self.new.tunnel_end.now.callers ≡ None }
         ensures same { self.new.tunnel ≡ self.old.tunnel }
     {
         if !self.is_heard && is_sign(0, pulled, self.tunnel.unframed()) {
@@ -981,6 +985,7 @@ impl<'a> TunnelLoop<'a> {
     fn show_room<R: Wait>(&mut self, rt: &R)
         ensures same { self.new.tunnel ≡ self.old.tunnel }
         ensures heard { self.new.is_heard ≡ self.old.is_heard }
+        ensures callers { self.new.tunnel_end.now.callers ≡ self.old.tunnel_end.now.callers }
     {
         if self.tunnel_end.owes_room() && !self.is_to_be_followed() {
             let places = self.places();

@@ -346,7 +346,9 @@ impl TunnelEnd {
     }
 
     /// Tells who brings connections how many places there are.
-    pub(crate) fn show_room<R: Wait>(&mut self, rt: &R, places: Places) {
+    pub(crate) fn show_room<R: Wait>(&mut self, rt: &R, places: Places)
+        ensures { self.new.callers ≡ self.old.callers }
+    {
         if let Side::Local(listening) = &mut self.side {
             listening.show_room(rt, places);
         }
