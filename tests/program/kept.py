@@ -43,6 +43,12 @@ def says(program, *lines):
         assert said == line, f"it says {said!r}, and not {line!r}"
 
 
+def says_of(program, what, peer):
+    """Its next line says this of the peer at this address."""
+    said = program.process.stderr.readline().decode()
+    assert said == f"ymx: the peer has {what} from {peer}\n", f"it says {said!r}, and not that {peer} has {what}"
+
+
 def says_beside(program, often, *lines):
     """These are its next lines, beside one that it may say again; how often it said or left out that one."""
     count = 0
@@ -178,6 +184,56 @@ def a_place_for_each():
     says(program, COME)
     silent.close()
     says(program, GONE)
+
+
+def at(peer):
+    """Where this end of a connection is."""
+    return "{}:{}".format(*peer.getsockname())
+
+
+def from_where_peers_call():
+    """A `remote` tells of each of its peers from where it has come, and has gone."""
+    program, place, _ = remote_kept()
+    peers = [call(place) for _ in range(3)]
+    for peer in peers:
+        assert is_served(peer)
+        says_of(program, "come", at(peer))
+    for peer in reversed(peers):
+        where = at(peer)
+        leave(peer)
+        says_of(program, "gone", where)
+
+
+def from_where_one_calls_after_another():
+    """A `local` that awaits its peers tells of each once it listens for the next."""
+    program = Program("local", "-v", "--keep", "--bind", ANY, "--listen", ANY)
+    place, _ = program.place(), program.place()
+    for _ in range(3):
+        peer = call(place)
+        where = at(peer)
+        assert is_served(peer)
+        says_of(program, "come", where)
+        leave(peer)
+        says_of(program, "gone", where)
+
+
+def where_a_called_one_is():
+    """Who calls tells where the peer is that it called."""
+    listener, address = listen()
+    program = Program("local", "-v", "--keep", "--listen", ANY, "--peer", address)
+    user = call(program.place())
+    peer = accept(listener)
+    show(peer)
+    says_of(program, "come", address)
+    leave(peer)
+    says_of(program, "gone", address)
+    user.close()
+    program = Program("remote", "-v", "--keep", "--peer", address, "--target", ANY)
+    peer = accept(listener)
+    show(peer)
+    says_of(program, "come", address)
+    leave(peer)
+    says_of(program, "gone", address)
 
 
 def peers_without_keep():
@@ -524,6 +580,9 @@ TESTS = (
     ("a peer that breaks the rules", a_peer_that_breaks_the_rules, ()),
     (f"{AT_ONCE} peers at once", peers_at_once, ()),
     ("a place for each", a_place_for_each, ()),
+    ("from where peers call", from_where_peers_call, ()),
+    ("from where one calls after another", from_where_one_calls_after_another, ()),
+    ("where a called one is", where_a_called_one_is, ()),
     ("--peers without --keep", peers_without_keep, ()),
     ("a fault among peers", a_fault_among_peers, ()),
     ("no thread for a peer", no_thread_for_a_peer, ()),

@@ -132,11 +132,13 @@ def break_off(connection):
 
 def without_origins(said):
     """What it says, where each line of a connection has said who it is from, somebody of this machine, and where it had a
-    stream how long it lasted. A link may be named."""
+    stream how long it lasted, and each line of a peer where that is. A link may be named."""
     plain, count = re.subn(r"^(ymx: connection \d+) from 127\.0\.0\.1:\d+(?: by link \d+)?: ", r"\1: ", said, flags=re.MULTILINE)
     assert count == len(re.findall("^ymx: connection ", said, re.MULTILINE)), f"somebody of no address: {said!r}"
     plain, count = re.subn(r"^(ymx: connection \d+: .* from the peer \(.*\)), \d+\.\d{3} s$", r"\1", plain, flags=re.MULTILINE)
     assert count == len(re.findall(" from the peer ", said)), f"of no duration: {said!r}"
+    plain, count = re.subn(r"^(ymx: the peer has (?:come|gone|gone without a sign of life)) from 127\.0\.0\.\d+:\d+$", r"\1", plain, flags=re.MULTILINE)
+    assert count == len(re.findall("^ymx: the peer has ", said, re.MULTILINE)), f"a peer of no address: {said!r}"
     return plain
 
 

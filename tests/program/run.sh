@@ -98,9 +98,10 @@ through() {
     both_end && [ "$(cat answer)" = hello ]
 }
 
-# told FILE: what it says, but for who its connections are from, and how long they lasted
+# told FILE: what it says, but for who its connections and peers are from, and how long connections lasted
 told() {
-    sed 's/^\(ymx: connection [0-9]*\) from 127\.0\.0\.1:[0-9]*: \(.*\), [0-9]*\.[0-9][0-9][0-9] s$/\1: \2/' "$1" > told
+    sed -e 's/^\(ymx: connection [0-9]*\) from 127\.0\.0\.1:[0-9]*: \(.*\), [0-9]*\.[0-9][0-9][0-9] s$/\1: \2/' \
+        -e 's/^\(ymx: the peer has gone\) from 127\.0\.0\.1:[0-9]*$/\1/' "$1" > told
     echo told
 }
 

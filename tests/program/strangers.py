@@ -206,7 +206,7 @@ def what_is_told_of_them():
     since = time.monotonic()
     far, near, place = more_links_than_places("--keep")
     lines = []
-    reader = threading.Thread(target=lambda: lines.extend(line.decode() for line in near.process.stderr), daemon=True)
+    reader = threading.Thread(target=lambda: lines.extend(raw.without_origins(line.decode()) for line in near.process.stderr), daemon=True)
     reader.start()
     # One for each link, so that all are called, and as many as have a place serve.
     users = [call(place) for _ in range(LINKS)]

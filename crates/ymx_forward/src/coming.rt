@@ -3,6 +3,7 @@
 ghost use Rattle.std.specs.Prelude.{◌≡◌, ◌||◌, true, false};
 
 use crate::watching::Watcher;
+use std::net::SocketAddrV4;
 
 /// Whether those who watch were told that the peer has come. Only [`Coming::tell`] makes it so, as nobody else reaches the field.
 #[derive(Drop)]
@@ -18,15 +19,20 @@ impl Coming {
         Coming { is_told: false }
     }
 
-    /// Where the peer has come those who watch are told, once.
-    pub(crate) fn tell<V: Watcher>(&mut self, has_come: bool, watcher: &mut V)
+    /// Where the peer has come those who watch are told, once, and where it is, if that is known.
+    pub(crate) fn tell<V: Watcher>(
+        &mut self,
+        has_come: bool,
+        peer: Option<SocketAddrV4>,
+        watcher: &mut V,
+    )
         ensures told { self.new.is_told ≡ (self.old.is_told || has_come) }
         ensures once { self.old.is_told ≡ true → watcher.new ≡ watcher.old }
         ensures late { has_come ≡ false → watcher.new ≡ watcher.old }
     {
         if has_come && !self.is_told {
             self.is_told = true;
-            watcher.came();
+            watcher.came(peer);
         }
     }
 

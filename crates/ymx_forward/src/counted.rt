@@ -6,6 +6,7 @@ ghost use Rattle.ymx_page.specs.Known.{counts_of};
 use crate::notices::ProgramWatcher;
 use crate::system::TcpConnection;
 use crate::watching::{Declined, EndedConnection, Origin, Watcher};
+use std::net::SocketAddrV4;
 use std::sync::{Mutex, Wait};
 use std::time::{Clock, Instant};
 use ymx_page::{Counts, Known, Shown};
@@ -76,8 +77,8 @@ impl<R: Clock + Wait, V: ProgramWatcher> Watcher for Counted<'_, R, V> {
         self.watcher.refused(origin, why);
     }
 
-    fn lost(&mut self) {
-        self.watcher.lost();
+    fn lost(&mut self, peer: Option<SocketAddrV4>) {
+        self.watcher.lost(peer);
     }
 
     fn failed(&mut self, option: Named, reason: Reason) {
@@ -92,8 +93,8 @@ impl<R: Clock + Wait, V: ProgramWatcher> Watcher for Counted<'_, R, V> {
         self.watcher.peer(is_there);
     }
 
-    fn came(&mut self) {
-        self.watcher.came();
+    fn came(&mut self, peer: Option<SocketAddrV4>) {
+        self.watcher.came(peer);
     }
 }
 

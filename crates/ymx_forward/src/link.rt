@@ -20,6 +20,7 @@ use crate::voices::WatcherLines;
 use crate::watching::{Declined, EndedConnection, Origin, Watcher};
 use crossbeam_channel::Sender;
 use std::alloc::Global;
+use std::net::SocketAddrV4;
 use std::sync::{Arc, Wait};
 use ymx_model::CallFault;
 use ymx_policy::{
@@ -131,8 +132,8 @@ impl<R: Wait, V: ProgramWatcher> Watcher for LinkWatcher<'_, R, V> {
         self.shared.refused(origin, why);
     }
 
-    fn lost(&mut self) {
-        self.shared.lost();
+    fn lost(&mut self, peer: Option<SocketAddrV4>) {
+        self.shared.lost(peer);
     }
 
     fn failed(&mut self, option: Named, reason: Reason) {
@@ -143,8 +144,8 @@ impl<R: Wait, V: ProgramWatcher> Watcher for LinkWatcher<'_, R, V> {
         self.shared.peer(is_there);
     }
 
-    fn came(&mut self) {
-        self.shared.came();
+    fn came(&mut self, peer: Option<SocketAddrV4>) {
+        self.shared.came(peer);
     }
 }
 

@@ -5,18 +5,16 @@ ghost use Rattle.std.specs.declared.time.Instant.{Instant as Moment};
 ghost use Rattle.ymx_forward.specs.Saying.{Says};
 ghost use Rattle.ymx_page.specs.Counts.{more};
 ghost use Rattle.ymx_page.specs.Told.{end_text, refusal_text};
+ghost use Rattle.ymx_policy.specs.Texts.{notice_text};
 
 use crate::stream::Stream;
 use crate::system::TcpConnection;
 use crate::watching::{Declined, EndedConnection, Origin, Watcher};
-use std::net::SocketAddr;
+use std::net::{SocketAddr, SocketAddrV4};
 use std::time::{Clock, Instant};
 use ymx_model::{Outlet, push_all};
 use ymx_page::{end_line, refusal_line};
 use ymx_policy::{Named, Notice, Reason, notice_text};
-
-/// What is said where the peer has gone.
-const GONE: &str = "ymx: the peer has gone\n";
 
 /// Who is told of connections, and of what a program does besides.
 pub(crate) trait ProgramWatcher: Watcher {
@@ -53,7 +51,10 @@ impl<'a, R: Clock, L: Outlet> Notices<'a, R, L> {
     }
 
     /// Says the text of this notice.
-    pub(crate) fn say_notice(&mut self, notice: Notice) {
+    pub(crate) fn say_notice(&mut self, notice: Notice)
+        ensures said { Says (notice_text notice) (L.contents self.old.device.now) (L.contents self.new.device.now) }
+        ensures kept { self.new.begun ≡ self.old.begun }
+    {
         self.say(notice_text(notice).as_str());
     }
 }
@@ -92,17 +93,23 @@ impl<R: Clock, L: Outlet> Watcher for Notices<'_, R, L> {
         self.say(refusal_line(origin, why).as_str());
     }
 
-    fn lost(&mut self) {
-        self.say(GONE);
+    fn lost(&mut self, peer: Option<SocketAddrV4>)
+        ensures { Says (notice_text (Notice.PeerGone peer)) (L.contents self.old.device.now) (L.contents self.new.device.now) }
+    {
+        self.say_notice(Notice::PeerGone(peer));
     }
 
-    fn failed(&mut self, option: Named, reason: Reason) {
+    fn failed(&mut self, option: Named, reason: Reason)
+        ensures { Says (notice_text (Notice.Refused option reason)) (L.contents self.old.device.now) (L.contents self.new.device.now) }
+    {
         self.say_notice(Notice::Refused(option, reason));
     }
 
     fn peer(&mut self, _is_there: bool) {}
 
-    fn came(&mut self) {
-        self.say_notice(Notice::PeerCame);
+    fn came(&mut self, peer: Option<SocketAddrV4>)
+        ensures { Says (notice_text (Notice.PeerCame peer)) (L.contents self.old.device.now) (L.contents self.new.device.now) }
+    {
+        self.say_notice(Notice::PeerCame(peer));
     }
 }

@@ -5,6 +5,7 @@ ghost use Rattle.std.specs.Prelude.{None};
 use crate::notices::ProgramWatcher;
 use crate::system::TcpConnection;
 use crate::watching::{Declined, EndedConnection, Origin, Watcher};
+use std::net::SocketAddrV4;
 use std::sync::{Mutex, Wait};
 use ymx_policy::{Named, Reason};
 
@@ -33,9 +34,9 @@ impl<R: Wait, V: ProgramWatcher> Watcher for Shared<'_, R, V> {
         watcher.refused(origin, why);
     }
 
-    fn lost(&mut self) {
+    fn lost(&mut self, peer: Option<SocketAddrV4>) {
         let mut watcher = self.watcher.lock(self.rt);
-        watcher.lost();
+        watcher.lost(peer);
     }
 
     fn failed(&mut self, option: Named, reason: Reason) {
@@ -48,8 +49,8 @@ impl<R: Wait, V: ProgramWatcher> Watcher for Shared<'_, R, V> {
         watcher.peer(is_there);
     }
 
-    fn came(&mut self) {
+    fn came(&mut self, peer: Option<SocketAddrV4>) {
         let mut watcher = self.watcher.lock(self.rt);
-        watcher.came();
+        watcher.came(peer);
     }
 }

@@ -18,7 +18,7 @@ use crate::tunnel::{Served, TunnelLoop, wire_of};
 use crate::tunnel_end::{RETRY, TunnelEnd, close_limit};
 use crate::watching::Watcher;
 use std::alloc::Global;
-use std::net::Net;
+use std::net::{Net, SocketAddrV4};
 use std::sync::{Arc, Wait};
 use std::time::{Clock, Duration};
 use ymx_policy::{Session, SessionEnd};
@@ -120,6 +120,7 @@ impl<R: Net + Clock + Wait> Site<'_, R> {
         ensures counted { CountsOne self.old.sessions self.new.sessions }
         // It ran over the connection to this peer.
         ensures over { RunsOver peer result }
+        ensures from { result.how.peer ≡ peer.address }
     {
         self.sessions = self.sessions.saturating_add(1);
         let began = time_of(self.rt);
@@ -133,7 +134,7 @@ impl<R: Net + Clock + Wait> Site<'_, R> {
         }
         watcher.peer(true);
         let mut served = match wire_of(peer, &self.poll, self.sessions) {
-            Ok(wire) => self.run(end, wire, session, watcher),
+            Ok(wire) => self.run(end, wire, address, session, watcher),
             Err(refused) => Served::unbegun(session, refused),
         };
         watcher.peer(false);
@@ -141,11 +142,12 @@ impl<R: Net + Clock + Wait> Site<'_, R> {
         served
     }
 
-    /// Runs a session over this wire, and ends the wire.
+    /// Runs a session over this wire, with the peer at this address, if it is known, and ends the wire.
     fn run<V: Watcher>(
         &mut self,
         end: &mut TunnelEnd,
         wire: Socket,
+        peer: Option<SocketAddrV4>,
         session: Session,
         watcher: &mut V,
     ) -> Served
@@ -155,7 +157,14 @@ impl<R: Net + Clock + Wait> Site<'_, R> {
         ensures kept { self.new.sessions ≡ self.old.sessions }
         ensures over { IfOk result.finished (λ _. result.called ≡ wire.socket.called) }
     {
-        let mut tunnel = match TunnelLoop::new(self.alloc, wire, end, session, self.sessions) {
+        let mut tunnel = match TunnelLoop::new(
+            self.alloc,
+            wire,
+            end,
+            session,
+            self.sessions,
+            peer,
+        ) {
             Ok(tunnel) => tunnel,
             Err(refused) => return Served::unbegun(session, refused),
         };

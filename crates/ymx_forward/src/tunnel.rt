@@ -3,7 +3,7 @@
 //! All that moves is moved by calls of [`ymx_engine::Tunnel`], which owns the wire and the connections. Each function
 //! here that makes such calls says that they are all it did: `Runs`.
 
-ghost use Rattle.std.specs.Prelude.{ℕ, Result, ◌≡◌, ◌⊎◌, ◌||◌, ◌&&◌, [], true, false, not, length, is_err, is_some, option_map, IfErr, IfNone, IfOk, IfSome, IsSome, Some, None};
+ghost use Rattle.std.specs.Prelude.{ℕ, Result, max, ◌-◌, ◌<◌, ◌≤◌, ◌≡◌, ◌⊎◌, ◌||◌, ◌&&◌, [], true, false, not, length, is_err, is_some, option_map, IfErr, IfNone, IfOk, IfSome, IsSome, Some, None};
 ghost use Rattle.std.specs.Duration.{as_nanos};
 ghost use Rattle.ymx_engine.specs.Devices.{Seen};
 ghost use Rattle.ymx_engine.specs.Joins.{IsJoined, IsOpened};
@@ -33,7 +33,7 @@ ghost use Rattle.ymx_forward.specs.Sides.{role_at};
 ghost use Rattle.ymx_model.specs.session.Sessions.{is_running, new_session};
 ghost use Rattle.ymx_session.specs.NewSessions.{IsNewFault, first_id};
 ghost use Rattle.ymx_forward.specs.declared.system.TcpConnection.{TcpConnection as Connection};
-ghost use Rattle.ymx_page.specs.Counts.{with_declined};
+ghost use Rattle.ymx_page.specs.Counts.{with_declined, with_rejected};
 
 use crate::coming::Coming;
 use crate::content::Places;
@@ -206,6 +206,7 @@ impl Served {
         ensures finished { self.new.finished ≡ self.old.finished }
         ensures called { self.new.called ≡ self.old.called }
         ensures told { self.new.how.is_coming_told ≡ self.old.how.is_coming_told }
+        ensures peer { self.new.how.peer ≡ peer }
     {
         self.how.has_lasted = has_lasted;
         self.how.peer = peer;
@@ -235,6 +236,8 @@ pub(crate) struct TunnelLoop<'a> {
     number: u64,
     /// Whom this side called for its wire. None where the peer called.
     called: Option<SocketAddr>,
+    /// Where the peer is, if that is known.
+    peer: Option<SocketAddrV4>,
     /// How many bytes connections have given since the wire was last written to.
     unwritten: u64,
     /// Whether those who watch were told that the peer has come.
@@ -258,14 +261,15 @@ pub(crate) struct TunnelLoop<'a> {
 impl<'a> TunnelLoop<'a> {
     // ---- how it begins
 
-    /// The session of this number that was asked for, over this wire, which has moved nothing. The fault is that it can't be
-    /// made.
+    /// The session of this number that was asked for, over this wire, which has moved nothing, with the peer at this address,
+    /// if it is known. The fault is that it can't be made.
     pub(crate) fn new(
         alloc: Global,
         wire: Socket,
         tunnel_end: &'a mut TunnelEnd,
         asked: Asked,
         number: u64,
+        peer: Option<SocketAddrV4>,
     ) -> Result<TunnelLoop<'a>, Unserved>
         // Its session is a new one of this side and of the window that was asked for.
         ensures session { IfOk result (λ made. made.tunnel.engine.session ≡ new_session (role_at tunnel_end.old.side) asked.window (first_id (role_at tunnel_end.old.side) 0)) }
@@ -274,6 +278,7 @@ impl<'a> TunnelLoop<'a> {
         ensures end { IfOk result (λ made. made.tunnel_end.now ≡ tunnel_end.old) }
         ensures number { IfOk result (λ made. made.number ≡ number) }
         ensures called { IfOk result (λ made. made.called ≡ wire.socket.called) }
+        ensures peer { IfOk result (λ made. made.peer ≡ peer) }
         // Of its peer nothing was told.
         ensures untold { IfOk result (λ made. made.coming.is_told ≡ false) }
         // It can't be made with this window, or there was no memory for it.
@@ -295,6 +300,7 @@ impl<'a> TunnelLoop<'a> {
             tunnel_end,
             number,
             called,
+            peer,
             unwritten: 0,
             coming: Coming::untold(),
             is_loss_told: false,
@@ -1242,7 +1248,7 @@ impl<'a> TunnelLoop<'a> {
         ensures late { tells_coming self.old.tunnel_end.now pulled self.old.tunnel ≡ false → watcher.new ≡ watcher.old }
     {
         let has_come = self.tunnel_end.is_kept && self.has_spoken(pulled);
-        self.coming.tell(has_come, watcher);
+        self.coming.tell(has_come, self.peer, watcher);
     }
 
     /// Whether the peer, of which so many bytes have come, has given a sign of life. One who has broken a rule gives none.
@@ -1282,7 +1288,7 @@ impl<'a> TunnelLoop<'a> {
             listening.note_loss(rt, is_kept);
         }
         if !is_kept {
-            watcher.lost();
+            watcher.lost(self.peer);
         }
     }
 

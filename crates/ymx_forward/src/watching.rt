@@ -7,6 +7,7 @@ ghost use Rattle.ymx_page.specs.declared.counts.Counts.{Counts};
 
 use crate::socket::{Socket, SocketFault};
 use crate::system::TcpConnection;
+use std::net::SocketAddrV4;
 use ymx_engine::{Flow, Ways};
 pub(crate) use ymx_page::{Declined, EndedConnection, Ending, Origin, Passed};
 use ymx_policy::{Named, Reason};
@@ -30,8 +31,8 @@ pub(crate) trait Watcher {
     fn refused(&mut self, origin: Origin, why: Declined)
         ensures { counts self.new ≡ option_map (with_declined why) (counts self.old) };
 
-    /// The session was lost, and none follows.
-    fn lost(&mut self)
+    /// The session with the peer at this address, if it is known, was lost, and none follows.
+    fn lost(&mut self, peer: Option<SocketAddrV4>)
         ensures { counts self.new ≡ counts self.old };
 
     /// The system refused, for this reason, what this option asks for.
@@ -42,8 +43,8 @@ pub(crate) trait Watcher {
     fn peer(&mut self, is_there: bool)
         ensures { counts self.new ≡ option_map (with_peer is_there) (counts self.old) };
 
-    /// The peer has given its first sign of life, in a session that others follow.
-    fn came(&mut self)
+    /// The peer at this address, if it is known, has given its first sign of life, in a session that others follow.
+    fn came(&mut self, peer: Option<SocketAddrV4>)
         ensures { counts self.new ≡ counts self.old };
 }
 
@@ -62,33 +63,13 @@ impl Watcher for Unwatched {
 
     fn refused(&mut self, _origin: Origin, _why: Declined) {}
 
-    fn lost(&mut self) {}
+    fn lost(&mut self, _peer: Option<SocketAddrV4>) {}
 
     fn failed(&mut self, _option: Named, _reason: Reason) {}
 
     fn peer(&mut self, _is_there: bool) {}
 
-    fn came(&mut self) {}
-}
-
-/// How the connection of this socket ended, whose ways stand so. `is_lost` says whether the session was lost.
-pub(crate) fn ended_connection(socket: &Socket, ways: Ways, is_lost: bool) -> EndedConnection
-    ensures to_peer { result.to_peer ≡ record { bytes = socket.now.traffic.pulled; ending = ending_of ways.to_peer (broken_to_peer ways.lacked_memory socket.now.failure is_lost) } }
-    ensures from_peer { result.from_peer ≡ record { bytes = socket.now.traffic.pushed; ending = ending_of ways.from_peer (broken_from_peer ways.lacked_memory socket.now.failure is_lost) } }
-    ensures reason { result.reason ≡ socket.now.reason }
-{
-    let (to_peer, from_peer) = broken_endings(socket.fault(), ways.lacked_memory, is_lost);
-    EndedConnection {
-        to_peer: Passed {
-            bytes: socket.pulled(),
-            ending: ending_of(ways.to_peer, to_peer),
-        },
-        from_peer: Passed {
-            bytes: socket.pushed(),
-            ending: ending_of(ways.from_peer, from_peer),
-        },
-        reason: socket.reason(),
-    }
+    fn came(&mut self, _peer: Option<SocketAddrV4>) {}
 }
 
 /// Why a flow ended that stands so, if it broke off for this reason.

@@ -112,7 +112,7 @@ waiting_fine links t p Came f = (f, refl)
 waiting_fine links t p (Delayed why) f = (f, refl)
 waiting_fine links t p (TurnedAway from) f = (f, refl)
 waiting_fine links t p (Left how) f =
-    heeds_fine t.goes_on t (record p { running = p.running - 1 }) (leaving links t.goes_on) None how (settles_fine _ t (heeds t.goes_on t (record p { running = p.running - 1 }) (leaving links t.goes_on) None how) f)
+    heeds_fine t.goes_on t (record p { running = p.running - 1 }) (leaving links t.goes_on how.peer) None how (settles_fine _ t (heeds t.goes_on t (record p { running = p.running - 1 }) (leaving links t.goes_on how.peer) None how) f)
 waiting_fine links t p (Met m why) f = absurd (meets_bad t.goes_on p m why f)
 waiting_fine links t p other f = (last_fine links t p other f, refl)
 
@@ -205,7 +205,7 @@ waiting_ends : (links : Bool) (t : Terms) (p : Pool) (h : PoolHappened) → p.st
 waiting_ends links t p Came w o f = absurd (comes_in links _ o)
 waiting_ends links t p (Delayed why) w o f = cc
 waiting_ends links t p (TurnedAway from) w o f = cc
-waiting_ends links t p (Left how) w o f = settles_ends _ t (heeds t.goes_on t (record p { running = p.running - 1 }) (leaving links t.goes_on) None how) o f
+waiting_ends links t p (Left how) w o f = settles_ends _ t (heeds t.goes_on t (record p { running = p.running - 1 }) (leaving links t.goes_on how.peer) None how) o f
 waiting_ends links t p (Met m why) w o f = meets_ends t.goes_on p m why w o f
 waiting_ends links t p other w o f = last_ends links t p other o f
 

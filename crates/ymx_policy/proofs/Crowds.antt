@@ -102,7 +102,7 @@ unfolding left_one
 waiting_running links t p Came = refl
 waiting_running links t p (Delayed why) = refl
 waiting_running links t p (TurnedAway from) = refl
-waiting_running links t p (Left how) = heeds_running t.goes_on t (record p { running = p.running - 1 }) (leaving links t.goes_on) None how
+waiting_running links t p (Left how) = heeds_running t.goes_on t (record p { running = p.running - 1 }) (leaving links t.goes_on how.peer) None how
 waiting_running links t p (Met f why) = meets_running t.goes_on p f why
 waiting_running links t p other = last_running links t p other
 

@@ -91,8 +91,8 @@ heeds_good false t p words how b c h = (b, clean_both p.all how ∙ rw (c, h) re
 
 left_good : (t : Terms) (p : Pool) (how : SessionEnd) → p.has_faulted ≡ false → is_clean p.all ≡ true → is_clean how ≡ true → is_good (left false t p how).stage (left false t p how).has_all (left false t p how).has_faulted (left false t p how).all
 left_good t p how b c h =
-    let g = heeds_good t.goes_on t (record p { running = p.running - 1 }) (leaving false t.goes_on) how b c h in
-    settles_good _ t (heeds t.goes_on t (record p { running = p.running - 1 }) (leaving false t.goes_on) None how) g.0 g.1
+    let g = heeds_good t.goes_on t (record p { running = p.running - 1 }) (leaving false t.goes_on how.peer) how b c h in
+    settles_good _ t (heeds t.goes_on t (record p { running = p.running - 1 }) (leaving false t.goes_on how.peer) None how) g.0 g.1
 
 left_clean : (room shut : Bool) (t : Terms) (peers : SocketAddrV4) (bad : Bool) (how : SessionEnd) (before : Bool) → clean_after (deed_at stage.Waiting t room shut peers bad) (Left how) before ≡ true → is_clean how ≡ true
 left_clean true shut t peers bad how before e = grind arith

@@ -1,4 +1,5 @@
 pub mod Coming
+pub mod Partings
 pub mod Endings
 pub mod Keeping
 pub mod PoolComing

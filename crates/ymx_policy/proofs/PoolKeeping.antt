@@ -98,12 +98,12 @@ starting_marks false t p Started fs e = e
 starting_marks links t p (Failed why) fs e = no_thread_marks links t p why fs e
 starting_marks links t p other fs e = no_thread_marks links t p None fs e
 
-leaving_fault : (links kept : Bool) → (leaving links kept).fault ≡ None
-leaving_fault links kept = grind arith
+leaving_fault : (links kept : Bool) (peer : Option SocketAddrV4) → (leaving links kept peer).fault ≡ None
+leaving_fault links kept peer = grind arith
 
 left_marks : (links : Bool) (t : Terms) (p : Pool) (how : SessionEnd) (fs : List Fault) → p.has_faulted ≡ is_some_fault fs → IsMarked (left links t p how) fs
 left_marks links t p how fs e =
-    settles_marks t (heeds t.goes_on t (record p { running = p.running - 1 }) (leaving links t.goes_on) None how) fs (heeds_marks t.goes_on t (record p { running = p.running - 1 }) (leaving links t.goes_on) None how fs (leaving_fault links t.goes_on) e)
+    settles_marks t (heeds t.goes_on t (record p { running = p.running - 1 }) (leaving links t.goes_on how.peer) None how) fs (heeds_marks t.goes_on t (record p { running = p.running - 1 }) (leaving links t.goes_on how.peer) None how fs (leaving_fault links t.goes_on how.peer) e)
 
 meets_marks : (kept : Bool) (p : Pool) (f : Fault) (why : Option Notice) (fs : List Fault) → p.has_faulted ≡ is_some_fault fs → IsMarked (meets kept p f why) fs
 meets_marks true p f why fs e = refl
@@ -245,7 +245,7 @@ waiting_knows true t p h l = cc
 waiting_knows false t p Came l = refl
 waiting_knows false t p (Delayed why) l = refl
 waiting_knows false t p (TurnedAway from) l = refl
-waiting_knows false t p (Left how) l = heeds_knows t.goes_on t (record p { running = p.running - 1 }) (leaving false t.goes_on) None how
+waiting_knows false t p (Left how) l = heeds_knows t.goes_on t (record p { running = p.running - 1 }) (leaving false t.goes_on how.peer) None how
 waiting_knows false t p (Met f why) l = meets_knows t.goes_on p f why
 waiting_knows false t p AllCame l = refl
 waiting_knows false t p (NobodyComes why) l = refl

@@ -75,10 +75,10 @@ starting_mute false t p Started = record { reason = λ e. refl; cause = λ e. re
 starting_mute links t p (Failed why) = no_thread_mute links t p why
 starting_mute links t p other = no_thread_mute links t p None
 
-leaving_even : (links kept : Bool) → IsEven (leaving links kept)
-leaving_even true kept = (λ e. refl, refl, refl)
-leaving_even false true = (λ e. refl, refl, refl)
-leaving_even false false = (λ e. refl, refl, refl)
+leaving_even : (links kept : Bool) (peer : Option SocketAddrV4) → IsEven (leaving links kept peer)
+leaving_even true kept peer = (λ e. refl, refl, refl)
+leaving_even false true peer = (λ e. refl, refl, refl)
+leaving_even false false peer = (λ e. refl, refl, refl)
 
 meets_mute : (kept : Bool) (p : Pool) (f : Fault) (why : Option Notice) → IsMute (meets kept p f why).words
 meets_mute true p f why = record { reason = λ e. cc; cause = λ e. refl }
@@ -109,7 +109,7 @@ waiting_mute links t p (Delayed why) = record { reason = λ e. refl; cause = λ 
 waiting_mute links t p (TurnedAway from) = turned_mute (has_room links p.running t.places p.is_shut) from
 waiting_mute links t p (Left how) =
     let q : Pool = record p { running = p.running - 1 } in
-    settles_mute _ t (heeds t.goes_on t q (leaving links t.goes_on) None how) (heeds_even t.goes_on t q (leaving links t.goes_on) None how (leaving_even links t.goes_on)).0
+    settles_mute _ t (heeds t.goes_on t q (leaving links t.goes_on how.peer) None how) (heeds_even t.goes_on t q (leaving links t.goes_on how.peer) None how (leaving_even links t.goes_on how.peer)).0
 waiting_mute links t p (Met f why) = meets_mute t.goes_on p f why
 waiting_mute links t p other = last_mute links t p other
 

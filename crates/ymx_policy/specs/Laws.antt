@@ -202,7 +202,7 @@ NamesPlace peer peers users other = Unit {0}
 
 -- whether the peer of a session is told to be there, behind this notice: not where it has gone
 abbrev pub told_there : Option Notice → Bool → Bool
-told_there (Some notice.PeerGone) before = false
+told_there (Some (notice.PeerGone peer)) before = false
 told_there other before = before
 
 -- the same behind these words
@@ -221,9 +221,26 @@ is_told_there (entry ∷ past) = tells_coming entry.0.deed entry.1 (told_by entr
 
 -- that the peer has gone which was told to have come
 abbrev pub is_gone : Option Notice → Bool
-is_gone (Some notice.PeerGone) = true
+is_gone (Some (notice.PeerGone peer)) = true
 is_gone other = false
 
 -- these words tell that
 abbrev pub tells_gone : Words → Bool
 tells_gone words = is_gone words.first || is_gone words.reason || is_gone words.last || is_gone words.cause
+
+-- where the peer of the last session was, behind what happened at this deed: nobody knows it of one that could not begin
+abbrev pub last_peer_after : Deed → Happened → (before : Option SocketAddrV4) → Option SocketAddrV4
+last_peer_after (deed.Serve session) (SessionEnded how) before = how.peer
+last_peer_after (deed.Serve session) other before = None
+last_peer_after other happened before = before
+
+-- where the peer of the last session was, if that is known
+abbrev pub last_peer : List (Ask × Happened) → Option SocketAddrV4
+last_peer [] = None
+last_peer (entry ∷ past) = last_peer_after entry.0.deed entry.1 (last_peer past)
+
+-- who is told to have gone was there
+abbrev pub GoneFrom : (peer : Option SocketAddrV4) → Option Notice → Type 0
+GoneFrom peer (Some (notice.PeerGone from)) = from ≡ peer
+GoneFrom peer (Some (notice.PeerGoneSilent from)) = from ≡ peer
+GoneFrom peer other = Unit {0}

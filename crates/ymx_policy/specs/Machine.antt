@@ -29,6 +29,7 @@ fresh t = record {
   has_users = begins_with_users t.role;
   pause = 0;
   peers = t.peer;
+  last_peer = None;
   spares = 0;
   has_faulted = false;
 }
@@ -70,10 +71,10 @@ no_peers s gone why = ends s gone (refusal (option.Bind s.peers) why) (fault.Can
 -- it listens for its peer, or can't
 abbrev pub after_opening_peers : Terms → State → Happened → State
 after_opening_peers t s (Listening address) =
-    record s { stage = behind_peers t.role s.has_users; words = opened s.has_users address; peers = address }
-after_opening_peers t s LackedMemory = ends s (gone_if s.has_users) None fault.OutOfMemory
-after_opening_peers t s (Failed why) = no_peers s (gone_if s.has_users) why
-after_opening_peers t s other = no_peers s (gone_if s.has_users) None
+    record s { stage = behind_peers t.role s.has_users; words = opened s.has_users s.last_peer address; peers = address }
+after_opening_peers t s LackedMemory = ends s (gone_if s.has_users s.last_peer) None fault.OutOfMemory
+after_opening_peers t s (Failed why) = no_peers s (gone_if s.has_users s.last_peer) why
+after_opening_peers t s other = no_peers s (gone_if s.has_users s.last_peer) None
 
 -- it listens for users, or can't
 abbrev pub after_opening_users : Terms → State → Happened → State
@@ -121,17 +122,18 @@ after_awaiting_user t s other = no_users t s None None
 
 -- the user that waited is closed, or all are
 abbrev pub after_closing : Terms → State → Happened → State
-after_closing t s AllCame = goes s stage.Over (record silence { first = gone_if (owes_gone t.role) })
-after_closing t s (NoUsers why) = no_users t s (gone_if (owes_gone t.role)) why
+after_closing t s AllCame = goes s stage.Over (record silence { first = gone_if (owes_gone t.role) s.last_peer })
+after_closing t s (NoUsers why) = no_users t s (gone_if (owes_gone t.role) s.last_peer) why
 after_closing t s other = goes s (behind_user t.role) silence
 
--- Behind a session with this fault, for this reason, whose peer was told to have come or wasn't, and had gone away or hadn't: this pause
--- is due before the next call.
-abbrev pub parted : Terms → State → (came : Bool) → (why : Option Notice) → Option Fault → (away : Bool) → (pause : ℕ) → State
-parted t s came why f away pause = record s {
+-- Behind a session with this fault, for this reason, whose peer was told to have come or wasn't, was there, if that is known, and had
+-- gone away or hadn't: this pause is due before the next call.
+abbrev pub parted : Terms → State → (came : Bool) → (peer : Option SocketAddrV4) → (why : Option Notice) → Option Fault → (away : Bool) → (pause : ℕ) → State
+parted t s came peer why f away pause = record s {
   stage = behind_session t.role t.goes_on away pause;
-  words = parting t.role t.goes_on came why f;
+  words = parting t.role t.goes_on came peer why f;
   pause = pause;
+  last_peer = peer;
   spares = spared away;
   has_faulted = s.has_faulted || is_some f;
 }
@@ -139,10 +141,10 @@ parted t s came why f away pause = record s {
 -- the session has ended, or could not begin
 abbrev pub after_serving : Terms → State → Happened → State
 after_serving t s (SessionEnded how) =
-    parted t s how.is_coming_told (first_reason t.users.address None how) (first_fault t.users.address (cannot_meet t.role s.peers) how) how.is_peer_away (if how.has_lasted then 0 else longer s.pause)
-after_serving t s LackedMemory = parted t s false None (Some fault.OutOfMemory) false (longer s.pause)
-after_serving t s (Failed why) = parted t s false (refusal (serving t.role t.users.address s.peers) why) (Some (cannot_meet t.role s.peers)) false (longer s.pause)
-after_serving t s other = parted t s false None (Some (cannot_meet t.role s.peers)) false (longer s.pause)
+    parted t s how.is_coming_told how.peer (first_reason t.users.address None how) (first_fault t.users.address (cannot_meet t.role s.peers) how) how.is_peer_away (if how.has_lasted then 0 else longer s.pause)
+after_serving t s LackedMemory = parted t s false None None (Some fault.OutOfMemory) false (longer s.pause)
+after_serving t s (Failed why) = parted t s false None (refusal (serving t.role t.users.address s.peers) why) (Some (cannot_meet t.role s.peers)) false (longer s.pause)
+after_serving t s other = parted t s false None None (Some (cannot_meet t.role s.peers)) false (longer s.pause)
 
 -- what happened at this stage leads here
 abbrev pub after_at : Stage → Terms → State → Happened → State

@@ -253,15 +253,15 @@ after_starting links t p Started = record p {
 after_starting links t p (Failed why) = after_no_thread links t p why
 after_starting links t p other = after_no_thread links t p None
 
--- what is told where a session ends: without --keep that the peer of a `remote` has gone, at first, and with it at last
-abbrev pub leaving : (links kept : Bool) → Words
-leaving true kept = silence
-leaving false false = tells notice.PeerGone
-leaving false true = record silence { last = Some notice.PeerGone }
+-- what is told where a session ends: without --keep that the peer of a `remote` has gone, and from where, at first, and with it at last
+abbrev pub leaving : (links kept : Bool) → (peer : Option SocketAddrV4) → Words
+leaving true kept peer = silence
+leaving false false peer = tells (notice.PeerGone peer)
+leaving false true peer = record silence { last = Some (notice.PeerGone peer) }
 
 -- a session has ended so
 abbrev pub left : (links : Bool) → Terms → Pool → SessionEnd → Pool
-left links t p how = settles t (heeds t.goes_on t (record p { running = p.running - 1 }) (leaving links t.goes_on) None how)
+left links t p how = settles t (heeds t.goes_on t (record p { running = p.running - 1 }) (leaving links t.goes_on how.peer) None how)
 
 -- links take no more users though some were to come: the peer can't be reached
 abbrev pub lost_links : (count : Option ℕ) → SessionEnd

@@ -92,14 +92,14 @@ broken_rule (Some rule) peer = Some (notice.Broke rule peer)
 broken_rule None peer = None
 
 -- Once it listens for its peer it tells where. Where it listens again for the next one, it tells that the last one has gone.
-abbrev pub opened : (has_users : Bool) → SocketAddrV4 → Words
-opened false address = tells (notice.Listening address)
-opened true address = tells notice.PeerGone
+abbrev pub opened : (has_users : Bool) → (last : Option SocketAddrV4) → SocketAddrV4 → Words
+opened false last address = tells (notice.Listening address)
+opened true last address = tells (notice.PeerGone last)
 
 -- a peer that is awaited is told to have gone once the next one can call, or none will
-abbrev pub gone_if : (is_due : Bool) → Option Notice
-gone_if true = Some notice.PeerGone
-gone_if false = None
+abbrev pub gone_if : (is_due : Bool) → (last : Option SocketAddrV4) → Option Notice
+gone_if true last = Some (notice.PeerGone last)
+gone_if false last = None
 
 -- that is due while the user is closed behind its session
 abbrev pub owes_gone : Role → Bool
@@ -107,17 +107,17 @@ owes_gone LocalAwaits = true
 owes_gone role = false
 
 -- what `local` tells of a peer that it called and that has gone, where it was told to have come or wasn't
-abbrev pub farewell : (came : Bool) → Notice
-farewell true = notice.PeerGone
-farewell false = notice.PeerGoneSilent
+abbrev pub gone_notice : (came : Bool) → (peer : Option SocketAddrV4) → Notice
+gone_notice true peer = notice.PeerGone peer
+gone_notice false peer = notice.PeerGoneSilent peer
 
 -- What is said behind a session with this fault, for this reason, whose peer was told to have come or wasn't: without --keep no more. With
--- it also that the peer has gone: by `local` at first, by `remote` at last, and by one that awaits its peers not yet.
-abbrev pub parting : Role → (kept came : Bool) → (why : Option Notice) → Option Fault → Words
-parting LocalCalls true came why f = record { first = Some (farewell came); reason = why; fault = f; last = None; cause = None; ending = None }
-parting Link true came why f = record { first = Some (farewell came); reason = why; fault = f; last = None; cause = None; ending = None }
-parting RemoteCalls true came why f = record { first = None; reason = why; fault = f; last = Some notice.PeerGone; cause = None; ending = None }
-parting role kept came why f = record { first = None; reason = why; fault = f; last = None; cause = None; ending = None }
+-- it also that the peer has gone, and from where: by `local` at first, by `remote` at last, and by one that awaits its peers not yet.
+abbrev pub parting : Role → (kept came : Bool) → (peer : Option SocketAddrV4) → (why : Option Notice) → Option Fault → Words
+parting LocalCalls true came peer why f = record { first = Some (gone_notice came peer); reason = why; fault = f; last = None; cause = None; ending = None }
+parting Link true came peer why f = record { first = Some (gone_notice came peer); reason = why; fault = f; last = None; cause = None; ending = None }
+parting RemoteCalls true came peer why f = record { first = None; reason = why; fault = f; last = Some (notice.PeerGone peer); cause = None; ending = None }
+parting role kept came peer why f = record { first = None; reason = why; fault = f; last = None; cause = None; ending = None }
 
 -- ---- which fault it is
 

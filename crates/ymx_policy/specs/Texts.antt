@@ -69,9 +69,9 @@ source_text None = []
 -- the text of a notice
 abbrev pub notice_text : Notice → List ℕ
 notice_text (notice.Listening address) = codes "ymx: listening at " ++ socket_v4_text address ++ codes "\n"
-notice_text notice.PeerCame = codes "ymx: the peer has come\n"
-notice_text notice.PeerGone = codes "ymx: the peer has gone\n"
-notice_text notice.PeerGoneSilent = codes "ymx: the peer has gone without a sign of life\n"
+notice_text (notice.PeerCame peer) = codes "ymx: the peer has come" ++ source_text peer ++ codes "\n"
+notice_text (notice.PeerGone peer) = codes "ymx: the peer has gone" ++ source_text peer ++ codes "\n"
+notice_text (notice.PeerGoneSilent peer) = codes "ymx: the peer has gone without a sign of life" ++ source_text peer ++ codes "\n"
 notice_text (notice.Unreached address) = codes "ymx: cannot reach " ++ socket_v4_text address ++ codes "\n"
 notice_text (notice.Stranger from) = codes "ymx: closed a stranger" ++ source_text from ++ codes "\n"
 notice_text (notice.Crowded from) = codes "ymx: closed a peer too many" ++ source_text from ++ codes "\n"

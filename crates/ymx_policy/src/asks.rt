@@ -101,12 +101,12 @@ pub enum Named {
 pub enum Notice {
     /// It listens here.
     Listening(SocketAddrV4),
-    /// A peer has given its first sign of life, in a session after which others may come.
-    PeerCame,
-    /// The peer has gone.
-    PeerGone,
-    /// The peer has gone, and gave no sign of life before.
-    PeerGoneSilent,
+    /// The peer at this address, if it is known, has given its first sign of life, in a session after which others may come.
+    PeerCame(Option<SocketAddrV4>),
+    /// The peer at this address, if it is known, has gone.
+    PeerGone(Option<SocketAddrV4>),
+    /// The peer at this address, if it is known, has gone, and gave no sign of life before.
+    PeerGoneSilent(Option<SocketAddrV4>),
     /// The peer at this address can't be reached, and is called again.
     Unreached(SocketAddrV4),
     /// Who called from this address, if it is known, was closed, as peers may not call from there.

@@ -7,7 +7,7 @@ ghost use Rattle.ymx_policy.specs.Plans.{terms_of, address_of, has_pool, is_call
 ghost use Rattle.ymx_policy.specs.PoolPast.{is_end, IsPast as IsPoolPast, asks as pool_asks, faults as pool_faults, notices as pool_notices};
 ghost use Rattle.ymx_policy.specs.PoolLaws.{all_clean, called, has_all, running, takes_peers};
 ghost use Rattle.ymx_policy.specs.PoolTable.{has_links};
-ghost use Rattle.ymx_policy.specs.Laws.{NamesPlace, all_came_last, ends_well, failed_tries, has_opened, has_peer, is_clean, is_explained, is_local, is_port_last, is_told_there, last_deed, pause_of, peers_of, says_fault, spared_calls, status_of, tells_gone, told_by};
+ghost use Rattle.ymx_policy.specs.Laws.{GoneFrom, NamesPlace, all_came_last, ends_well, failed_tries, has_opened, has_peer, is_clean, is_explained, is_local, is_port_last, is_told_there, last_deed, last_peer, pause_of, peers_of, says_fault, spared_calls, status_of, tells_gone, told_by};
 ghost use Rattle.ymx_policy.specs.declared.options.LocalOptions.{LocalOptions as LocalGiven};
 ghost use Rattle.ymx_policy.specs.declared.options.RemoteOptions.{RemoteOptions as RemoteGiven};
 ghost use Rattle.ymx_policy.specs.declared.plan.Terms.{Terms as Told};
@@ -195,13 +195,15 @@ pub fn pools()
 
 /// A session that others follow tells that its peer has come, once that gives a sign of life, and each peer that was told to
 /// have come is told to have gone before the next session, and before the end. A `local` that calls tells of none else that it
-/// has gone, but that it has without a sign of life. Where users or peers can come is told.
+/// has gone, but that it has without a sign of life. Who has gone is told by where the last session's peer was. Where users or
+/// peers can come is told.
 pub fn lines()
     ensures come { (t : Told) (past : List (Asked × Heard)) (session : Served) → t.role ≢ Role.RemoteAwaits → t.session.is_followed ≡ t.goes_on → IsPast t past → (asks t past).deed ≡ Deed.Serve session → (session.is_followed ≡ t.goes_on) × (told_by (asks t past).words (is_told_there past) ≡ false) }
     ensures gone { (t : Told) (past : List (Asked × Heard)) (n : ℕ) → t.role ≢ Role.RemoteAwaits → t.session.is_followed ≡ t.goes_on → IsPast t past → (asks t past).deed ≡ Deed.End n → told_by (asks t past).words (is_told_there past) ≡ false }
     ensures known { (t : Told) (past : List (Asked × Heard)) → (t.role ≡ Role.LocalCalls) ⊎ (t.role ≡ Role.Link) → t.session.is_followed ≡ t.goes_on → IsPast t past → tells_gone (asks t past).words ≡ true → is_told_there past ≡ true }
-    ensures parted { (t : Told) (past : List (Asked × Heard)) (session : Served) (how : Ended) → (t.role ≡ Role.LocalCalls) ⊎ (t.role ≡ Role.Link) → t.goes_on ≡ true → IsPast t past → (asks t past).deed ≡ Deed.Serve session → how.is_coming_told ≡ true → (asks t ((asks t past, Happened.SessionEnded how) ∷ past)).words.first ≡ Some Notice.PeerGone }
-    ensures silent { (t : Told) (past : List (Asked × Heard)) (session : Served) (how : Ended) → (t.role ≡ Role.LocalCalls) ⊎ (t.role ≡ Role.Link) → t.goes_on ≡ true → IsPast t past → (asks t past).deed ≡ Deed.Serve session → how.is_coming_told ≡ false → (asks t ((asks t past, Happened.SessionEnded how) ∷ past)).words.first ≡ Some Notice.PeerGoneSilent }
+    ensures parted { (t : Told) (past : List (Asked × Heard)) (session : Served) (how : Ended) → (t.role ≡ Role.LocalCalls) ⊎ (t.role ≡ Role.Link) → t.goes_on ≡ true → IsPast t past → (asks t past).deed ≡ Deed.Serve session → how.is_coming_told ≡ true → (asks t ((asks t past, Happened.SessionEnded how) ∷ past)).words.first ≡ Some (Notice.PeerGone how.peer) }
+    ensures silent { (t : Told) (past : List (Asked × Heard)) (session : Served) (how : Ended) → (t.role ≡ Role.LocalCalls) ⊎ (t.role ≡ Role.Link) → t.goes_on ≡ true → IsPast t past → (asks t past).deed ≡ Deed.Serve session → how.is_coming_told ≡ false → (asks t ((asks t past, Happened.SessionEnded how) ∷ past)).words.first ≡ Some (Notice.PeerGoneSilent how.peer) }
+    ensures from { (t : Told) (past : List (Asked × Heard)) → IsPast t past → GoneFrom (last_peer past) (asks t past).words.first × GoneFrom (last_peer past) (asks t past).words.last }
     ensures users { (t : Told) (past : List (Asked × Heard)) (users : Awaited) (address : Address) → IsPast t past → (asks t past).deed ≡ Deed.ListenForUsers users → (asks t ((asks t past, Happened.Listening address) ∷ past)).words.first ≡ Some (Notice.Listening address) }
 {}
 

@@ -359,7 +359,7 @@ impl Pool {
         ensures { self.new ≡ left links terms.now self.old how }
     {
         self.running = self.running.saturating_sub(1);
-        self.heed(terms, leaving(links, terms.goes_on), None, how);
+        self.heed(terms, leaving(links, terms.goes_on, how.peer), None, how);
         self.settle(terms);
     }
 
@@ -637,16 +637,16 @@ fn unlinked() -> SessionEnd
     end
 }
 
-/// What is told where a session ends.
-fn leaving(links: bool, is_kept: bool) -> Words
-    ensures { result ≡ leaving links is_kept }
+/// What is told where a session with the peer at this address ends.
+fn leaving(links: bool, is_kept: bool, peer: Option<SocketAddrV4>) -> Words
+    ensures { result ≡ leaving links is_kept peer }
 {
     let mut words = silence();
     if !links {
         if is_kept {
-            words.last = Some(Notice::PeerGone);
+            words.last = Some(Notice::PeerGone(peer));
         } else {
-            words.first = Some(Notice::PeerGone);
+            words.first = Some(Notice::PeerGone(peer));
         }
     }
     words

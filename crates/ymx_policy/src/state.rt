@@ -52,6 +52,8 @@ pub struct State {
     pub pause: u64,
     /// Where its peer is called, or calls: at port 0 the port that the system chose.
     pub peers: SocketAddrV4,
+    /// Where the peer of the last session was, if that is known.
+    pub last_peer: Option<SocketAddrV4>,
     /// How many calls may fail before users are closed.
     pub spares: u64,
     /// It has said a fault, or does so now.
@@ -69,6 +71,7 @@ impl State {
             has_users: begins_with_users(terms.role),
             pause: 0,
             peers: terms.peer,
+            last_peer: None,
             spares: 0,
             has_faulted: false,
         }
@@ -173,11 +176,11 @@ impl State {
     fn hear_opening_peers(&mut self, terms: &Terms, happened: Happened)
         ensures { self.new ≡ after_opening_peers terms.now self.old happened }
     {
-        let gone = gone_if(self.has_users);
+        let gone = gone_if(self.has_users, self.last_peer);
         match happened {
             Happened::Listening(address) => {
                 self.stage = behind_peers(terms.role, self.has_users);
-                self.words = opened(self.has_users, address);
+                self.words = opened(self.has_users, self.last_peer, address);
                 self.peers = address;
             }
             Happened::LackedMemory => self.end(gone, None, Fault::OutOfMemory),
@@ -287,7 +290,7 @@ impl State {
     fn hear_closing(&mut self, terms: &Terms, happened: Happened)
         ensures { self.new ≡ after_closing terms.now self.old happened }
     {
-        let gone = gone_if(owes_gone(terms.role));
+        let gone = gone_if(owes_gone(terms.role), self.last_peer);
         match happened {
             Happened::AllCame => {
                 let mut words = silence();
@@ -317,10 +320,10 @@ impl State {
 
     /// The session could not begin, for this reason.
     fn fail(&mut self, terms: &Terms, reason: Option<Notice>, fault: Fault)
-        ensures { self.new ≡ parted terms.now self.old false reason (Some fault) false (longer self.old.pause) }
+        ensures { self.new ≡ parted terms.now self.old false None reason (Some fault) false (longer self.old.pause) }
     {
         self.pause = longer(self.pause);
-        self.part(terms, false, reason, Some(fault), false);
+        self.part(terms, false, None, reason, Some(fault), false);
     }
 
     /// The session has ended so.
@@ -335,23 +338,39 @@ impl State {
         } else {
             longer(self.pause)
         };
-        self.part(terms, how.is_coming_told, reason, fault, how.is_peer_away);
+        self.part(
+            terms,
+            how.is_coming_told,
+            how.peer,
+            reason,
+            fault,
+            how.is_peer_away,
+        );
     }
 
-    /// Goes on behind a session with this fault, for this reason, whose peer was told to have come or wasn't, and took streams
-    /// to its end or had gone away. Its pause is due before the next call.
+    /// Goes on behind a session with this fault, for this reason, whose peer was told to have come or wasn't, was there, if that
+    /// is known, and took streams to its end or had gone away. Its pause is due before the next call.
     fn part(
         &mut self,
         terms: &Terms,
         is_coming_told: bool,
+        peer: Option<SocketAddrV4>,
         reason: Option<Notice>,
         fault: Option<Fault>,
         is_away: bool,
     )
-        ensures { self.new ≡ parted terms.now self.old is_coming_told reason fault is_away self.old.pause }
+        ensures { self.new ≡ parted terms.now self.old is_coming_told peer reason fault is_away self.old.pause }
     {
         self.stage = behind_session(terms.role, terms.goes_on, is_away, self.pause);
-        self.words = parting(terms.role, terms.goes_on, is_coming_told, reason, fault);
+        self.words = parting(
+            terms.role,
+            terms.goes_on,
+            is_coming_told,
+            peer,
+            reason,
+            fault,
+        );
+        self.last_peer = peer;
         self.spares = spared(is_away);
         self.has_faulted = self.has_faulted || fault.is_some();
     }

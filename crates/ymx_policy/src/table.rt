@@ -1,7 +1,7 @@
 //! The tables that an end goes by: where it goes, what it says, and which fault it is.
 
 ghost use Rattle.std.specs.Prelude.{◌≡◌};
-ghost use Rattle.ymx_policy.specs.Table.{begins, begins_with_users, behind_peers, behind_users, behind_call, behind_session, behind_user, longer, spared, silence, tells, refusal, broken_rule, opened, gone_if, owes_gone, farewell, parting, serving, cannot_meet, first_fault, first_reason};
+ghost use Rattle.ymx_policy.specs.Table.{begins, begins_with_users, behind_peers, behind_users, behind_call, behind_session, behind_user, longer, spared, silence, tells, refusal, broken_rule, opened, gone_if, owes_gone, gone_notice, parting, serving, cannot_meet, first_fault, first_reason};
 
 use crate::asks::{Fault, Named, Notice, SessionEnd, Words};
 use crate::plan::Role;
@@ -159,21 +159,25 @@ pub(crate) fn broken_rule(rule: Option<u8>, peer: Option<SocketAddrV4>) -> Optio
 }
 
 /// What it tells once it listens for its peer: where, or that the last one has gone.
-pub(crate) fn opened(has_users: bool, address: SocketAddrV4) -> Words
-    ensures { result ≡ opened has_users address }
+pub(crate) fn opened(has_users: bool, last: Option<SocketAddrV4>, address: SocketAddrV4) -> Words
+    ensures { result ≡ opened has_users last address }
 {
     if has_users {
-        tells(Notice::PeerGone)
+        tells(Notice::PeerGone(last))
     } else {
         tells(Notice::Listening(address))
     }
 }
 
-/// That the peer has gone, where that is due.
-pub(crate) fn gone_if(is_due: bool) -> Option<Notice>
-    ensures { result ≡ gone_if is_due }
+/// That the last peer has gone, where that is due.
+pub(crate) fn gone_if(is_due: bool, last: Option<SocketAddrV4>) -> Option<Notice>
+    ensures { result ≡ gone_if is_due last }
 {
-    if is_due { Some(Notice::PeerGone) } else { None }
+    if is_due {
+        Some(Notice::PeerGone(last))
+    } else {
+        None
+    }
 }
 
 /// Whether that is due while the user is closed behind its session.
@@ -187,25 +191,27 @@ pub(crate) fn owes_gone(role: Role) -> bool
 }
 
 /// What `local` tells of a peer that it called and that has gone.
-pub(crate) fn farewell(is_coming_told: bool) -> Notice
-    ensures { result ≡ farewell is_coming_told }
+pub(crate) fn gone_notice(is_coming_told: bool, peer: Option<SocketAddrV4>) -> Notice
+    ensures { result ≡ gone_notice is_coming_told peer }
 {
     if is_coming_told {
-        Notice::PeerGone
+        Notice::PeerGone(peer)
     } else {
-        Notice::PeerGoneSilent
+        Notice::PeerGoneSilent(peer)
     }
 }
 
-/// What it says behind a session with this fault, for this reason, whose peer was told to have come or wasn't.
+/// What it says behind a session with this fault, for this reason, whose peer was told to have come or wasn't, and was at this
+/// address.
 pub(crate) fn parting(
     role: Role,
     is_kept: bool,
     is_coming_told: bool,
+    peer: Option<SocketAddrV4>,
     reason: Option<Notice>,
     fault: Option<Fault>,
 ) -> Words
-    ensures { result ≡ parting role is_kept is_coming_told reason fault }
+    ensures { result ≡ parting role is_kept is_coming_told peer reason fault }
 {
     let mut words = Words {
         first: None,
@@ -217,8 +223,8 @@ pub(crate) fn parting(
     };
     if is_kept {
         match role {
-            Role::LocalCalls | Role::Link => words.first = Some(farewell(is_coming_told)),
-            Role::RemoteCalls => words.last = Some(Notice::PeerGone),
+            Role::LocalCalls | Role::Link => words.first = Some(gone_notice(is_coming_told, peer)),
+            Role::RemoteCalls => words.last = Some(Notice::PeerGone(peer)),
             Role::LocalAwaits | Role::RemoteAwaits => {}
         }
     }

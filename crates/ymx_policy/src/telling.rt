@@ -53,9 +53,18 @@ pub fn notice_text(notice: Notice) -> Text
             text.push_str("ymx: listening at ");
             push_address(&mut text, address);
         }
-        Notice::PeerCame => text.push_str("ymx: the peer has come"),
-        Notice::PeerGone => text.push_str("ymx: the peer has gone"),
-        Notice::PeerGoneSilent => text.push_str("ymx: the peer has gone without a sign of life"),
+        Notice::PeerCame(peer) => {
+            text.push_str("ymx: the peer has come");
+            push_source(&mut text, peer);
+        }
+        Notice::PeerGone(peer) => {
+            text.push_str("ymx: the peer has gone");
+            push_source(&mut text, peer);
+        }
+        Notice::PeerGoneSilent(peer) => {
+            text.push_str("ymx: the peer has gone without a sign of life");
+            push_source(&mut text, peer);
+        }
         Notice::Unreached(address) => {
             text.push_str("ymx: cannot reach ");
             push_address(&mut text, address);

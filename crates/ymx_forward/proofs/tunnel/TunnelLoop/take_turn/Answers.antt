@@ -1,3 +1,5 @@
+use Rattle.std.proofs.Common.{ap, ◌∙◌}
+use Rattle.ymx_engine.specs.Tunnels.{Tunnel}
 use Rattle.ymx_engine.proofs.Attending.{runs_then}
 use Rattle.ymx_forward.proofs.Going.{runs_before, works_once}
 use Rattle.ymx_forward.proofs.tunnel.TunnelLoop.take_turn.Goals as goal
