@@ -1,8 +1,8 @@
-/* Loaded before the C library (LD_PRELOAD), this makes one allocation of a program fail: the one whose
-   number, counted from 1, the variable FAIL_AT gives. Or it refuses one thread: the one whose number
-   FAIL_THREAD_AT gives; or one call about the readiness of descriptors, to make a set, to change it or to wait
-   for it: the one whose number FAIL_POLL_AT gives. If it came to that, the file that the variable FAILED names
-   is there afterwards. */
+/* Loaded before the C library (LD_PRELOAD), this makes one allocation of a program fail: the one whose number,
+   counted from 1, the variable FAIL_AT gives; or each of so many bytes or more as FAIL_FROM_BYTES gives. Or it
+   refuses one thread: the one whose number FAIL_THREAD_AT gives; or one call about the readiness of descriptors,
+   to make a set, to change it or to wait for it: the one whose number FAIL_POLL_AT gives. If it came to one of
+   those that have a number, the file that the variable FAILED names is there afterwards. */
 #define _GNU_SOURCE
 #include <dlfcn.h>
 #include <errno.h>
@@ -15,7 +15,7 @@
 extern void *__libc_malloc(size_t size);
 extern void *__libc_realloc(void *block, size_t size);
 
-static long calls, fail_at, threads, fail_thread_at, polls, fail_poll_at;
+static long calls, fail_at, fail_from_bytes, threads, fail_thread_at, polls, fail_poll_at;
 
 static long number_in(const char *variable)
 {
@@ -26,6 +26,7 @@ static long number_in(const char *variable)
 __attribute__((constructor)) static void begin(void)
 {
     fail_at = number_in("FAIL_AT");
+    fail_from_bytes = number_in("FAIL_FROM_BYTES");
     fail_thread_at = number_in("FAIL_THREAD_AT");
     fail_poll_at = number_in("FAIL_POLL_AT");
     calls = 0;
@@ -50,14 +51,22 @@ static int fails(long *count, long wanted)
     return 1;
 }
 
+static int fails_of(size_t size)
+{
+    if (!fail_from_bytes || size < (size_t)fail_from_bytes)
+        return fails(&calls, fail_at);
+    errno = ENOMEM;
+    return 1;
+}
+
 void *malloc(size_t size)
 {
-    return fails(&calls, fail_at) ? NULL : __libc_malloc(size);
+    return fails_of(size) ? NULL : __libc_malloc(size);
 }
 
 void *realloc(void *block, size_t size)
 {
-    return fails(&calls, fail_at) ? NULL : __libc_realloc(block, size);
+    return fails_of(size) ? NULL : __libc_realloc(block, size);
 }
 
 int pthread_create(pthread_t *thread, const pthread_attr_t *with, void *(*run)(void *), void *given)

@@ -17,8 +17,10 @@ import time
 
 import raw
 from beside import Peer, swap
-from raw import ACK, ANY, BAD, FIN, FULL, GONE, PING, SYN, WINDOW, Program, broke, refused
-from raw import accept, break_off, call, frame, free_place, has_ended, is_cut, leave, listen, local, preloaded, preloads, take
+from raw import ACK, ANY, BAD, FIN, FULL, GONE, PING, RST, SYN, WINDOW, Program, broke, refused
+from raw import accept, break_off, call, frame, free_place, has_ended, is_cut, leave, listen, local, next_frame, preloaded
+from raw import preloads, take
+from status import get, parse
 
 SESSIONS = 200
 # So many peers `remote --keep` serves at once.
@@ -234,6 +236,29 @@ def where_a_called_one_is():
     says_of(program, "come", address)
     leave(peer)
     says_of(program, "gone", address)
+
+
+@preloads
+def streams_without_memory():
+    """Each is rejected while the session goes on. That is told as it comes, and each is counted."""
+    _, address = listen()
+    page, window = free_place(), str(1 << 20)
+    words = ["--bind", ANY, "--target", address, "--window", window, "--status", page]
+    program = preloaded("remote", "-v", "--keep", *words, variables={"FAIL_FROM_BYTES": window})
+    peer = call(program.place())
+    rejected = f"ymx: rejected streams from {at(peer)}: no memory\n"
+    for stream in 1, 3, 5:
+        peer.sendall(frame(WINDOW, SYN, stream, 0))
+        assert next_frame(peer) == (WINDOW, RST, stream), "it isn't rejected"
+    says(program, COME, rejected)
+    assert is_served(peer), "the session doesn't go on"
+    count = parse(get(page, "/metrics")[2])["ymx_streams_rejected_total"]
+    assert count == 3, f"{count} are counted"
+    leave(peer)
+    lines = []
+    while not lines or lines[-1] != GONE:
+        lines.append(program.line())
+    assert "ymx: out of memory\n" in lines, lines
 
 
 def peers_without_keep():
@@ -583,6 +608,7 @@ TESTS = (
     ("from where peers call", from_where_peers_call, ()),
     ("from where one calls after another", from_where_one_calls_after_another, ()),
     ("where a called one is", where_a_called_one_is, ()),
+    ("streams without memory", streams_without_memory, ()),
     ("--peers without --keep", peers_without_keep, ()),
     ("a fault among peers", a_fault_among_peers, ()),
     ("no thread for a peer", no_thread_for_a_peer, ()),

@@ -22,7 +22,7 @@ from ports import free_ports
 # How long a test may take, in seconds: also on a loaded machine.
 SECONDS = 300
 DATA, WINDOW, PING, AWAY = 0, 1, 2, 3
-SYN, ACK, FIN = 1, 2, 4
+SYN, ACK, FIN, RST = 1, 2, 4, 8
 HEADER = struct.Struct(">BBHII")
 # A header of version 1.
 BAD = b"\x01" + bytes(11)

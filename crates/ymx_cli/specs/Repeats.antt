@@ -13,7 +13,7 @@ is_shortage line =
     || ends_with nat_eq line (codes ": no thread\n")))
 
 -- The line may be left out: it says what a peer has done against the rules of yamux, that somebody was closed who may not be a peer,
--- that one has gone which gave no sign of life, or what the system is short of.
+-- that one has gone which gave no sign of life, that there was no memory for its streams, or what the system is short of.
 abbrev pub may_repeat : List ℕ → Bool
 may_repeat line =
     starts_with nat_eq line (codes "ymx: B")
@@ -21,7 +21,8 @@ may_repeat line =
     || (starts_with nat_eq line (codes "ymx: closed a stranger")
     || (starts_with nat_eq line (codes "ymx: closed a peer too many")
     || (starts_with nat_eq line (codes "ymx: the peer has gone without a sign of life")
-    || is_shortage line))))
+    || (starts_with nat_eq line (codes "ymx: rejected streams")
+    || is_shortage line)))))
 
 -- a decimal digit
 abbrev pub is_digit : ℕ → Bool

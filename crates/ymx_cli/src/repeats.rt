@@ -106,6 +106,7 @@ fn may_repeat(line: &[u8]) -> bool
         || line.starts_with(b"ymx: closed a stranger")
         || line.starts_with(b"ymx: closed a peer too many")
         || line.starts_with(b"ymx: the peer has gone without a sign of life")
+        || line.starts_with(b"ymx: rejected streams")
         || is_shortage(line)
 }
 

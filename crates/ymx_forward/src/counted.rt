@@ -96,6 +96,12 @@ impl<R: Clock + Wait, V: ProgramWatcher> Watcher for Counted<'_, R, V> {
     fn came(&mut self, peer: Option<SocketAddrV4>) {
         self.watcher.came(peer);
     }
+
+    fn rejected(&mut self, count: u64, peer: Option<SocketAddrV4>) {
+        self.known.note_rejected(count);
+        self.counters.show(self.rt, &self.known);
+        self.watcher.rejected(count, peer);
+    }
 }
 
 impl<R: Clock + Wait, V: ProgramWatcher> ProgramWatcher for Counted<'_, R, V> {

@@ -25,6 +25,7 @@ mod notices;
 mod peer;
 mod peers;
 mod programs;
+mod rejections;
 mod selftest;
 mod shared;
 mod silence;

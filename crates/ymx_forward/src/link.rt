@@ -147,6 +147,10 @@ impl<R: Wait, V: ProgramWatcher> Watcher for LinkWatcher<'_, R, V> {
     fn came(&mut self, peer: Option<SocketAddrV4>) {
         self.shared.came(peer);
     }
+
+    fn rejected(&mut self, count: u64, peer: Option<SocketAddrV4>) {
+        self.shared.rejected(count, peer);
+    }
 }
 
 impl<R: Wait, V: ProgramWatcher> ProgramWatcher for LinkWatcher<'_, R, V> {

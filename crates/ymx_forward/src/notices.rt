@@ -112,4 +112,10 @@ impl<R: Clock, L: Outlet> Watcher for Notices<'_, R, L> {
     {
         self.say_notice(Notice::PeerCame(peer));
     }
+
+    fn rejected(&mut self, _count: u64, peer: Option<SocketAddrV4>)
+        ensures { Says (notice_text (Notice.Rejected peer)) (L.contents self.old.device.now) (L.contents self.new.device.now) }
+    {
+        self.say_notice(Notice::Rejected(peer));
+    }
 }

@@ -53,4 +53,9 @@ impl<R: Wait, V: ProgramWatcher> Watcher for Shared<'_, R, V> {
         let mut watcher = self.watcher.lock(self.rt);
         watcher.came(peer);
     }
+
+    fn rejected(&mut self, count: u64, peer: Option<SocketAddrV4>) {
+        let mut watcher = self.watcher.lock(self.rt);
+        watcher.rejected(count, peer);
+    }
 }

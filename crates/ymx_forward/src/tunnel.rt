@@ -39,6 +39,7 @@ use crate::coming::Coming;
 use crate::content::Places;
 use crate::dialing::Dialer;
 use crate::peer::Peer;
+use crate::rejections::Rejections;
 use crate::silence::{Due, Silence, is_sign, shorter};
 use crate::site::{lacking, unwatched};
 use crate::socket::Socket;
@@ -242,6 +243,8 @@ pub(crate) struct TunnelLoop<'a> {
     unwritten: u64,
     /// Whether those who watch were told that the peer has come.
     coming: Coming,
+    /// How many of the peer's streams were rejected for want of memory, as those who watch were told.
+    rejections: Rejections,
     /// Those who watch were told that the session was lost.
     is_loss_told: bool,
     /// The peer has given a sign of life, or isn't asked for one.
@@ -303,6 +306,7 @@ impl<'a> TunnelLoop<'a> {
             peer,
             unwritten: 0,
             coming: Coming::untold(),
+            rejections: Rejections::untold(),
             is_loss_told: false,
             is_heard: false,
             is_leaving: false,
@@ -637,6 +641,8 @@ impl<'a> TunnelLoop<'a> {
         ensures uncut { self.new.tunnel.wire.shut ≡ self.old.tunnel.wire.shut }
         // The wire is read and written, and each connection that waits for a turn comes nearer, has it or leaves.
         ensures works { WorksOnce self.old.tunnel self.new.tunnel }
+        // Those who watch were told of each stream that was rejected for want of memory.
+        ensures rejected { self.new.tunnel.no_memory ≤ self.new.rejections.told }
     {
         self.accept_connections(rt, poll, watcher);
         self.read_wire();
@@ -646,6 +652,7 @@ impl<'a> TunnelLoop<'a> {
         self.flush();
         self.end_lost_wire();
         self.show_room(rt);
+        self.tell_rejections(watcher);
     }
 
     /// Whether something can be done with no event.
@@ -1251,6 +1258,17 @@ impl<'a> TunnelLoop<'a> {
         self.coming.tell(has_come, self.peer, watcher);
     }
 
+    /// Tells those who watch of the streams that were rejected for want of memory, of each once.
+    fn tell_rejections<V: Watcher>(&mut self, watcher: &mut V)
+        ensures same { self.new.tunnel ≡ self.old.tunnel }
+        ensures told { self.new.rejections.told ≡ max self.old.rejections.told self.old.tunnel.no_memory }
+        ensures once { self.old.tunnel.no_memory ≤ self.old.rejections.told → watcher.new ≡ watcher.old }
+        ensures counted { self.old.rejections.told < self.old.tunnel.no_memory → V.counts watcher.new ≡ option_map (with_rejected (self.old.tunnel.no_memory - self.old.rejections.told)) (V.counts watcher.old) }
+    {
+        let rejected = self.tunnel.no_memory();
+        self.rejections.tell(rejected, self.peer, watcher);
+    }
+
     /// Whether the peer, of which so many bytes have come, has given a sign of life. One who has broken a rule gives none.
     fn has_spoken(&self, pulled: u64) -> bool
         ensures { result ≡ has_spoken pulled self.now.tunnel }
@@ -1335,6 +1353,8 @@ impl<'a> TunnelLoop<'a> {
         ensures unwatched { result.is_unwatched ≡ is_unwatched }
         ensures away { result.is_peer_away ≡ self.now.tunnel.engine.session.away.there }
         ensures told { result.is_coming_told ≡ self.now.coming.is_told }
+        // Where memory was lacked for a stream of the peer's, it says so.
+        ensures memory { 0 < self.now.tunnel.no_memory → result.lacked_memory ≡ true }
         ensures accepted { self.now.tunnel_end.now.is_kept ≡ false → has_failed self.now.tunnel_end.now.side ≡ true → result.accept_failed ≡ true }
     {
         SessionEnd {

@@ -2,7 +2,7 @@
 
 ghost use Rattle.std.specs.Prelude.{◌≡◌, None, Option, option_map, IfSome};
 ghost use Rattle.ymx_forward.specs.Ended.{broken_from_peer, broken_to_peer, ending_of, stream_ending};
-ghost use Rattle.ymx_page.specs.Counts.{with_begun, with_declined, with_ended, with_peer, with_system_refusal};
+ghost use Rattle.ymx_page.specs.Counts.{with_begun, with_declined, with_ended, with_peer, with_rejected, with_system_refusal};
 ghost use Rattle.ymx_page.specs.declared.counts.Counts.{Counts};
 
 use crate::socket::{Socket, SocketFault};
@@ -46,6 +46,10 @@ pub(crate) trait Watcher {
     /// The peer at this address, if it is known, has given its first sign of life, in a session that others follow.
     fn came(&mut self, peer: Option<SocketAddrV4>)
         ensures { counts self.new ≡ counts self.old };
+
+    /// So many more streams of the peer at this address, if it is known, were rejected for want of memory.
+    fn rejected(&mut self, count: u64, peer: Option<SocketAddrV4>)
+        ensures { counts self.new ≡ option_map (with_rejected count) (counts self.old) };
 }
 
 /// Watches nothing.
@@ -70,6 +74,28 @@ impl Watcher for Unwatched {
     fn peer(&mut self, _is_there: bool) {}
 
     fn came(&mut self, _peer: Option<SocketAddrV4>) {}
+
+    fn rejected(&mut self, _count: u64, _peer: Option<SocketAddrV4>) {}
+}
+
+/// How the connection of this socket ended, whose ways stand so. `is_lost` says whether the session was lost.
+pub(crate) fn ended_connection(socket: &Socket, ways: Ways, is_lost: bool) -> EndedConnection
+    ensures to_peer { result.to_peer ≡ record { bytes = socket.now.traffic.pulled; ending = ending_of ways.to_peer (broken_to_peer ways.lacked_memory socket.now.failure is_lost) } }
+    ensures from_peer { result.from_peer ≡ record { bytes = socket.now.traffic.pushed; ending = ending_of ways.from_peer (broken_from_peer ways.lacked_memory socket.now.failure is_lost) } }
+    ensures reason { result.reason ≡ socket.now.reason }
+{
+    let (to_peer, from_peer) = broken_endings(socket.fault(), ways.lacked_memory, is_lost);
+    EndedConnection {
+        to_peer: Passed {
+            bytes: socket.pulled(),
+            ending: ending_of(ways.to_peer, to_peer),
+        },
+        from_peer: Passed {
+            bytes: socket.pushed(),
+            ending: ending_of(ways.from_peer, from_peer),
+        },
+        reason: socket.reason(),
+    }
 }
 
 /// Why a flow ended that stands so, if it broke off for this reason.

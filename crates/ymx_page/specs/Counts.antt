@@ -41,6 +41,7 @@ no_counts =
       come = 0;
       gone = 0;
       failures = 0;
+      rejected = 0;
     }
 
 -- so many more; it stays at the greatest `u64`
@@ -87,6 +88,10 @@ with_declined why c = with_cause why (record c { there = c.there - 1 })
 abbrev pub with_peer : (is_there : Bool) → Counts → Counts
 with_peer true c = record c { come = more c.come 1 }
 with_peer false c = record c { gone = more c.gone 1 }
+
+-- so many more streams of the peer's were rejected for want of memory
+abbrev pub with_rejected : ℕ → Counts → Counts
+with_rejected n c = record c { rejected = more c.rejected n }
 
 -- the system has refused once more what an option asks for
 abbrev pub with_system_refusal : Counts → Counts

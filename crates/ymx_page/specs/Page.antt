@@ -103,6 +103,9 @@ gone_family c = single Counter (codes "ymx_peers_gone_total") (codes "Sessions w
 abbrev pub peers_family : Counts → Family
 peers_family c = single Gauge (codes "ymx_peers") (codes "Sessions with a peer: a link has one.") (c.come - c.gone)
 
+abbrev pub rejected_family : Counts → Family
+rejected_family c = single Counter (codes "ymx_streams_rejected_total") (codes "Streams of the peer's that were rejected for want of memory.") c.rejected
+
 abbrev pub system_refusals_family : Counts → Family
 system_refusals_family c = single Counter (codes "ymx_system_refusals_total") (codes "How often the system refused what an option asks for.") c.failures
 
@@ -130,6 +133,7 @@ families s =
     ∷ come_family s.counts
     ∷ gone_family s.counts
     ∷ peers_family s.counts
+    ∷ rejected_family s.counts
     ∷ system_refusals_family s.counts
     ∷ open_family s.counts
     ∷ oldest_family s

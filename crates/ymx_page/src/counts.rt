@@ -1,7 +1,7 @@
 //! What is counted of an end since it began.
 
 ghost use Rattle.std.specs.Prelude.{◌≡◌};
-ghost use Rattle.ymx_page.specs.Counts.{first_bad, more, no_counts, with_begun, with_cause, with_declined, with_ended, with_ending, with_peer, with_system_refusal};
+ghost use Rattle.ymx_page.specs.Counts.{first_bad, more, no_counts, with_begun, with_cause, with_declined, with_ended, with_ending, with_peer, with_rejected, with_system_refusal};
 
 use crate::connections::{Declined, EndedConnection, Ending};
 use ymx_model::CallFault;
@@ -45,6 +45,8 @@ pub struct Counts {
     pub gone: u64,
     /// How often the system refused what an option asks for.
     pub failures: u64,
+    /// How many streams of the peer's were rejected for want of memory.
+    pub rejected: u64,
 }
 
 impl Counts {
@@ -71,6 +73,7 @@ impl Counts {
             come: 0,
             gone: 0,
             failures: 0,
+            rejected: 0,
         }
     }
 
@@ -130,6 +133,13 @@ impl Counts {
         ensures { self.new ≡ with_system_refusal self.old }
     {
         add(&mut self.failures, 1);
+    }
+
+    /// So many streams of the peer's were rejected for want of memory.
+    pub fn count_rejected(&mut self, count: u64)
+        ensures { self.new ≡ with_rejected count self.old }
+    {
+        add(&mut self.rejected, count);
     }
 
     /// One got none for this reason.

@@ -2,7 +2,7 @@
 
 ghost use Rattle.std.specs.Prelude.{◌≡◌, ◌⊎◌, None, Some};
 ghost use Rattle.std.specs.declared.time.Instant.{Instant};
-ghost use Rattle.ymx_page.specs.Counts.{no_counts, with_begun, with_declined, with_ended, with_peer, with_system_refusal};
+ghost use Rattle.ymx_page.specs.Counts.{no_counts, with_begun, with_declined, with_ended, with_peer, with_rejected, with_system_refusal};
 
 use crate::connections::{Declined, EndedConnection};
 use crate::counts::Counts;
@@ -106,6 +106,14 @@ impl Known {
         ensures rest { KeepsBeginnings self.old self.new }
     {
         self.counts.count_peer(is_there);
+    }
+
+    /// So many streams of the peer's were rejected for want of memory.
+    pub fn note_rejected(&mut self, count: u64)
+        ensures counts { counts_of self.new ≡ with_rejected count (counts_of self.old) }
+        ensures rest { KeepsBeginnings self.old self.new }
+    {
+        self.counts.count_rejected(count);
     }
 
     /// The system refused what an option asks for.

@@ -2,7 +2,7 @@
 
 ghost use Rattle.std.specs.Prelude.{◌≡◌, ◌++◌, IfOk, OnOk};
 ghost use Rattle.std.specs.String.{string_bytes};
-ghost use Rattle.ymx_page.specs.Page.{as_number, begun_family, bytes_family, come_family, draining_family, ended_family, family_text, gone_family, head_text, kind_text, labelled, oldest_family, open_family, page_text, peers_family, refused_family, sample_text, single, system_refusals_family};
+ghost use Rattle.ymx_page.specs.Page.{as_number, begun_family, bytes_family, come_family, draining_family, ended_family, family_text, gone_family, head_text, kind_text, labelled, oldest_family, open_family, page_text, peers_family, refused_family, rejected_family, sample_text, single, system_refusals_family};
 
 use crate::counts::Counts;
 use itoa::Buffer;
@@ -41,6 +41,7 @@ pub(crate) fn page(alloc: Global, seen: Seen) -> Result<String, AllocError>
     push_come(&mut text, counts)?;
     push_gone(&mut text, counts)?;
     push_peers(&mut text, counts)?;
+    push_rejected(&mut text, counts)?;
     push_system_refusals(&mut text, counts)?;
     push_open(&mut text, counts)?;
     push_oldest(&mut text, seen)?;
@@ -206,6 +207,19 @@ fn push_peers(text: &mut String, counts: Counts) -> Result<(), AllocError>
         "ymx_peers",
         "Sessions with a peer: a link has one.",
         counts.come.saturating_sub(counts.gone),
+    )
+}
+
+/// Adds how many streams of the peer's were rejected for want of memory.
+fn push_rejected(text: &mut String, counts: Counts) -> Result<(), AllocError>
+    ensures { OnOk result (string_bytes text.new ≡ string_bytes text.old ++ family_text (rejected_family counts)) }
+{
+    push_single(
+        text,
+        Kind::Counter,
+        "ymx_streams_rejected_total",
+        "Streams of the peer's that were rejected for want of memory.",
+        counts.rejected,
     )
 }
 

@@ -76,4 +76,5 @@ notice_text (notice.Unreached address) = codes "ymx: cannot reach " ++ socket_v4
 notice_text (notice.Stranger from) = codes "ymx: closed a stranger" ++ source_text from ++ codes "\n"
 notice_text (notice.Crowded from) = codes "ymx: closed a peer too many" ++ source_text from ++ codes "\n"
 notice_text (notice.Refused option why) = codes "ymx: " ++ option_text option ++ codes ": " ++ reason_text why ++ codes "\n"
+notice_text (notice.Rejected peer) = codes "ymx: rejected streams" ++ source_text peer ++ codes ": no memory\n"
 notice_text (notice.Broke rule peer) = codes "ymx: B" ++ decimal rule ++ source_text peer ++ codes ": " ++ rule_words rule ++ codes "\n"

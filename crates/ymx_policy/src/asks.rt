@@ -115,6 +115,8 @@ pub enum Notice {
     Crowded(Option<SocketAddrV4>),
     /// The system refused, for this reason, what this option asks for.
     Refused(Named, Reason),
+    /// Streams of the peer at this address, if it is known, were rejected, as there was no memory for them.
+    Rejected(Option<SocketAddrV4>),
     /// In a session with the peer at this address, if it is known, this rule of yamux was broken: 1 for B1.
     Broke(u8, Option<SocketAddrV4>),
 }

@@ -83,6 +83,11 @@ pub fn notice_text(notice: Notice) -> Text
             text.push_str(": ");
             push_reason(&mut text, reason);
         }
+        Notice::Rejected(peer) => {
+            text.push_str("ymx: rejected streams");
+            push_source(&mut text, peer);
+            text.push_str(": no memory");
+        }
         Notice::Broke(rule, peer) => {
             text.push_str("ymx: B");
             push_number(&mut text, rule as u64);
