@@ -228,6 +228,7 @@ def where_a_called_one_is():
     show(peer)
     says_of(program, "come", address)
     leave(peer)
+    says(program, connection(1, "0 bytes to the peer (lost), 0 bytes from the peer (lost)"))
     says_of(program, "gone", address)
     user.close()
     program = Program("remote", "-v", "--keep", "--peer", address, "--target", ANY)

@@ -57,6 +57,8 @@ pub(crate) struct TcpConnection {
     inner: mio::net::TcpStream,
     /// Whom this side called for it. None where its other side called.
     called: Option<SocketAddr>,
+    /// Where it was called from, if its other side called: the system says so no more once that has broken it.
+    from: Option<SocketAddr>,
     /// A poll was asked to tell of it.
     is_registered: bool,
     /// It has not said that no more comes from it.
@@ -73,6 +75,7 @@ impl Drop for TcpConnection {
         let TcpConnection {
             inner: _,
             called: _,
+            from: _,
             is_registered: _,
             gives: _,
             takes: _,
@@ -101,15 +104,21 @@ impl TcpConnection {
     {
         connection.set_nonblocking(true)?;
         let inner = mio::net::TcpStream::from_std(connection);
-        Ok(TcpConnection::new(inner, called))
+        Ok(TcpConnection::new(inner, called, None))
     }
 
-    fn new(inner: mio::net::TcpStream, called: Option<SocketAddr>) -> TcpConnection
-        ensures { IsFresh called result }
+    fn new(
+        inner: mio::net::TcpStream,
+        called: Option<SocketAddr>,
+        from: Option<SocketAddr>,
+    ) -> TcpConnection
+        ensures fresh { IsFresh called result }
+        ensures from { result.from ≡ from }
     {
         TcpConnection {
             inner,
             called,
+            from,
             is_registered: false,
             gives: true,
             takes: true,
@@ -191,7 +200,10 @@ impl Stream for TcpConnection {
     }
 
     fn peer(&self) -> Option<SocketAddr> {
-        self.inner.peer_addr().ok()
+        match self.from {
+            Some(address) => Some(address),
+            None => self.inner.peer_addr().ok(),
+        }
     }
 
     fn take_fault(&self) -> io::Result<Option<io::Error>> {
@@ -245,7 +257,7 @@ impl<R: Net> Dialer for SystemDialer<'_, R> {
 
     fn begin(&mut self, address: SocketAddr) -> io::Result<TcpConnection> {
         let connection = mio::net::TcpStream::connect(self.rt, address)?;
-        Ok(TcpConnection::new(connection, Some(address)))
+        Ok(TcpConnection::new(connection, Some(address), None))
     }
 }
 
@@ -269,8 +281,8 @@ impl Listener {
     pub(crate) fn next(&self) -> io::Result<TcpConnection>
         ensures { IfOk result (IsFresh None) }
     {
-        let (connection, _) = self.inner.accept()?;
-        Ok(TcpConnection::new(connection, None))
+        let (connection, from) = self.inner.accept()?;
+        Ok(TcpConnection::new(connection, None, Some(from)))
     }
 }
 
