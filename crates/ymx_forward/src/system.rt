@@ -1,6 +1,7 @@
 //! What touches the system's sockets: connections, listeners, and the events that tell of them. Each function makes the
 //! calls that it names, in that order, and decides nothing. No contract sees which bytes the sockets carry, nor what the
-//! system does, so this file is to be read. No other makes such a call: sockets that never wait are private here.
+//! system does, so this file is to be read. No other makes such a call: sockets that never wait are private here. They come
+//! first, then the events, and at last the sockets that wait.
 
 ghost use Rattle.std.specs.Prelude.{◌≡◌, ◌<◌, ◌^◌, ◌==◌, false, length, IfOk, None, Some};
 ghost use Rattle.std.specs.Slice.Iter.{iter_rest, iter_steps};
@@ -29,9 +30,10 @@ use ymx_policy::Keepalive;
 
 /// How often a write of several pieces that a signal interrupted is made again before it counts as failed.
 const RETRIES: u32 = 1_000_000;
-
 /// How many connections may wait in the system to be accepted.
 const BACKLOG: i32 = 4_096;
+/// How many events are taken at once.
+const EVENTS: usize = 256;
 
 /// The system has refused to tell of events. Only a call that it refused makes one.
 #[derive(Drop)]
@@ -48,8 +50,6 @@ fn told(answer: io::Result<()>) -> Result<(), NoEvents> {
         seal: (),
     })
 }
-
-// ---- connections that never wait
 
 /// A connection whose calls never wait. It is closed when it is dropped, and aborted before, unless it has said that no
 /// more comes from it and was told that no more goes to it: so whatever cuts it, its other end sees a reset, and no end.
@@ -104,21 +104,16 @@ impl TcpConnection {
     {
         connection.set_nonblocking(true)?;
         let inner = mio::net::TcpStream::from_std(connection);
-        Ok(TcpConnection::new(inner, called, None))
+        Ok(TcpConnection::new(inner, called))
     }
 
-    fn new(
-        inner: mio::net::TcpStream,
-        called: Option<SocketAddr>,
-        from: Option<SocketAddr>,
-    ) -> TcpConnection
-        ensures fresh { IsFresh called result }
-        ensures from { result.from ≡ from }
+    fn new(inner: mio::net::TcpStream, called: Option<SocketAddr>) -> TcpConnection
+        ensures { IsFresh called result }
     {
         TcpConnection {
             inner,
             called,
-            from,
+            from: None,
             is_registered: false,
             gives: true,
             takes: true,
@@ -200,10 +195,7 @@ impl Stream for TcpConnection {
     }
 
     fn peer(&self) -> Option<SocketAddr> {
-        match self.from {
-            Some(address) => Some(address),
-            None => self.inner.peer_addr().ok(),
-        }
+        self.from.or_else(|| self.inner.peer_addr().ok())
     }
 
     fn take_fault(&self) -> io::Result<Option<io::Error>> {
@@ -257,7 +249,7 @@ impl<R: Net> Dialer for SystemDialer<'_, R> {
 
     fn begin(&mut self, address: SocketAddr) -> io::Result<TcpConnection> {
         let connection = mio::net::TcpStream::connect(self.rt, address)?;
-        Ok(TcpConnection::new(connection, Some(address), None))
+        Ok(TcpConnection::new(connection, Some(address)))
     }
 }
 
@@ -282,14 +274,11 @@ impl Listener {
         ensures { IfOk result (IsFresh None) }
     {
         let (connection, from) = self.inner.accept()?;
-        Ok(TcpConnection::new(connection, None, Some(from)))
+        let mut accepted = TcpConnection::new(connection, None);
+        accepted.from = Some(from);
+        Ok(accepted)
     }
 }
-
-// ---- events
-
-/// How many events are taken at once.
-const EVENTS: usize = 256;
 
 /// What waits until something that was registered with it is ready, and the events that told of it last.
 #[derive(Drop)]
@@ -398,8 +387,6 @@ impl Waker {
         let _ = self.inner.wake();
     }
 }
-
-// ---- connections and listeners that wait
 
 /// Connects to this address.
 pub(crate) fn connect<R: Net<Stream = TcpStream>>(
