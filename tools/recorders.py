@@ -1,8 +1,8 @@
 #!/usr/bin/env python3
 """recorders.py: whether a body could differ by what a recorder keeps or witnesses.
 
-What ships runs with `Off`, and what a contract says of a history is proved with the others. So the bodies must be the same
-for all. An `ensures` may speak of `KEEPS` and `WITNESSED`, since it is proved of every body. Anything else that names them,
+The front door and the library's servers run with `Witnessed`. `Off` is for a hub that a program makes by hand: what a
+contract says of a history is proved with the others. So the bodies must be the same for all. An `ensures` may speak of `KEEPS` and `WITNESSED`, since it is proved of every body. Anything else that names them,
 as an invariant, a ghost field, a ghost member or a `requires`, could let a body do another thing for one recorder, and so
 could an `impl` block for one. Those that there are stand below, each with its reason. It prints any other, and ends with
 'N places, M unknown'.
@@ -60,10 +60,8 @@ KNOWN = {
     "what a thread has promised is proved of its body": [
         ("ymx_connect/src/pumping.rt", "ghost kept_by = { λ promise pumped. HasWritten R.WITNESSED"),
     ],
-    "calls with no seat: lines to be read, in one file": [
-        ("ymx_connect/src/off.rt", "impl Handle<Off> {"),
-        ("ymx_connect/src/off.rt", "impl Writer<Off> {"),
-        ("ymx_connect/src/off.rt", "impl Reader<Off> {"),
+    "a caller for a thread, who has the calls of the handle at a seat: their bodies are the same for all": [
+        ("ymx_connect/src/handle.rt", "impl<J: Naming> Handle<Witnessed<J>> {"),
     ],
     "the ends of halves with no seat, of a history in proofs: their clauses say what each books": [
         ("ymx_connect/src/spending.rt", "impl<J: Naming> Writer<Witnessed<J>> {"),

@@ -1,7 +1,7 @@
 #!/bin/sh
 # The programs of docs/GUIDE.md: proves those of examples/, runs each server, and its client against it over TCP on the
 # loopback, and compares what they print. Without blank lines and comments, those that the guide shows must have under 50
-# lines each, and those of examples/echo under 40 together. The history
+# lines each, and those of examples/echo under 50 together. The history
 # that two hubs keep must be one run. The client of the guide must say so where a thread can't be made, and send nothing.
 # The repository is left alone: the programs are crates in a copy, which takes over what was proved before. With `guide` it
 # is the client and the server of the guide alone. With YMX_FROM_GATE=yes they are proved over the libraries as `rt ci` has
@@ -114,7 +114,7 @@ without_thread() {
 for name in server client; do
     [ "$(grep -cv '^ *\(//.*\)\{0,1\}$' "$root/examples/$name.rattle")" -lt 50 ] || fail "examples/$name.rattle has 50 lines or more"
 done
-[ "$(cat "$root"/examples/echo/*.rattle | grep -cv '^ *\(//.*\)\{0,1\}$')" -lt 40 ] || fail "examples/echo has 40 lines or more"
+[ "$(cat "$root"/examples/echo/*.rattle | grep -cv '^ *\(//.*\)\{0,1\}$')" -lt 50 ] || fail "examples/echo has 50 lines or more"
 
 : > "$scratch/input"
 pair server client ymx_connect

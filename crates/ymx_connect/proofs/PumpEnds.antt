@@ -17,7 +17,7 @@ use Rattle.ymx_connect.specs.Ends.{ReadEnd, WriteEnd}
 use Rattle.ymx_connect.specs.Pumps.{PumpRead, PumpWrote, ReadAdds, WriteAdds}
 use Rattle.ymx_connect.specs.declared.ended.Ended.{Ended}
 use Rattle.ymx_connect.specs.Connecting.{may_end, may_end_writing, IsSpared}
-use Rattle.ymx_connect.specs.Pumping.{HasRead, HasWritten, HasClosed, HasWorked, HasBeenClosed, HaveMet, InOneHistory, InOneHistoryOverTcp}
+use Rattle.ymx_connect.specs.Pumping.{HasRead, HasWritten, HasClosed, HasWorked, HaveMet, InOneHistory, InOneHistoryOverTcp}
 
 may_read : (keeps : Bool) (fails failed : ℕ) (remaining : Option (List ℕ)) (why : PumpWhy) → keeps ≡ false →
     ReadEnd keeps fails failed remaining false why → may_end why ≡ true
@@ -106,11 +106,6 @@ has_worked role config Kept drained session caller last now k e c same = subst (
   closed = record { between = c.between; session = c.session; shown = c.shown; history = c.history; due = c.due; told = c.told; closed = books_left c.between last (Asks to_close done_or c.between.number c.told) c.closed; spared = c.spared };
   shown = shown_none (record last { entries = []; room = 0 });
 })
-
--- that alone
-pub been_closed : (role : Role) (config : Config) (drained : Result (Unit {0}) Undrained) (caller last now : SeatView) →
-    HasClosed true role config caller last drained → now ≡ record last { entries = []; room = 0 } → HasBeenClosed role config drained now
-been_closed role config drained caller last now c same = has_worked role config (λ _. Unit {0}) drained caller caller last now tt refl c same
 
 pub have_met : (witnessed : Bool) (role : Role) (config : Config) (one other third first second last : SeatView) → IsShown one first → IsShown other second → IsShown third last →
     (first.seen ≡ second.seen) × (first.seen ≡ last.seen) → IsWitnessed witnessed role config first.seen → HaveMet witnessed role config one other third

@@ -11,7 +11,7 @@ use Rattle.ymx_hub.specs.Halves.{HalfView, OpensHalves}
 use Rattle.ymx_hub.specs.Shown.{HasGrown, IsShown}
 use Rattle.ymx_hub.specs.Turns.{WriteTurns}
 use Rattle.ymx_connect.specs.declared.connect_fault.ConnectFault.{ConnectFault}
-use Rattle.ymx_connect.specs.declared.connect_fault.ConnectFault.TheVariants.{Session, Memory, NoThread, NoSeat}
+use Rattle.ymx_connect.specs.declared.connect_fault.ConnectFault.TheVariants.{Session, Memory, NoThread}
 use Rattle.ymx_connect.specs.Connecting.{IsConnectFault}
 use Rattle.ymx_connect.specs.Settings.{IsLack}
 use Rattle.ymx_connect.specs.Streams.{ReadsUpTo}
@@ -22,7 +22,6 @@ pub lacks_later : (role : Role) (config : Config) (fault : ConnectFault) → new
 lacks_later role config (Session why) n f = absurd f
 lacks_later role config (Memory refused) n f = n
 lacks_later role config (NoThread refused) n f = n
-lacks_later role config NoSeat n f = f
 
 -- all reads of a half, up to the end
 pub reads_to_end : (keeps witnessed : Bool) (role : Role) (config : Config) (id : ℕ) (before after : SeatView) (bytes : List ℕ) →

@@ -1,13 +1,11 @@
 -- What the pumps behind the front door did with their devices (this project's own).
 use Rattle.std.specs.Prelude.{◌≡◌, ℕ, List, Bool, true, false, Option, None, Result, MatchResult}
 use Rattle.ymx_model.specs.declared.types.Role.{Role}
-use Rattle.ymx_model.specs.declared.types.Role.TheVariants.{Client}
 use Rattle.ymx_model.specs.declared.types.Config.{Config}
 use Rattle.ymx_model.specs.devices.Devices.{has_failed}
 use Rattle.ymx_model.specs.session.Sessions.{Session}
 use Rattle.ymx_model.specs.session.Emissions.{is_ready}
 use Rattle.ymx_session.specs.Replies.{done_or}
-use Rattle.ymx_seats.specs.Journals.{no_config}
 use Rattle.ymx_model.specs.declared.types.Entry.{Entry}
 use Rattle.ymx_seats.specs.Views.{SeatView, IsNewcomer, IsWitnessed}
 use Rattle.ymx_hub.specs.Answers.{IsNotMemory}
@@ -71,10 +69,6 @@ pub record HasWorked (role : Role) (config : Config) (Kept : Option (List Entry)
   pub closed : HasClosed true role config caller last drained
   pub shown : IsShown last now
 
--- a caller closed the session, where of the history that it had seen before nothing more is known
-abbrev pub HasBeenClosed : Role → Config → Result (Unit {0}) Undrained → SeatView → Type 0
-HasBeenClosed role config drained now = HasWorked role config (λ _. Unit {0}) drained now
-
 -- The whole history so far was shown to three callers, and is that of a session of this role and config, where there is one.
 pub record HaveMet (witnessed : Bool) (role : Role) (config : Config) (one other third : SeatView) : Type 0 where
   pub first : SeatView
@@ -102,7 +96,3 @@ abbrev pub InOneHistoryOverTcp : Role → Config → (Worked : SeatView → Type
 InOneHistoryOverTcp role config Worked ended =
     (read_failed write_failed : ℕ) × (was_shut : Bool)
     × InOneHistory role config Worked (HasRead 0 read_failed None None ended.read_bytes ended.read) (HasWritten true role config 0 write_failed None None was_shut ended.written_bytes ended.written)
-
--- how the write pump ended of a session with the recorder Off, whose history nobody sees
-abbrev pub HasWrittenUnseen : (fails failed : ℕ) (before after : Option (List ℕ)) (is_ended : Bool) (moved : ℕ) (why : PumpWhy) (now : SeatView) → Type 0
-HasWrittenUnseen fails failed before after is_ended moved why now = HasWritten false Client no_config fails failed before after is_ended moved why now

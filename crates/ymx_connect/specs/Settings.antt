@@ -4,7 +4,7 @@ use Rattle.ymx_model.specs.declared.types.Role.{Role}
 use Rattle.ymx_model.specs.declared.types.Config.{Config}
 use Rattle.ymx_session.specs.NewSessions.{first_id}
 use Rattle.ymx_connect.specs.declared.connect_fault.ConnectFault.{ConnectFault}
-use Rattle.ymx_connect.specs.declared.connect_fault.ConnectFault.TheVariants.{Session, NoSeat}
+use Rattle.ymx_connect.specs.declared.connect_fault.ConnectFault.TheVariants.{Session}
 
 -- a config whose first own id is said: 0 stood for the least
 abbrev pub with_first : Role → Config → Config
@@ -16,13 +16,7 @@ pub record UnnamedSessionView : Type 0 where
   pub config : Config
   pub table : TableId
 
--- why no pump ran: there was no memory, no seat or no thread
-abbrev pub IsPumpFault : ConnectFault → Type 0
-IsPumpFault (Session fault) = ⊥
-IsPumpFault _ = Unit {0}
-
--- why no pump ran that had its seats: there was no memory or no thread
+-- why no pump ran: there was no memory or no thread
 abbrev pub IsLack : ConnectFault → Type 0
 IsLack (Session fault) = ⊥
-IsLack NoSeat = ⊥
 IsLack _ = Unit {0}

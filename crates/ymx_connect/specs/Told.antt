@@ -1,12 +1,14 @@
 -- What the door says whose session has its history in proofs (this project's own).
-use Rattle.std.specs.Prelude.{ℕ, List, Bool, true, false, Option, Some, None, Ok}
+use Rattle.std.specs.Prelude.{◌≡◌, ℕ, List, Bool, true, false, Option, Some, None, Result, Ok, Err, MatchResult}
 use mathlib.Core.List.{IsPrefix}
 use Rattle.ymx_machine.specs.declared.types.Reply.TheVariants as reply
 use Rattle.ymx_model.specs.declared.types.Role.{Role}
 use Rattle.ymx_model.specs.declared.types.Config.{Config}
 use Rattle.ymx_model.specs.declared.types.Entry.{Entry}
 use Rattle.ymx_seats.specs.Views.{SeatView, IsWitnessed}
-use Rattle.ymx_hub.specs.Books.{Books}
+use Rattle.ymx_hub.specs.Books.{Books, Spends, to_finish}
+use Rattle.ymx_hub.specs.Releasing.{Tends}
+use Rattle.ymx_hub.specs.declared.faults.HubFault.{HubFault}
 use Rattle.ymx_hub.specs.Halves.{HalfView, OpensHalves}
 use Rattle.ymx_hub.specs.Turns.{WriteTurns}
 use Rattle.ymx_connect.specs.Streams.{ReadsUpTo}
@@ -19,6 +21,15 @@ pub record BooksLast (role : Role) (config : Config) (old : SeatView) (Such : Li
   pub last : SeatView
   pub booked : Books false old last Such
   pub history : IsWitnessed true role config last.seen
+
+-- Both halves of a stream made their last call: the writing half was finished, then the reading half released. The refusal of
+-- the first is answered, else that of the second.
+pub record ClosesStream (role : Role) (config : Config) (writer reader : HalfView) (answer : Result (Unit {0}) HubFault) : Type 0 where
+  pub finished : Result (Unit {0}) HubFault
+  pub released : Result (Unit {0}) HubFault
+  pub finishes : BooksLast role config writer.seat (Spends (to_finish writer.id) writer.id writer.seat.number finished)
+  pub releases : BooksLast role config reader.seat (Tends reader.id reader.seat.number)
+  pub first : MatchResult finished (λ _. answer ≡ released) (λ fault. answer ≡ Err fault)
 
 -- The reads of one stream at one seat gave these bytes, and then the end, as a recorder has it that keeps, or that witnesses.
 -- What the seat has seen then is the history of a session of this role and config, which replays.

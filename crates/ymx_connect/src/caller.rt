@@ -14,13 +14,14 @@ ghost use Rattle.ymx_hub.specs.Turns.{PingTurns};
 
 use crate::halves::{Reader, Writer};
 use crate::handle::Handle;
+use crate::spending::discard;
 use std::marker::Model;
 use std::sync::Wait;
 use ymx_hub::{HubFault as StreamFault, Seat, Undrained};
 use ymx_seats::{Naming, Witnessed};
 
 /// A running session, as one caller sees it: its history stands in proofs. A contract sees the caller's seat, with the history
-/// as it was at its last call. Each half of a stream is a caller of its own, with a history that it has seen: `meet_writer` and
+/// as it was at its last call. It can't be dropped: `leave` ends it. Each half of a stream is a caller of its own, with a history that it has seen: `meet_writer` and
 /// `meet_reader` show the whole one to both, so that what the half did stands in what the caller has seen.
 pub struct Caller<J: Naming> {
     handle: Handle<Witnessed<J>>,
@@ -41,6 +42,16 @@ impl<J: Naming> Caller<J> {
         ensures { result ≡ seat }
     {
         Caller { handle, seat }
+    }
+
+    /// The session, which threads may share. Each takes a caller of its own by `Handle::caller`.
+    pub fn handle(&self) -> &Handle<Witnessed<J>> {
+        &self.handle
+    }
+
+    /// The caller makes no more calls. What it did stands in the history.
+    pub fn leave(self) {
+        discard(self.into_seat());
     }
 
     /// The seat of the caller, who makes no more calls.

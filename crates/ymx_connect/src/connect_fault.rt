@@ -7,7 +7,7 @@ use thiserror::Error;
 use ymx_memory::RefusedAllocation;
 use ymx_session::NewFault;
 
-/// Why no session runs. The caller's function was not called, and no byte was written; the writer may have been ended.
+/// Why no session runs. The caller's `Work` did not run, and no byte was written; the writer may have been ended.
 #[derive(Clone, Copy, Debug, PartialEq, Eq, Error)]
 pub enum ConnectFault {
     /// No session can be made: `BadWindow` or `BadFirst` for this configuration, or `OutOfMemory`.
@@ -20,9 +20,6 @@ pub enum ConnectFault {
     /// No thread could be made for one of the pumps. It holds the evidence.
     #[error("NoThread")]
     NoThread(RefusedThread),
-    /// The hub gives no seat: it has given all 4,294,967,295, or has handed its transcript out. Of `pumped` alone.
-    #[error("NoSeat")]
-    NoSeat,
 }
 
 impl From<RefusedAllocation> for ConnectFault {

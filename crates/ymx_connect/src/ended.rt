@@ -21,11 +21,11 @@ pub struct Ended {
     pub drained: Result<(), Undrained>,
 }
 
-/// What the caller's function answered, how the session ended behind it, and the devices, which come back. They are `()`
+/// What the caller's `Work` answered, how the session ended behind it, and the devices, which come back. They are `()`
 /// where the caller gave a socket, which it still has.
 #[derive(Clone, Copy, Debug, PartialEq, Eq, Drop)]
 pub struct Connected<T, I = (), O = ()> {
-    /// What the caller's function answered.
+    /// What the caller's `Work` answered.
     pub answer: T,
     /// How both pumps ended.
     pub ended: Ended,

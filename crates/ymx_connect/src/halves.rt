@@ -17,20 +17,20 @@ ghost use Rattle.ymx_connect.specs.Told.{ReadsToEnd};
 use std::alloc::Global;
 use std::marker::Model;
 use std::sync::Wait;
-use ymx_hub::{HubFault as StreamFault, Off, ReadHalf, Recorder, Seat, WriteFault, WriteHalf};
+use ymx_hub::{HubFault as StreamFault, ReadHalf, Recorder, Seat, WriteFault, WriteHalf};
 
 /// Bytes that `read_all` reads at once.
 const CHUNK: usize = 4_096;
 
 /// The writing half of a stream. It must be spent, by `finish` or `reset`: it cannot be dropped. A contract sees the id
 /// of its stream and its seat.
-pub struct Writer<R: Recorder = Off> {
+pub struct Writer<R: Recorder> {
     pub(crate) half: WriteHalf<R>,
 }
 
 /// The reading half of a stream. It must be spent, by `close` or `release`: it cannot be dropped. A contract sees the id
 /// of its stream and its seat.
-pub struct Reader<R: Recorder = Off> {
+pub struct Reader<R: Recorder> {
     pub(crate) half: ReadHalf<R>,
 }
 

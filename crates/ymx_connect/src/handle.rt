@@ -1,39 +1,60 @@
 //! A running session, as its callers see it.
 
-ghost use Rattle.std.specs.Prelude.{◌≡◌, List, [], true, false, IfSome, IfOk, IfErr, MatchResult};
+ghost use Rattle.std.specs.Prelude.{◌≡◌, ◌⊎◌, List, [], true, false, IfSome, IfOk, IfErr, MatchResult};
+ghost use Rattle.ymx_machine.specs.shared.Evidence.{evidence};
 ghost use Rattle.ymx_model.specs.session.Sessions.{Session, is_running};
 ghost use Rattle.ymx_model.specs.session.Emissions.{is_ready};
 ghost use Rattle.ymx_session.specs.Replies.{done_or};
 ghost use Rattle.ymx_seats.specs.Views.{IsNewcomer};
 ghost use Rattle.ymx_hub.specs.Answers.{IsNotMemory, IsSeatFault};
+ghost use Rattle.ymx_hub.specs.declared.faults.HubFault.TheVariants.{Memory};
 ghost use Rattle.ymx_hub.specs.Books.{Books, Asks, to_go_away, to_close};
 ghost use Rattle.ymx_hub.specs.WholeHistories.{IsHistoryOf};
 ghost use Rattle.ymx_hub.specs.Shown.{IsShown};
 ghost use Rattle.ymx_hub.specs.Halves.{OpensHalves, OpensHalvesWith, AcceptsHalves};
 ghost use Rattle.ymx_hub.specs.Turns.{PingTurns};
 
+use crate::caller::Caller;
 use crate::halves::{Reader, Writer};
 use std::alloc::Global;
 use std::sync::{Arc, Wait};
 use ymx_hub::{
-    Hub, HubFault as StreamFault, Off, Recorder, Seat, Undrained, accept_at_seat, open_at_seat,
+    Hub, HubFault as StreamFault, Recorder, Seat, Undrained, accept_at_seat, open_at_seat,
     open_with_at_seat,
 };
+use ymx_seats::{Naming, Witnessed};
 
-/// A running session, as its callers see it. Threads may share it, and each may make any call.
+/// A running session. Threads may share it, and each may make any call.
 ///
-/// A call whose name ends in `_at_seat` is booked at the seat that it is lent: a contract says what it adds there. The calls
-/// of a session with the recorder `Off` need no seat.
+/// A call whose name ends in `_at_seat` is booked at the seat that it is lent: a contract says what it adds there. `caller`
+/// gives a seat and the calls together.
 #[derive(Drop)]
-pub struct Handle<R: Recorder = Off> {
+pub struct Handle<R: Recorder> {
     hub: Arc<Hub<R>, Global>,
-    pub(crate) alloc: Global,
+}
+
+impl<J: Naming> Handle<Witnessed<J>> {
+    /// One more caller of this session, as for a thread. None of the history that it has seen is its own.
+    ///
+    /// `Seats` after 4,294,967,295 of them and of halves, `Closed` once the transcript was handed out, and `Memory` after
+    /// 18,446,744,073,709,551,615 who share the session at once.
+    pub fn caller<W: Wait>(&self, rt: &W) -> Result<Caller<J>, StreamFault>
+        ensures newcomer { IfOk result (λ caller. IsNewcomer caller.number caller.seen) }
+        ensures refused { IfErr result (λ fault. (fault ≡ Memory evidence) ⊎ IsSeatFault fault) }
+    {
+        let hub = ymx_memory::share(&self.hub)?;
+        let handle = Handle::over(hub);
+        match self.seat(rt) {
+            Ok(seat) => Ok(Caller::new(handle, seat)),
+            Err(fault) => Err(fault),
+        }
+    }
 }
 
 impl<R: Recorder> Handle<R> {
     /// The session of this hub.
-    pub fn over(alloc: Global, hub: Arc<Hub<R>, Global>) -> Handle<R> {
-        Handle { hub, alloc }
+    pub fn over(hub: Arc<Hub<R>, Global>) -> Handle<R> {
+        Handle { hub }
     }
 
     /// A new seat, which has no entry; where there is a journal, none of the history that it has seen is its own. `Seats`

@@ -1,15 +1,9 @@
-//! The front door: one call that runs a session over a connection while a function of the caller's works with it.
+//! The front door: one call that runs a session over a connection while a program works with it.
 //!
 //! `connect_tcp` takes a TCP connection, and `connect` any reader and writer, and the program's `Work`. The history of the
 //! session stands in proofs: it takes no memory, and each call says what it added to it. `Work::run` is given a `Caller`,
-//! which opens and accepts streams. A stream comes as a `Writer` and a `Reader`. What `Work` promises of its answer, `connect`
-//! promises too.
-//!
-//! `connect_tcp_with` and `connect_with` take a closure, and give it a `Handle`, which threads may share. No history of such a
-//! session is kept (its recorder is `Off`), and of its bytes nothing is said.
-//!
-//! A program that starts threads of its own over a session whose history stands in proofs makes an `UnnamedSession`, and runs
-//! its hub by `pumped`. Its functions are generic in the name of the journal, and `Brand` names the journal in one place.
+//! which opens and accepts streams. A stream comes as a `Writer` and a `Reader`. Threads of the program's share the session's
+//! `Handle`, and each takes a `Caller` of its own. What `Work` promises of its answer, `connect` promises too.
 //!
 //! What moves bytes between a hub and its devices are pumps, which touch no device under the lock. `write_pump` takes what
 //! the hub emits to a writer, `read_pump` what a reader gives to the hub, and looks at the streams that were released behind
@@ -26,7 +20,6 @@ mod ended;
 mod gate;
 mod halves;
 mod handle;
-mod off;
 mod pump_end;
 mod pumping;
 mod reading;
@@ -36,25 +29,22 @@ mod start;
 pub mod starting;
 mod tcp;
 mod unnamed_session;
-mod witnessed;
 mod work;
 mod writing;
 
 pub use both::run_pumps;
 pub use caller::Caller;
 pub use connect_fault::ConnectFault;
-pub use connecting::{USUAL_CONFIG, connect_tcp_with, connect_with};
+pub use connecting::{USUAL_CONFIG, connect, connect_tcp};
 pub use ended::{Connected, Ended};
 pub use gate::Gate;
 pub use halves::{Reader, Writer, copy};
 pub use handle::Handle;
-pub use off::close_stream;
 pub use pump_end::{PumpEnd, PumpWhy, SettlerEnd};
 pub use reading::read_pump;
+pub use spending::close_stream;
 pub use starting::RefusedThread;
 pub use tcp::{ConnectionReader, ConnectionWriter};
-pub use unnamed_session::UnnamedSession;
-pub use witnessed::{connect, connect_tcp, pumped};
 pub use work::Work;
 pub use writing::write_pump;
 pub use ymx_hub::{HubFault as StreamFault, Undrained, WriteFault};

@@ -5,9 +5,9 @@ ghost use Rattle.ymx_seats.specs.Views.{IsNewcomer};
 ghost use Rattle.ymx_connect.specs.Pumping.{HasRead, HasWritten};
 
 use crate::gate::Gate;
-use crate::off::discard;
 use crate::pump_end::{PumpEnd, PumpWhy, SettlerEnd};
 use crate::reading::read_pump;
+use crate::spending::discard;
 use crate::writing::write_pump;
 use std::alloc::Global;
 use std::marker::PhantomData;

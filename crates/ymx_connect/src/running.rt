@@ -6,10 +6,10 @@ ghost use Rattle.ymx_seats.specs.Views.{IsNewcomer};
 ghost use Rattle.ymx_connect.specs.Pumping.{HasRead, HasWritten, HasClosed, HaveMet};
 
 use crate::ended::{Connected, Ended};
-use crate::off::discard;
 use crate::pumping::{
     Buffer, PumpedIn, PumpedOut, ReadsOn, WritesOn, pump_from_wire, pump_to_wire,
 };
+use crate::spending::discard;
 use crate::starting::{RefusedThread, start_with};
 use std::alloc::Global;
 use std::sync::Wait;

@@ -4,13 +4,12 @@ ghost use Rattle.std.specs.Prelude.{◌≡◌, true, false};
 ghost use Rattle.ymx_hub.specs.Answers.{IsNotMemory};
 ghost use Rattle.ymx_hub.specs.Books.{Spends, Closes, to_finish, to_reset};
 ghost use Rattle.ymx_hub.specs.Releasing.{Tends};
-ghost use Rattle.ymx_connect.specs.Told.{BooksLast};
+ghost use Rattle.ymx_connect.specs.Told.{BooksLast, ClosesStream};
 
 use crate::halves::{Reader, Writer};
-use crate::off::discard;
 use std::sync::Wait;
 use ymx_hub::HubFault as StreamFault;
-use ymx_seats::{Naming, Witnessed};
+use ymx_seats::{Naming, Recorder, Seat, Witnessed};
 
 impl<J: Naming> Writer<Witnessed<J>> {
     /// Half-closes the stream (half-close): the peer reads what was written, and then the end. The half is spent
@@ -71,4 +70,25 @@ impl<J: Naming> Reader<Witnessed<J>> {
         discard(seat);
         released
     }
+}
+
+/// Half-closes the stream, and releases its reading half: what was written still arrives, what comes is dropped, and the
+/// stream is given up by itself once the peer's end is there. It doesn't wait for that. Answers the first refusal, of `finish`
+/// or of `release`.
+pub fn close_stream<J: Naming, W: Wait>(
+    rt: &W,
+    writer: Writer<Witnessed<J>>,
+    reader: Reader<Witnessed<J>>,
+) -> Result<(), StreamFault>
+    ensures booked { ClosesStream J.role J.config writer reader result }
+    ensures spares { IsNotMemory result }
+{
+    let finished = writer.finish(rt);
+    let released = reader.release(rt);
+    finished.and(released)
+}
+
+/// Lets a seat go, with its entries.
+pub(crate) fn discard<R: Recorder>(seat: Seat<R>) {
+    let _ = seat.into_entries();
 }

@@ -22,10 +22,10 @@ pub(crate) type HubWithSeats<J> = (Arc<Hub<Witnessed<J>>, Global>, FirstSeats<Wi
 /// A session that has done nothing, and its journal, which has no name yet. A contract sees the role and the config of the
 /// session, where 0 as the first own id stands for 1 at a client and 2 at a server, and the journal.
 ///
-/// A program takes it in a function that is generic in the name, and calls that function once, with `Brand` as the name.
-/// The proof of the caller says that the name stands for what a contract sees here.
+/// A function that is generic in the name takes it, and is called once, with `Brand` as the name. The proof of the caller says
+/// that the name stands for what a contract sees here.
 #[derive(Drop)]
-pub struct UnnamedSession {
+pub(crate) struct UnnamedSession {
     session: Session,
     opened: NewJournal,
 }
@@ -47,7 +47,11 @@ impl UnnamedSession {
     ///
     /// `Session` comes where no session can be made: `BadWindow` or `BadFirst` for this config, or `OutOfMemory`.
     /// `Memory` comes where there is none for the journal.
-    pub fn new(alloc: Global, role: Role, config: Config) -> Result<UnnamedSession, ConnectFault>
+    pub(crate) fn new(
+        alloc: Global,
+        role: Role,
+        config: Config,
+    ) -> Result<UnnamedSession, ConnectFault>
         ensures may { IfOk result (λ unnamed. new_fault role config ≡ None) }
         ensures role { IfOk result (λ unnamed. unnamed.role ≡ role) }
         ensures config { IfOk result (λ unnamed. unnamed.config ≡ with_first role config) }
@@ -61,18 +65,8 @@ impl UnnamedSession {
         Ok(UnnamedSession { session, opened })
     }
 
-    /// The hub of this session, by the name that its journal has. `RefusedAllocation` where there is no memory for it.
-    pub fn hub<J: Naming>(
-        self,
-        alloc: Global,
-    ) -> Result<Arc<Hub<Witnessed<J>>, Global>, RefusedAllocation>
-        requires { self ≡ record { role = J.role; config = J.config; table = J.table } }
-    {
-        let UnnamedSession { session, opened } = self;
-        Hub::<Witnessed<J>>::witnessed(alloc, session, opened)
-    }
-
-    /// `hub`, with its first seats, none of which has made a call.
+    /// The hub of this session, by the name that its journal has, and its first seats, none of which has made a call.
+    /// `RefusedAllocation` where there is no memory for it.
     pub(crate) fn hub_with_seats<J: Naming>(
         self,
         alloc: Global,

@@ -17,9 +17,9 @@ pub trait Work<W: Wait, T> {
     /// work. `connect` promises the same of the one history in which it closes the session.
     ghost Keeps: { Self → Role → Config → Option (List Entry) → T → Type 0 };
 
-    /// Works with this session, in which its caller has made no call. It can start no thread that works with it too:
-    /// `connect_with` is for that.
-    fn run<J: Naming>(self, rt: &W, session: &mut Caller<J>) -> T
+    /// Works with this session, in which its caller has made no call. Threads that it starts may work with it too, each as a
+    /// caller of its own, which `Handle::caller` gives.
+    fn run<J: Naming + Send + Sync>(self, rt: &W, session: &mut Caller<J>) -> T
         requires fresh { IsNewcomer session.old.number session.old.seen }
         ensures { Keeps self J.role J.config session.new.seen result };
 }

@@ -7,8 +7,8 @@ use crate::copied::{Copied, CopyWhy};
 use crate::copying::{copy_in, copy_out};
 use std::alloc::Global;
 use std::sync::{Mutex, Wait};
-use ymx_connect::{Reader, Writer};
-use ymx_hub::{Off, Seat};
+use ymx_connect::{Naming, Reader, Witnessed, Writer};
+use ymx_hub::Seat;
 use ymx_memory::RefusedAllocation;
 
 /// Bytes that a copy reads at once.
@@ -41,11 +41,11 @@ impl<H> Handover<H> {
 
 /// Copies from the connection into the stream by the half that is handed over, and spends it: the want of memory that
 /// ended it, if that was it.
-pub(crate) fn to_peer<R: Wait>(
+pub(crate) fn to_peer<J: Naming, R: Wait>(
     rt: &R,
     alloc: Global,
     connection: &Connection,
-    handover: &Handover<Writer>,
+    handover: &Handover<Writer<Witnessed<J>>>,
 ) -> Option<RefusedAllocation> {
     let Some(writer) = handover.take(rt) else {
         connection.break_off();
@@ -74,11 +74,11 @@ pub(crate) fn to_peer<R: Wait>(
 
 /// Copies from the stream out to the connection by the half that is handed over, and spends it: the want of memory that
 /// ended it, if that was it.
-pub(crate) fn from_peer<R: Wait>(
+pub(crate) fn from_peer<J: Naming, R: Wait>(
     rt: &R,
     alloc: Global,
     connection: &Connection,
-    handover: &Handover<Reader>,
+    handover: &Handover<Reader<Witnessed<J>>>,
 ) -> Option<RefusedAllocation> {
     let Some(reader) = handover.take(rt) else {
         connection.break_off();
@@ -123,7 +123,11 @@ fn shut_unless_ended(connection: &Connection, why: CopyWhy) {
 }
 
 /// Spends the halves that are left: resets the stream, and closes it.
-pub(crate) fn spend<R: Wait>(rt: &R, writer: Option<Writer>, reader: Option<Reader>) {
+pub(crate) fn spend<J: Naming, R: Wait>(
+    rt: &R,
+    writer: Option<Writer<Witnessed<J>>>,
+    reader: Option<Reader<Witnessed<J>>>,
+) {
     if let Some(writer) = writer {
         let _ = writer.reset(rt);
     }
@@ -132,7 +136,7 @@ pub(crate) fn spend<R: Wait>(rt: &R, writer: Option<Writer>, reader: Option<Read
     }
 }
 
-/// Lets a seat go: with the recorder `Off` it holds nothing.
-fn discard(seat: Seat<Off>) {
+/// Lets a seat go. Its entries stand in proofs alone.
+fn discard<J: Naming>(seat: Seat<Witnessed<J>>) {
     let _ = seat.into_entries();
 }

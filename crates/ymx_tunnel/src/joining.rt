@@ -8,7 +8,7 @@ use std::sync::Wait;
 use std::thread;
 use std::thread::Threads;
 use ymx_connect::starting::start;
-use ymx_connect::{Reader, Writer};
+use ymx_connect::{Naming, Reader, Witnessed, Writer};
 
 /// How a connection ended.
 #[derive(Drop)]
@@ -22,13 +22,13 @@ pub(crate) enum Joining {
 /// Copies both ways until both copies have ended; meanwhile the connection is one of those that are open. At a fault of
 /// one direction the connection is shut both ways. Where no memory or no thread is found the stream is reset, and the
 /// connection is shut.
-pub(crate) fn join_both<R: Threads + Wait + Sync>(
+pub(crate) fn join_both<J: Naming + Send + Sync, R: Threads + Wait + Sync>(
     rt: &R,
     alloc: Global,
     connections: &Connections,
     socket: TcpStream,
-    writer: Writer,
-    reader: Reader,
+    writer: Writer<Witnessed<J>>,
+    reader: Reader<Witnessed<J>>,
 ) -> Joining {
     let Ok(connection) = connections.add(rt, alloc, socket) else {
         spend(rt, Some(writer), Some(reader));
@@ -43,12 +43,12 @@ pub(crate) fn join_both<R: Threads + Wait + Sync>(
 
 /// Makes both copies, the one out of the stream in another thread. Each spends the half that is handed over to it. Without
 /// a thread it shuts the connection, and makes none.
-fn copy_both<'x, R: Threads + Wait + Sync>(
+fn copy_both<'x, J: Naming + Send + Sync, R: Threads + Wait + Sync>(
     rt: &'x R,
     alloc: Global,
     connection: &'x Connection,
-    writer: &'x Handover<Writer>,
-    reader: &'x Handover<Reader>,
+    writer: &'x Handover<Writer<Witnessed<J>>>,
+    reader: &'x Handover<Reader<Witnessed<J>>>,
 ) -> Joining {
     thread::scope(thread::scope_env(), rt, move |scope| {
         let Ok(other) = start(scope, move || from_peer(rt, alloc, connection, reader)) else {

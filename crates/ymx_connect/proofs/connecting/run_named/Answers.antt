@@ -1,7 +1,7 @@
 -- All three have met.
 use Rattle.ymx_connect.specs.Pumping.{HasWorked}
 use Rattle.ymx_connect.proofs.PumpEnds.{in_one_history}
-use Rattle.ymx_connect.proofs.witnessed.run_named.Goals as goal
+use Rattle.ymx_connect.proofs.connecting.run_named.Goals as goal
 
 pub returns-in-Ok-clause-told : goal.returns-in-Ok-clause-told
 returns-in-Ok-clause-told g c =

@@ -1,6 +1,6 @@
 -- The caller has worked, and closes the session.
 use Rattle.ymx_connect.proofs.PumpEnds.{has_worked}
-use Rattle.ymx_connect.proofs.witnessed.work_at.Goals as goal
+use Rattle.ymx_connect.proofs.connecting.work_at.Goals as goal
 
 pub returns : goal.returns
 returns g c =
