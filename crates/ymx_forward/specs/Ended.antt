@@ -40,3 +40,8 @@ declined_for (not_joined.BySession why) = declined.BySession why
 declined_for not_joined.Unregistered = declined.Unwatched
 declined_for not_joined.Twice = declined.BySession call.NoStream
 declined_for (not_joined.OutOfMemory refused) = declined.OutOfMemory
+
+-- how a connection to the target ended that was not joined to its stream
+abbrev pub unjoined_for : NotJoined → Ending
+unjoined_for (not_joined.OutOfMemory refused) = ending.OutOfMemory
+unjoined_for other = ending.ConnectionFailed

@@ -12,6 +12,8 @@ use Rattle.ymx_forward.specs.declared.content.Places.{Places}
 use Rattle.ymx_forward.specs.declared.content.Places.TheVariants as places
 use Rattle.ymx_forward.specs.declared.content.Taken.{Taken}
 use Rattle.ymx_forward.specs.declared.content.Taken.TheVariants as taken
+use Rattle.ymx_forward.specs.declared.link.Report.{Report}
+use Rattle.ymx_forward.specs.declared.link.Report.TheVariants as report
 use Rattle.ymx_forward.specs.declared.system.TcpConnection.{TcpConnection}
 
 -- Of those that waited the first was taken, and all others wait on; or nobody waited, and more may come, or none.
@@ -48,6 +50,11 @@ places_of places.Never = 0
 abbrev pub is_never : Places → Bool
 is_never (places.Free count) = false
 is_never places.Never = true
+
+-- what a link reported: a fault, or how its session ended
+abbrev pub reported : Report → PoolHappened
+reported (report.Met fault reason) = pool.Met fault reason
+reported (report.Left how) = pool.Left how
 
 -- what an attempt to leave a user comes to: only where there was no memory it isn't done
 abbrev pub left_to : Result Left NotLeft → PoolHappened

@@ -21,3 +21,4 @@ pub mod Standings
 pub mod Times
 pub mod Users
 pub mod Waits
+pub mod Silent

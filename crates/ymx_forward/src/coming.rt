@@ -1,6 +1,9 @@
 //! That a peer has come, as those who watch were told.
 
 ghost use Rattle.std.specs.Prelude.{◌≡◌, ◌||◌, true, false};
+ghost use Rattle.ymx_forward.specs.Saying.{Tells};
+ghost use Rattle.ymx_policy.specs.Texts.{notice_text};
+ghost use Rattle.ymx_policy.specs.declared.asks.Notice.TheVariants as NoticeOf;
 
 use crate::watching::Watcher;
 use std::net::SocketAddrV4;
@@ -29,6 +32,7 @@ impl Coming {
         ensures told { self.new.is_told ≡ (self.old.is_told || has_come) }
         ensures once { self.old.is_told ≡ true → watcher.new ≡ watcher.old }
         ensures late { has_come ≡ false → watcher.new ≡ watcher.old }
+        ensures line { self.old.is_told ≡ false → has_come ≡ true → Tells (notice_text (NoticeOf.PeerCame peer)) (V.said watcher.old) (V.said watcher.new) }
     {
         if has_come && !self.is_told {
             self.is_told = true;

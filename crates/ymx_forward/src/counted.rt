@@ -58,6 +58,8 @@ pub(crate) struct Counted<'a, R: Clock + Wait, V: ProgramWatcher> {
 impl<R: Clock + Wait, V: ProgramWatcher> Watcher for Counted<'_, R, V> {
     ghost counts = { λ c. Some (counts_of c.known) };
 
+    ghost said = { λ c. V.said c.watcher };
+
     fn begins(&mut self, from: &TcpConnection) -> Origin {
         let mut origin = self.watcher.begins(from);
         origin.number = self.known.note_begun(Instant::now(self.rt).ok());

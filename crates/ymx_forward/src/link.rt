@@ -1,8 +1,9 @@
 //! One of several links to the peer of a `local`, which runs in a thread of its own.
 
-ghost use Rattle.std.specs.Prelude.{◌≡◌, ◌⊎◌, None, Some};
+ghost use Rattle.std.specs.Prelude.{◌≡◌, ◌≢◌, ◌⊎◌, None, Some};
 ghost use Rattle.ymx_forward.specs.Calls.{RunsOver};
 ghost use Rattle.ymx_forward.specs.Counts.{CountsOne};
+ghost use Rattle.ymx_forward.specs.Inboxes.{reported};
 ghost use Rattle.ymx_forward.specs.Sessions.{HasNoEnd};
 
 use crate::content::Taken;
@@ -64,7 +65,10 @@ pub(crate) enum Report {
 
 impl Report {
     /// What happened.
-    pub(crate) fn happened(self) -> PoolHappened {
+    pub(crate) fn happened(self) -> PoolHappened
+        ensures exact { result ≡ reported self }
+        ensures nobody { result ≢ PoolHappened.Came }
+    {
         match self {
             Report::Met(fault, reason) => PoolHappened::Met(fault, reason),
             Report::Left(how) => PoolHappened::Left(how),
@@ -114,6 +118,8 @@ struct LinkWatcher<'a, R: Wait, V: ProgramWatcher> {
 
 impl<R: Wait, V: ProgramWatcher> Watcher for LinkWatcher<'_, R, V> {
     ghost counts = { λ _. None };
+
+    ghost said = { λ _. None };
 
     fn begins(&mut self, from: &TcpConnection) -> Origin
         // It is by this link.

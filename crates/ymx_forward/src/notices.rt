@@ -1,10 +1,8 @@
 //! What `-v` asks for: lines about a tunnel while it runs.
 
-ghost use Rattle.std.specs.Prelude.{◌≡◌, None, Option};
-ghost use Rattle.std.specs.declared.time.Instant.{Instant as Moment};
-ghost use Rattle.ymx_forward.specs.Saying.{Says};
+ghost use Rattle.std.specs.Prelude.{◌≡◌, None};
+ghost use Rattle.ymx_forward.specs.Saying.{Tells};
 ghost use Rattle.ymx_page.specs.Counts.{more};
-ghost use Rattle.ymx_page.specs.Told.{end_text, refusal_text};
 ghost use Rattle.ymx_policy.specs.Texts.{notice_text};
 
 use crate::stream::Stream;
@@ -19,7 +17,8 @@ use ymx_policy::{Named, Notice, Reason, notice_text};
 /// Who is told of connections, and of what a program does besides.
 pub(crate) trait ProgramWatcher: Watcher {
     /// Tells this.
-    fn tell(&mut self, notice: Notice);
+    fn tell(&mut self, notice: Notice)
+        ensures { Tells (notice_text notice) (Self.said self.old) (Self.said self.new) };
 }
 
 /// Says that a tunnel is ready, and how each of its connections ended, a line each. Where the device fails the line is
@@ -43,8 +42,9 @@ impl<'a, R: Clock, L: Outlet> Notices<'a, R, L> {
     }
 
     /// Says this text, as much of it as the device takes.
+    #[tactic(auto, using(crate::proofs::Saying::tells))]
     fn say(&mut self, text: &str)
-        ensures said { Says text.now (L.contents self.old.device.now) (L.contents self.new.device.now) }
+        ensures told { Tells text.now (L.contents self.old.device.now) (L.contents self.new.device.now) }
         ensures kept { self.new.begun ≡ self.old.begun }
     {
         let _ = push_all(&mut *self.device, text.as_bytes());
@@ -52,7 +52,7 @@ impl<'a, R: Clock, L: Outlet> Notices<'a, R, L> {
 
     /// Says the text of this notice.
     pub(crate) fn say_notice(&mut self, notice: Notice)
-        ensures said { Says (notice_text notice) (L.contents self.old.device.now) (L.contents self.new.device.now) }
+        ensures told { Tells (notice_text notice) (L.contents self.old.device.now) (L.contents self.new.device.now) }
         ensures kept { self.new.begun ≡ self.old.begun }
     {
         self.say(notice_text(notice).as_str());
@@ -61,6 +61,8 @@ impl<'a, R: Clock, L: Outlet> Notices<'a, R, L> {
 
 impl<R: Clock, L: Outlet> Watcher for Notices<'_, R, L> {
     ghost counts = { λ _. None };
+
+    ghost said = { λ n. L.contents n.device.now };
 
     fn begins(&mut self, from: &TcpConnection) -> Origin
         ensures number { (result.number ≡ self.new.begun) × (self.new.begun ≡ more self.old.begun 1) }
@@ -79,43 +81,31 @@ impl<R: Clock, L: Outlet> Watcher for Notices<'_, R, L> {
         }
     }
 
-    // The line says when it ended by the clock, which no contract knows.
-    fn ended(&mut self, origin: Origin, ended: &EndedConnection)
-        ensures { (now : Option Moment) × Says (end_text origin ended.now now) (L.contents self.old.device.now) (L.contents self.new.device.now) }
-    {
+    #[tactic(auto, using(crate::proofs::Saying::tells_end))]
+    fn ended(&mut self, origin: Origin, ended: &EndedConnection) {
         let now = Instant::now(self.rt).ok();
         self.say(end_line(origin, ended, now).as_str());
     }
 
-    fn refused(&mut self, origin: Origin, why: Declined)
-        ensures { Says (refusal_text origin why) (L.contents self.old.device.now) (L.contents self.new.device.now) }
-    {
+    fn refused(&mut self, origin: Origin, why: Declined) {
         self.say(refusal_line(origin, why).as_str());
     }
 
-    fn lost(&mut self, peer: Option<SocketAddrV4>)
-        ensures { Says (notice_text (Notice.PeerGone peer)) (L.contents self.old.device.now) (L.contents self.new.device.now) }
-    {
+    fn lost(&mut self, peer: Option<SocketAddrV4>) {
         self.say_notice(Notice::PeerGone(peer));
     }
 
-    fn failed(&mut self, option: Named, reason: Reason)
-        ensures { Says (notice_text (Notice.Refused option reason)) (L.contents self.old.device.now) (L.contents self.new.device.now) }
-    {
+    fn failed(&mut self, option: Named, reason: Reason) {
         self.say_notice(Notice::Refused(option, reason));
     }
 
     fn peer(&mut self, _is_there: bool) {}
 
-    fn came(&mut self, peer: Option<SocketAddrV4>)
-        ensures { Says (notice_text (Notice.PeerCame peer)) (L.contents self.old.device.now) (L.contents self.new.device.now) }
-    {
+    fn came(&mut self, peer: Option<SocketAddrV4>) {
         self.say_notice(Notice::PeerCame(peer));
     }
 
-    fn rejected(&mut self, _count: u64, peer: Option<SocketAddrV4>)
-        ensures { Says (notice_text (Notice.Rejected peer)) (L.contents self.old.device.now) (L.contents self.new.device.now) }
-    {
+    fn rejected(&mut self, _count: u64, peer: Option<SocketAddrV4>) {
         self.say_notice(Notice::Rejected(peer));
     }
 }

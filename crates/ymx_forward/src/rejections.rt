@@ -1,7 +1,10 @@
 //! How many of the peer's streams were rejected for want of memory, as those who watch were told.
 
 ghost use Rattle.std.specs.Prelude.{◌≡◌, ◌-◌, ◌<◌, ◌≤◌, max, option_map};
+ghost use Rattle.ymx_forward.specs.Saying.{Tells};
 ghost use Rattle.ymx_page.specs.Counts.{with_rejected};
+ghost use Rattle.ymx_policy.specs.Texts.{notice_text};
+ghost use Rattle.ymx_policy.specs.declared.asks.Notice.TheVariants as NoticeOf;
 
 use crate::watching::Watcher;
 use std::net::SocketAddrV4;
@@ -31,6 +34,7 @@ impl Rejections {
         // Each is told once, and counted.
         ensures once { rejected ≤ self.old.told → watcher.new ≡ watcher.old }
         ensures counted { self.old.told < rejected → V.counts watcher.new ≡ option_map (with_rejected (rejected - self.old.told)) (V.counts watcher.old) }
+        ensures line { self.old.told < rejected → Tells (notice_text (NoticeOf.Rejected peer)) (V.said watcher.old) (V.said watcher.new) }
     {
         if rejected > self.told {
             let more = rejected - self.told;

@@ -19,6 +19,8 @@ pub(crate) struct Shared<'a, R: Wait, V: ProgramWatcher> {
 impl<R: Wait, V: ProgramWatcher> Watcher for Shared<'_, R, V> {
     ghost counts = { λ _. None };
 
+    ghost said = { λ _. None };
+
     fn begins(&mut self, from: &TcpConnection) -> Origin {
         let mut watcher = self.watcher.lock(self.rt);
         watcher.begins(from)

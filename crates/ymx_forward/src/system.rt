@@ -289,6 +289,8 @@ pub(crate) struct Poll {
     waits: u64,
     /// How often events were taken, with a wait or without. It stays at the greatest `u64`.
     looks: u64,
+    /// How long it might wait at most, when it waited last. None for as long as no event came.
+    limit: Option<Duration>,
 }
 
 impl Poll {
@@ -299,6 +301,7 @@ impl Poll {
             inner: mio::Poll::new(rt)?,
             waits: 0,
             looks: 0,
+            limit: None,
         })
     }
 
@@ -306,9 +309,11 @@ impl Poll {
     pub(crate) fn wait(&mut self, limit: Option<Duration>) -> Result<(), NoEvents>
         ensures waits { CountsOne self.old.waits self.new.waits }
         ensures looks { CountsOne self.old.looks self.new.looks }
+        ensures limit { self.new.limit ≡ limit }
     {
         self.waits = self.waits.saturating_add(1);
         self.looks = self.looks.saturating_add(1);
+        self.limit = limit;
         told(self.inner.poll(&mut self.events, limit))
     }
 
@@ -319,13 +324,6 @@ impl Poll {
     {
         self.looks = self.looks.saturating_add(1);
         told(self.inner.poll(&mut self.events, Some(Duration::ZERO)))
-    }
-
-    /// Whether no event is there.
-    pub(crate) fn has_none(&self) -> bool
-        ensures { result ≡ (length (items self.now.events) == 0) }
-    {
-        self.events.is_empty()
     }
 
     /// Each event, as the system gave it: [`Event::of`] reads it.

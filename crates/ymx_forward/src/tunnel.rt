@@ -15,16 +15,17 @@ ghost use Rattle.ymx_engine.specs.Ways.{is_over};
 ghost use Rattle.ymx_engine.specs.Work.{HasRead, ServesOne, WorksOnce, Writes, has_work};
 ghost use Rattle.ymx_forward.specs.Counts.{CountsOne};
 ghost use Rattle.mio.specs.Events.{items};
-ghost use Rattle.ymx_forward.specs.Ended.{declined_for};
+ghost use Rattle.ymx_forward.specs.Ended.{declined_for, unjoined_for};
 ghost use Rattle.ymx_forward.specs.Events.{Hears, HearsAll, StreamHears, WireHears, readiness_of, token_of, wire_token};
 ghost use Rattle.ymx_forward.specs.Loops.{NeedsEvents, WaitsInNeed, WasLost, WorksBetween, has_task, side_is_over, stream_is_due};
 ghost use Rattle.ymx_forward.specs.declared.tunnel_end.Side.{Side as SideValue};
 ghost use Rattle.ymx_forward.specs.Coming.{has_spoken, tells_coming};
 ghost use Rattle.ymx_forward.specs.Signs.{is_sign};
+ghost use Rattle.ymx_forward.specs.Silent.{IsAsked, IsListenedTo, IsLookedFor, IsPinged};
 ghost use Rattle.ymx_engine.specs.Engines.{is_flushed, unframed};
 ghost use Rattle.ymx_forward.specs.Users.{IsBrought, IsStated, awaits_sign, can_open_later, has_no_place, is_followed, leaves_users, must_wait, user_is_due};
 ghost use Rattle.ymx_forward.specs.Times.{has_gone_by};
-ghost use Rattle.ymx_forward.specs.Waits.{places_at, time_to_wait};
+ghost use Rattle.ymx_forward.specs.Waits.{places_at, shorter_of, time_to_wait};
 ghost use Rattle.ymx_forward.specs.Offers.{BeginsFor, CallsTarget, EndsOffer, IsAnswered, NoneWaitsForPlace};
 ghost use Rattle.ymx_forward.specs.Sessions.{IsBegunFor, IsUnmade, IsUnserved, asked_to_go, free_target, has_failed, is_said, nanoseconds, rule_of};
 ghost use Rattle.ymx_policy.specs.declared.asks.Session.{Session as Wanted};
@@ -33,7 +34,11 @@ ghost use Rattle.ymx_forward.specs.Sides.{role_at};
 ghost use Rattle.ymx_model.specs.session.Sessions.{is_running, new_session};
 ghost use Rattle.ymx_session.specs.NewSessions.{IsNewFault, first_id};
 ghost use Rattle.ymx_forward.specs.declared.system.TcpConnection.{TcpConnection as Connection};
-ghost use Rattle.ymx_page.specs.Counts.{with_declined, with_rejected};
+ghost use Rattle.ymx_page.specs.Counts.{ended_with_nothing, with_declined, with_ended, with_rejected};
+ghost use Rattle.ymx_page.specs.Told.{refusal_text};
+ghost use Rattle.ymx_policy.specs.Texts.{notice_text};
+ghost use Rattle.ymx_policy.specs.declared.asks.Notice.TheVariants as NoticeOf;
+ghost use Rattle.ymx_forward.specs.Saying.{Tells, TellsEnd};
 
 use crate::coming::Coming;
 use crate::content::Places;
@@ -445,6 +450,8 @@ impl<'a> TunnelLoop<'a> {
 
     /// Asks the peer for a sign, if it `is_sounded` before it is given users.
     fn ask_first(&mut self, is_sounded: bool) -> Option<u32>
+        ensures asked { is_sounded ≡ true → IsPinged result self.old.tunnel self.new.tunnel }
+        ensures none { is_sounded ≡ false → (result ≡ None) × (self.new.tunnel ≡ self.old.tunnel) }
         ensures runs { Runs self.old.tunnel self.new.tunnel }
         ensures wire { self.new.tunnel.wire ≡ self.old.tunnel.wire }
     {
@@ -490,6 +497,9 @@ impl<'a> TunnelLoop<'a> {
         ensures patient { silence.old ≡ None → self.new.tunnel ≡ self.old.tunnel }
         ensures none { silence.old ≡ None → silence.new ≡ None }
         ensures asked { IfSome silence.old (λ silence. silence.was_asked ≡ false → self.new.tunnel.wire ≡ self.old.tunnel.wire) }
+        // It is listened to while the session runs, and what is due is done.
+        ensures listens { is_running self.old.tunnel.engine.session.status ≡ true → IfSome silence.old (λ old. IfSome silence.new (λ new. IsListenedTo old new result self.old.tunnel self.new.tunnel)) }
+        ensures same { is_some silence.new ≡ is_some silence.old }
     {
         if self.is_lost() {
             return None;
@@ -518,6 +528,7 @@ impl<'a> TunnelLoop<'a> {
     /// Asks the peer for a sign, unless the answer to the last ping is still to come. The number of the ping that it is to
     /// answer.
     fn ask(&mut self, pending: Option<u32>) -> Option<u32>
+        ensures asked { IsAsked pending result self.old.tunnel self.new.tunnel }
         ensures runs { Runs self.old.tunnel self.new.tunnel }
         ensures wire { self.new.tunnel.wire ≡ self.old.tunnel.wire }
     {
@@ -529,6 +540,7 @@ impl<'a> TunnelLoop<'a> {
 
     /// Asks the peer for a sign behind the ping of this number, if its answer is back.
     fn ask_behind(&mut self, number: u32) -> Option<u32>
+        ensures asked { IsAsked (Some number) result self.old.tunnel self.new.tunnel }
         ensures runs { Runs self.old.tunnel self.new.tunnel }
         ensures wire { self.new.tunnel.wire ≡ self.old.tunnel.wire }
     {
@@ -541,6 +553,7 @@ impl<'a> TunnelLoop<'a> {
 
     /// Whether the answer to the ping of this number is still to come. One that is back is collected.
     fn is_pending(&mut self, number: u32) -> bool
+        ensures looks { IsLookedFor number result self.old.tunnel self.new.tunnel }
         ensures runs { Runs self.old.tunnel self.new.tunnel }
         ensures wire { self.new.tunnel.wire ≡ self.old.tunnel.wire }
     {
@@ -549,6 +562,7 @@ impl<'a> TunnelLoop<'a> {
 
     /// Asks the peer for a sign.
     fn ping(&mut self) -> Option<u32>
+        ensures pinged { IsPinged result self.old.tunnel self.new.tunnel }
         ensures runs { Runs self.old.tunnel self.new.tunnel }
         ensures wire { self.new.tunnel.wire ≡ self.old.tunnel.wire }
     {
@@ -574,13 +588,15 @@ impl<'a> TunnelLoop<'a> {
         ensures looked { CountsOne poll.old.looks poll.new.looks }
         // It waits where there is nothing to do.
         ensures sleeps { has_task self.old.is_heard self.old.tunnel_end.now self.old.tunnel ≡ false → CountsOne poll.old.waits poll.new.waits }
+        // It waits for no longer than it may.
+        ensures limit { has_task self.old.is_heard self.old.tunnel_end.now self.old.tunnel ≡ false → option_map as_nanos poll.new.limit ≡ shorter_of (time_to_wait self.old.tunnel_end.now self.old.tunnel) (option_map as_nanos limit) }
         // Each event that came was heard, before anything else moved.
         ensures heard { IfOk result (λ _. (was : SideValue) × HearsAll (items poll.new.events) self.old.tunnel self.new.tunnel was self.new.tunnel_end.now.side) }
     {
         let is_waiting = !self.has_work();
         self.note_waiting(rt, is_waiting);
         self.take_events(poll, is_waiting, limit)?;
-        self.note_waited(is_waiting && poll.has_none());
+        self.note_waited(is_waiting && poll.events().next().is_none());
         self.note_all(poll);
         Ok(())
     }
@@ -595,6 +611,7 @@ impl<'a> TunnelLoop<'a> {
         ensures looks { is_waiting ≡ false → poll.new.waits ≡ poll.old.waits }
         ensures waits { is_waiting ≡ true → CountsOne poll.old.waits poll.new.waits }
         ensures looked { CountsOne poll.old.looks poll.new.looks }
+        ensures limit { is_waiting ≡ true → option_map as_nanos poll.new.limit ≡ shorter_of (time_to_wait self.now.tunnel_end.now self.now.tunnel) (option_map as_nanos limit) }
     {
         if is_waiting {
             poll.wait(shorter(self.timeout(), limit))
@@ -605,7 +622,8 @@ impl<'a> TunnelLoop<'a> {
 
     /// It begins to wait for events, or doesn't.
     fn note_waiting<R: Clock>(&mut self, rt: &R, is_waiting: bool)
-        ensures { self.new.tunnel ≡ self.old.tunnel }
+        ensures same { self.new.tunnel ≡ self.old.tunnel }
+        ensures end { self.new.tunnel_end.now ≡ self.old.tunnel_end.now }
     {
         if is_waiting {
             self.stillness.go_on(time_of(rt));
@@ -951,6 +969,7 @@ impl<'a> TunnelLoop<'a> {
         ensures tunnel { self.new.tunnel ≡ self.old.tunnel }
         ensures kept { (self.new.tunnel_end.now ≡ self.old.tunnel_end.now) ⊎ (self.new.has_unwatched ≡ true) }
         ensures counted { V.counts watcher.new ≡ option_map (with_declined (declined_for why)) (V.counts watcher.old) }
+        ensures line { Tells (refusal_text origin (declined_for why)) (V.said watcher.old) (V.said watcher.new) }
     {
         match why {
             NotJoined::BySession(fault) => {
@@ -1150,6 +1169,8 @@ impl<'a> TunnelLoop<'a> {
 
     /// Says why a connection to the target was not joined to its stream.
     fn end_unjoined<V: Watcher>(&mut self, origin: Origin, why: NotJoined, watcher: &mut V)
+        ensures line { TellsEnd origin (ended_with_nothing (unjoined_for why) None) (V.said watcher.old) (V.said watcher.new) }
+        ensures counted { V.counts watcher.new ≡ option_map (with_ended (ended_with_nothing (unjoined_for why) None)) (V.counts watcher.old) }
         ensures same { self.new.tunnel ≡ self.old.tunnel }
         ensures end { self.new.tunnel_end.now ≡ self.old.tunnel_end.now }
     {
@@ -1238,7 +1259,10 @@ impl<'a> TunnelLoop<'a> {
 
     /// Tells those who watch that the peer has come, or was lost.
     fn tell_peer<R: Clock + Wait, V: Watcher>(&mut self, rt: &R, watcher: &mut V)
-        ensures { self.new.tunnel ≡ self.old.tunnel }
+        ensures same { self.new.tunnel ≡ self.old.tunnel }
+        // Behind it both were told, where they are so.
+        ensures came { (pulled : ℕ) × (self.new.coming.is_told ≡ (self.old.coming.is_told || tells_coming self.old.tunnel_end.now pulled self.old.tunnel)) }
+        ensures lost { self.new.is_loss_told ≡ (self.old.is_loss_told || not (is_running self.old.tunnel.engine.session.status)) }
     {
         let pulled = self.tunnel.wire().pulled();
         self.tell_coming(pulled, watcher);
@@ -1253,6 +1277,9 @@ impl<'a> TunnelLoop<'a> {
         ensures told { self.new.coming.is_told ≡ (self.old.coming.is_told || tells_coming self.old.tunnel_end.now pulled self.old.tunnel) }
         ensures once { self.old.coming.is_told ≡ true → watcher.new ≡ watcher.old }
         ensures late { tells_coming self.old.tunnel_end.now pulled self.old.tunnel ≡ false → watcher.new ≡ watcher.old }
+        ensures line { self.old.coming.is_told ≡ false → tells_coming self.old.tunnel_end.now pulled self.old.tunnel ≡ true → Tells (notice_text (NoticeOf.PeerCame self.old.peer)) (V.said watcher.old) (V.said watcher.new) }
+        ensures loss { self.new.is_loss_told ≡ self.old.is_loss_told }
+        ensures peer { self.new.peer ≡ self.old.peer }
     {
         let has_come = self.tunnel_end.is_kept && self.has_spoken(pulled);
         self.coming.tell(has_come, self.peer, watcher);
@@ -1264,6 +1291,7 @@ impl<'a> TunnelLoop<'a> {
         ensures told { self.new.rejections.told ≡ max self.old.rejections.told self.old.tunnel.no_memory }
         ensures once { self.old.tunnel.no_memory ≤ self.old.rejections.told → watcher.new ≡ watcher.old }
         ensures counted { self.old.rejections.told < self.old.tunnel.no_memory → V.counts watcher.new ≡ option_map (with_rejected (self.old.tunnel.no_memory - self.old.rejections.told)) (V.counts watcher.old) }
+        ensures line { self.old.rejections.told < self.old.tunnel.no_memory → Tells (notice_text (NoticeOf.Rejected self.old.peer)) (V.said watcher.old) (V.said watcher.new) }
     {
         let rejected = self.tunnel.no_memory();
         self.rejections.tell(rejected, self.peer, watcher);
@@ -1295,6 +1323,7 @@ impl<'a> TunnelLoop<'a> {
         ensures once { self.old.is_loss_told ≡ true → watcher.new ≡ watcher.old }
         ensures late { is_running self.old.tunnel.engine.session.status ≡ true → watcher.new ≡ watcher.old }
         ensures kept { self.old.tunnel_end.now.is_kept ≡ true → watcher.new ≡ watcher.old }
+        ensures line { self.old.is_loss_told ≡ false → is_running self.old.tunnel.engine.session.status ≡ false → self.old.tunnel_end.now.is_kept ≡ false → Tells (notice_text (NoticeOf.PeerGone self.old.peer)) (V.said watcher.old) (V.said watcher.new) }
         ensures coming { self.new.coming ≡ self.old.coming }
     {
         if self.is_loss_told || !self.is_lost() {
