@@ -22,3 +22,4 @@ pub mod Times
 pub mod Users
 pub mod Waits
 pub mod Silent
+pub mod Accepting

@@ -1,5 +1,5 @@
 -- Which users wait to be accepted, and when one is given a stream (this project's own).
-use Rattle.std.specs.Prelude.{ℕ, ◌≡◌, ◌&&◌, ◌||◌, ◌==◌, Bool, true, false, not, is_some, length, nat_le, nat_lt, Option, Some, None, option_map, Result, Ok, Err}
+use Rattle.std.specs.Prelude.{ℕ, ◌≡◌, ◌&&◌, ◌||◌, ◌==◌, Bool, true, false, not, if◌then◌else◌, is_some, length, unwrap_or, nat_le, nat_lt, Option, Some, None, option_map, Result, Ok, Err}
 use Rattle.ymx_machine.specs.shared.Limits.{first_exhausted, most_records}
 use Rattle.ymx_machine.specs.declared.types.CallFault.TheVariants.{OpensPending, TooMany}
 use Rattle.ymx_model.specs.session.Sessions.{Session, is_running}
@@ -11,6 +11,8 @@ use Rattle.ymx_engine.specs.declared.joining.NotJoined.{NotJoined}
 use Rattle.ymx_engine.specs.declared.joining.NotJoined.TheVariants.{BySession}
 use Rattle.ymx_page.specs.Counts.{with_begun, with_declined}
 use Rattle.ymx_page.specs.declared.counts.Counts.{Counts}
+use Rattle.ymx_policy.specs.declared.asks.Happened.{Happened}
+use Rattle.ymx_policy.specs.declared.asks.Happened.TheVariants as happened
 use Rattle.ymx_forward.specs.Ended.{declined_for}
 use Rattle.ymx_forward.specs.declared.accepting.Source.{Source}
 use Rattle.ymx_forward.specs.declared.accepting.Source.TheVariants as source
@@ -32,6 +34,26 @@ is_shut source.Failed = true
 abbrev pub is_failed : Source → Bool
 is_failed source.Failed = true
 is_failed other = false
+
+-- Why no user comes any more: the system refused to accept more, or all came. None where some may come.
+abbrev pub no_users_at : Side → Option Happened
+no_users_at (side.Local listening) =
+    if not (is_shut listening.source) then None
+    else if is_failed listening.source then Some (happened.NoUsers listening.refusal)
+    else Some happened.AllCame
+no_users_at other = Some (happened.NoUsers None)
+
+-- Why no peer is awaited any more: no user comes, or no peer can be accepted. None where one is.
+abbrev pub end_of_wait : Side → (peers : Listening) → Option Happened
+end_of_wait users peers =
+    if is_some (no_users_at users) then no_users_at users
+    else if is_shut peers.source then Some (happened.Failed peers.refusal)
+    else None
+
+-- what becomes of a user who is closed: others may come, or why none comes
+abbrev pub behind_user : Option TunnelEnd → Happened
+behind_user None = happened.NoUsers None
+behind_user (Some end) = unwrap_or (no_users_at end.side) happened.Done
 
 -- fewer than so many, if it is known how many
 abbrev pub is_less : ℕ → Option ℕ → Bool

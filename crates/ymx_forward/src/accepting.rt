@@ -1,8 +1,10 @@
 //! The connections that come to one side of a tunnel.
 
-ghost use Rattle.std.specs.Prelude.{◌≡◌, ◌-◌, true, Ok, Some, IfOk, IfSome, IfNone, IsNone, option_map};
+ghost use Rattle.std.specs.Prelude.{◌≡◌, ◌-◌, true, None, Ok, Some, IfOk, IfSome, IfNone, IsNone, option_map};
+ghost use Rattle.ymx_forward.specs.Accepting.{at_count, behind_accept, behind_take, failure_of, is_want, is_without_end, refused, unwatched, with_one};
 ghost use Rattle.ymx_forward.specs.Users.{is_failed, is_less, is_shut, may_come};
 ghost use Rattle.ymx_forward.specs.Waits.{is_full, owes_room};
+ghost use Rattle.ymx_forward.specs.declared.accepting.Source.TheVariants as SourceOf;
 ghost use Rattle.ymx_forward.specs.declared.content.Taken.TheVariants as TakenIs;
 ghost use Rattle.ymx_forward.specs.declared.system.TcpConnection.{TcpConnection as Connection};
 
@@ -181,7 +183,9 @@ impl Listening {
     }
 
     /// Whether as many are accepted as come to a listener.
-    pub(crate) fn is_endless(&self) -> bool {
+    pub(crate) fn is_endless(&self) -> bool
+        ensures { result ≡ is_without_end self.now.source self.now.left }
+    {
         match self.source {
             Source::Inbox(_) => false,
             Source::Listener(_) | Source::Closed | Source::Failed => self.left.is_none(),
@@ -202,13 +206,15 @@ impl Listening {
 
     /// No more are accepted.
     pub(crate) fn stop(&mut self)
-        ensures { self.new ≡ record self.old { source = self.new.source } }
+        ensures { self.new ≡ record self.old { source = SourceOf.Closed } }
     {
         self.source = Source::Closed;
     }
 
     /// One that came can't be served, as the system refuses to watch it. No more are accepted, unless it is a patient one.
-    pub(crate) fn fail_unwatched(&mut self) {
+    pub(crate) fn fail_unwatched(&mut self)
+        ensures { self.new ≡ unwatched self.old }
+    {
         if !self.is_patient {
             self.source = Source::Failed;
         }
@@ -216,7 +222,7 @@ impl Listening {
 
     /// One more has come.
     fn count_one(&mut self)
-        ensures { self.new.left ≡ option_map (λ n. n - 1) self.old.left }
+        ensures { self.new ≡ with_one self.old }
     {
         if let Some(left) = self.left {
             self.left = Some(left.saturating_sub(1));
@@ -226,16 +232,17 @@ impl Listening {
 
     /// No more are accepted where none is left to come.
     fn stop_at_count(&mut self)
-        ensures { self.new.left ≡ self.old.left }
+        ensures { self.new ≡ at_count self.old }
     {
-        if self.left == Some(0) {
-            self.stop();
+        match self.left {
+            Some(0) => self.stop(),
+            Some(_) | None => {}
         }
     }
 
     /// The next connection that waits, which never waits itself, where so many are open. None if none waits, none can be
     /// accepted now, or none is accepted any more.
-    pub(crate) fn accept<R: Wait>(&mut self, rt: &R, open: usize) -> Option<TcpConnection>
+    pub(crate) fn accept<R: Wait>(&mut self, rt: &R, there: usize) -> Option<TcpConnection>
         // Each one that comes is counted, and no more come than were to.
         ensures counted { IfSome result (λ _. self.new.left ≡ option_map (λ n. n - 1) self.old.left) }
         ensures kept { IfNone result (self.new.left ≡ self.old.left) }
@@ -247,7 +254,7 @@ impl Listening {
         match &self.source {
             Source::Listener(listener) => {
                 let accepted = accept(listener);
-                self.note_accepted(accepted, open)
+                self.note_accepted(accepted, there)
             }
             Source::Inbox(inbox) => {
                 let taken = inbox.take(rt);
@@ -261,6 +268,7 @@ impl Listening {
     fn note_taken(&mut self, taken: Taken) -> Option<TcpConnection>
         // Whoever was taken is given on.
         ensures given { (socket : Connection) → taken ≡ TakenIs.Connection socket → result ≡ Some socket }
+        ensures taken { self.new ≡ behind_take taken self.old }
         ensures counted { IfSome result (λ _. self.new.left ≡ option_map (λ n. n - 1) self.old.left) }
         ensures kept { IfNone result (self.new.left ≡ self.old.left) }
     {
@@ -286,10 +294,11 @@ impl Listening {
     fn note_accepted(
         &mut self,
         accepted: Result<TcpConnection, Refusal>,
-        open: usize,
+        there: usize,
     ) -> Option<TcpConnection>
         // Whoever was accepted is given on.
         ensures given { (socket : Connection) → accepted ≡ Ok socket → result ≡ Some socket }
+        ensures accepted { self.new ≡ behind_accept accepted there self.old }
         ensures counted { IfSome result (λ _. self.new.left ≡ option_map (λ n. n - 1) self.old.left) }
         ensures kept { IfNone result (self.new.left ≡ self.old.left) }
     {
@@ -302,23 +311,23 @@ impl Listening {
             }
             Err(refusal) => {
                 self.can_accept = false;
-                self.hear(refusal, open);
+                self.hear(refusal, there);
                 None
             }
         }
     }
 
     /// Hears why none was accepted. That there is no descriptor or no memory is told once, and not at each try.
-    fn hear(&mut self, refusal: Refusal, open: usize)
-        ensures { self.new.left ≡ self.old.left }
+    fn hear(&mut self, refusal: Refusal, there: usize)
+        ensures { self.new ≡ refused refusal there self.old }
     {
         match refusal {
             Refusal::NoneWaits => self.full_at = None,
-            Refusal::BySystem(reason) if self.is_patient && is_full(reason) => {
+            Refusal::BySystem(reason) if self.is_patient && is_want(reason) => {
                 if self.full_at.is_none() {
                     self.refusal = Some(reason);
                 }
-                self.full_at = Some(open);
+                self.full_at = Some(there);
             }
             Refusal::BySystem(reason) => {
                 self.refusal = Some(reason);
@@ -328,7 +337,9 @@ impl Listening {
     }
 
     /// Why none can be accepted any more, if the system has said so.
-    pub(crate) fn failure(&self) -> Option<Reason> {
+    pub(crate) fn failure(&self) -> Option<Reason>
+        ensures { result ≡ failure_of self.now }
+    {
         if self.has_failed() {
             self.refusal
         } else {
@@ -338,7 +349,8 @@ impl Listening {
 
     /// Why the system last refused to accept a connection, unless that was told.
     pub(crate) fn take_refusal(&mut self) -> Option<Reason>
-        ensures { self.new.source ≡ self.old.source }
+        ensures given { result ≡ self.old.refusal }
+        ensures taken { self.new ≡ record self.old { refusal = None } }
     {
         self.refusal.take()
     }
@@ -354,7 +366,9 @@ enum Refusal {
 }
 
 /// Whether there is no descriptor or no memory for one more connection.
-fn is_full(reason: Reason) -> bool {
+fn is_want(reason: Reason) -> bool
+    ensures { result ≡ is_want reason }
+{
     match reason {
         Reason::NoDescriptor | Reason::NoMemory => true,
         _ => false,

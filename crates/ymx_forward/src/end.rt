@@ -15,6 +15,7 @@ ghost use Rattle.ymx_forward.specs.Doors.{MayCall, MeetsAdmitted, awaited_at, go
 ghost use Rattle.ymx_forward.specs.declared.accepting.Listening.{Listening as ListeningValue};
 ghost use Rattle.ymx_forward.specs.Served.{IsNoEnd, IsServed, IsUnplaced, ServesAsAsked, count_of};
 ghost use Rattle.ymx_forward.specs.Sessions.{HasNoEnd, Serves};
+ghost use Rattle.ymx_forward.specs.Users.{behind_user};
 
 use crate::accepting::Listening;
 use crate::doorkeeper::Doorkeeper;
@@ -313,7 +314,9 @@ impl<'a, R: Host> EndSockets<'a, R> {
     }
 
     /// Whether another session follows one that is lost.
-    fn is_kept(&self) -> bool {
+    fn is_kept(&self) -> bool
+        ensures { result ≡ goes_on self.now.end }
+    {
         match &self.end {
             Some(end) => end.is_kept,
             None => false,
@@ -382,7 +385,9 @@ impl<'a, R: Host> EndSockets<'a, R> {
     }
 
     /// Closes the user that waits, if one does. A link gives it back, so that another may serve it.
-    fn close_user<V: ProgramWatcher>(&mut self, watcher: &mut V) -> Happened {
+    fn close_user<V: ProgramWatcher>(&mut self, watcher: &mut V) -> Happened
+        ensures { result ≡ behind_user self.old.end }
+    {
         match &mut self.end {
             Some(end) => {
                 if let Some(inbox) = &self.inbox {

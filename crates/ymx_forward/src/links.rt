@@ -1,17 +1,17 @@
 //! What a `local` with several links asks for, done over sockets and threads. A link is a connection to the peer, with a
 //! session and a thread of its own. One thread accepts the users, and brings each to the link that has the fewest.
 
-ghost use Rattle.std.specs.Prelude.{ℕ, List, Option, [], ◌∷◌, ◌≡◌, ◌≢◌, true, None, IfErr, IfOk, option_map, ⊤};
+ghost use Rattle.std.specs.Prelude.{ℕ, List, Option, [], ◌∷◌, ◌≡◌, ◌≢◌, true, None, IfErr, IfOk, IsSome, option_map, ⊤};
 ghost use Rattle.std.specs.Thread.{IsSend};
 ghost use Rattle.ymx_policy.specs.Past.{Adds};
 ghost use Rattle.ymx_policy.specs.declared.asks.Callee.{Callee as Calls};
 ghost use Rattle.ymx_policy.specs.declared.asks.PoolDeed.{PoolDeed as PoolAsked};
 ghost use Rattle.ymx_policy.specs.declared.asks.PoolHappened.{PoolHappened as PoolHeard};
 ghost use Rattle.ymx_policy.specs.declared.asks.Users.{Users as Comers};
+ghost use Rattle.ymx_forward.specs.Accepting.{last_by};
 ghost use Rattle.ymx_forward.specs.Calls.{AddsCalled, Keeps};
 ghost use Rattle.ymx_forward.specs.Comers.{PoolTakes, PoolTakesCount};
 ghost use Rattle.ymx_forward.specs.Inboxes.{left_to, no_session, unleft_for};
-ghost use Rattle.ymx_forward.specs.Users.{is_failed};
 ghost use Rattle.ymx_page.specs.Counts.{with_begun, with_declined};
 
 use crate::accepting::Listening;
@@ -270,7 +270,10 @@ impl<'a, R: Host> LinkSockets<'a, R> {
 
     /// Waits until a user comes for whom a link has a place, or a link has something to report. Where all links are full,
     /// users wait in the system.
-    fn wait(&mut self) -> PoolHappened {
+    fn wait(&mut self) -> PoolHappened
+        // Where one has come it is kept.
+        ensures { result ≡ PoolHappened.Came → IsSome self.new.user }
+    {
         let rt = self.site.rt;
         let Some(listening) = &mut self.listening else {
             return PoolHappened::NobodyComes(None);
@@ -320,7 +323,11 @@ impl<'a, R: Host> LinkSockets<'a, R> {
 
     /// Leaves the user that came at the link that has the fewest. Where there is none it is closed, as is one that a link had
     /// no session for where now all rest.
-    fn place<V: Watcher>(&mut self, watcher: &mut V) -> PoolHappened {
+    fn place<V: Watcher>(&mut self, watcher: &mut V) -> PoolHappened
+        ensures placed { self.new.user ≡ None }
+        // Where none has come nothing is done.
+        ensures nobody { self.old.user ≡ None → (result ≡ PoolHappened.Done) × (watcher.new ≡ watcher.old) }
+    {
         let Some(user) = self.user.take() else {
             return PoolHappened::Done;
         };
@@ -389,8 +396,8 @@ fn refuse<V: Watcher>(socket: TcpConnection, watcher: &mut V)
 
 /// Why no users come any more.
 fn last_of(listening: &mut Listening) -> PoolHappened
-    // Where none can be accepted any more it isn't that all came.
-    ensures { is_failed listening.old.source ≡ true → result ≢ PoolHappened.AllCame }
+    ensures exact { result ≡ last_by listening.old }
+    ensures nobody { result ≢ PoolHappened.Came }
 {
     if listening.has_failed() {
         PoolHappened::NobodyComes(listening.take_refusal())

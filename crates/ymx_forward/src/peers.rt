@@ -3,6 +3,7 @@
 
 ghost use Rattle.std.specs.Prelude.{◌≡◌, ◌≢◌, ◌⊎◌, false, Some, None, ⊤};
 ghost use Rattle.std.specs.Thread.{IsSend};
+ghost use Rattle.ymx_forward.specs.Accepting.{refused_by};
 ghost use Rattle.ymx_forward.specs.Calls.{RunsOver};
 ghost use Rattle.ymx_forward.specs.Counts.{CountsOne};
 ghost use Rattle.ymx_forward.specs.Doors.{LetsAdmittedIn, ListensAttended};
@@ -389,7 +390,8 @@ impl<'a, R: Host> PeerSockets<'a, R> {
 
 /// Why nobody could be let in: for now, or any more. None where nobody knocks.
 pub(crate) fn refused(listening: &mut Listening) -> Option<PoolHappened>
-    ensures { result ≢ Some PoolHappened.Came }
+    ensures exact { result ≡ refused_by listening.old }
+    ensures nobody { result ≢ Some PoolHappened.Came }
 {
     let reason = listening.take_refusal();
     if listening.is_over() {

@@ -13,6 +13,7 @@ ghost use Rattle.ymx_engine.specs.Served.{Serving, NoneWaits, NoneGives, NoneEnd
 ghost use Rattle.ymx_engine.specs.Turns.{Line as LineValue, line_of};
 ghost use Rattle.ymx_engine.specs.Ways.{is_over};
 ghost use Rattle.ymx_engine.specs.Work.{HasRead, ServesOne, WorksOnce, Writes, has_work};
+ghost use Rattle.ymx_forward.specs.Accepting.{unwatched_at, without_end_stopped};
 ghost use Rattle.ymx_forward.specs.Counts.{CountsOne};
 ghost use Rattle.mio.specs.Events.{items};
 ghost use Rattle.ymx_forward.specs.Ended.{declined_for, unjoined_for};
@@ -939,6 +940,7 @@ impl<'a> TunnelLoop<'a> {
     fn stop_if_lost(&mut self)
         ensures tunnel { self.new.tunnel ≡ self.old.tunnel }
         ensures kept { is_running self.old.tunnel.engine.session.status ≡ true → self.new.tunnel_end.now ≡ self.old.tunnel_end.now }
+        ensures stopped { is_running self.old.tunnel.engine.session.status ≡ false → self.new.tunnel_end.now.side ≡ without_end_stopped self.old.tunnel_end.now.side }
     {
         if self.is_lost() {
             self.stop_endless();
@@ -993,7 +995,8 @@ impl<'a> TunnelLoop<'a> {
 
     /// Accepts no more connections, if as many are accepted as come.
     fn stop_endless(&mut self)
-        ensures { self.new.tunnel ≡ self.old.tunnel }
+        ensures tunnel { self.new.tunnel ≡ self.old.tunnel }
+        ensures stopped { self.new.tunnel_end.now.side ≡ without_end_stopped self.old.tunnel_end.now.side }
     {
         if let Side::Local(listening) = &mut self.tunnel_end.side {
             if listening.is_endless() {
@@ -1006,6 +1009,7 @@ impl<'a> TunnelLoop<'a> {
     fn stop_unwatched(&mut self)
         ensures tunnel { self.new.tunnel ≡ self.old.tunnel }
         ensures noted { self.new.has_unwatched ≡ true }
+        ensures side { self.new.tunnel_end.now.side ≡ unwatched_at self.old.tunnel_end.now.side }
     {
         self.has_unwatched = true;
         if let Side::Local(listening) = &mut self.tunnel_end.side {

@@ -3,12 +3,13 @@
 ghost use Rattle.std.specs.Prelude.{◌≡◌, ◌≢◌, true, if◌then◌else◌, IfErr, IfNone, IfOk, IfSome, None, Some, is_some, option_map};
 ghost use Rattle.std.specs.Duration.{as_nanos};
 ghost use Rattle.ymx_policy.specs.declared.asks.Session.{Session as Asked};
+ghost use Rattle.ymx_forward.specs.Accepting.{reason_at};
 ghost use Rattle.ymx_forward.specs.Doors.{MayCall};
 ghost use Rattle.ymx_forward.specs.Inboxes.{no_session};
 ghost use Rattle.ymx_forward.specs.declared.system.TcpConnection.{TcpConnection as Connection};
 ghost use Rattle.ymx_page.specs.Counts.{with_begun, with_declined};
 ghost use Rattle.ymx_forward.specs.Sessions.{AreLimitsOf, HasNoEnd, Serves, asked_to_go, close_limit_of, goes_to, has_failed};
-ghost use Rattle.ymx_forward.specs.Users.{comes_at_most, comes_to, may_wait};
+ghost use Rattle.ymx_forward.specs.Users.{comes_at_most, comes_to, end_of_wait, may_wait, no_users_at};
 ghost use Rattle.ymx_forward.specs.Waits.{is_full_at, owes_room_at};
 
 use crate::accepting::Listening;
@@ -282,7 +283,9 @@ impl TunnelEnd {
     }
 
     /// Why no peer is awaited any more among these. None where one is.
-    fn end_of_wait(&mut self, peers: &mut Listening) -> Option<Happened> {
+    fn end_of_wait(&mut self, peers: &mut Listening) -> Option<Happened>
+        ensures { result ≡ end_of_wait self.old.side peers.old }
+    {
         if let Some(end) = self.no_users() {
             return Some(end);
         }
@@ -371,6 +374,7 @@ impl TunnelEnd {
     /// Closes the connection that waits for a session, if one does, as there is none to be had.
     pub(crate) fn refuse_waiting<V: Watcher>(&mut self, watcher: &mut V)
         ensures none { self.new.waiting ≡ None }
+        ensures side { self.new.side ≡ self.old.side }
         // Who watches is told of it.
         ensures told { V.counts watcher.new ≡ (if is_some self.old.waiting then option_map (with_declined no_session) (option_map with_begun (V.counts watcher.old)) else V.counts watcher.old) }
     {
@@ -383,7 +387,8 @@ impl TunnelEnd {
     /// Gives the connection that waits for a session back to who accepts for many links, so that another has it.
     pub(crate) fn give_back<R: Wait>(&mut self, rt: &R, inbox: &Inbox)
         // Who can't be given back waits on.
-        ensures { is_some self.new.waiting ≡ true → self.new.waiting ≡ self.old.waiting }
+        ensures waiting { is_some self.new.waiting ≡ true → self.new.waiting ≡ self.old.waiting }
+        ensures side { self.new.side ≡ self.old.side }
     {
         if let Some(socket) = self.waiting.take() {
             self.waiting = inbox.give_back(rt, socket).err();
@@ -422,7 +427,9 @@ impl TunnelEnd {
     }
 
     /// Why no connection can be accepted any more, if that is so, and the system has said so.
-    pub(crate) fn accept_reason(&self) -> Option<Reason> {
+    pub(crate) fn accept_reason(&self) -> Option<Reason>
+        ensures { result ≡ reason_at self.now.side }
+    {
         match &self.side {
             Side::Local(listening) => listening.failure(),
             Side::Remote { .. } => None,
@@ -441,6 +448,7 @@ impl TunnelEnd {
 
     /// Why no more connections come: all have come that were to, or none can be accepted. None where some may come.
     pub(crate) fn no_users(&mut self) -> Option<Happened>
+        ensures why { result ≡ no_users_at self.old.side }
         // Where none can be accepted any more it isn't that all came.
         ensures failed { has_failed self.old.side ≡ true → result ≢ Some Happened.AllCame }
         ensures same { has_failed self.new.side ≡ has_failed self.old.side }
