@@ -2,10 +2,10 @@
 """recorders.py: whether a body could differ by what a recorder keeps or witnesses.
 
 The front door and the library's servers run with `Witnessed`. `Off` is for a hub that a program makes by hand: what a
-contract says of a history is proved with the others. So the bodies must be the same for all. An `ensures` may speak of `KEEPS` and `WITNESSED`, since it is proved of every body. Anything else that names them,
-as an invariant, a ghost field, a ghost member or a `requires`, could let a body do another thing for one recorder, and so
-could an `impl` block for one. Those that there are stand below, each with its reason. It prints any other, and ends with
-'N places, M unknown'.
+contract says of a history is proved with the others. So the bodies must be the same for all. An `ensures` may speak of
+`KEEPS` and `WITNESSED`, since it is proved of every body. Anything else that names them, as an invariant, a ghost field, a
+ghost member or a `requires`, could let a body do another thing for one recorder, and so could an `impl` block for one.
+Those that there are stand below, each with its reason. It prints any other, and ends with 'N places, M unknown'.
 """
 import re
 import sys
