@@ -1,5 +1,5 @@
 -- What the door says whose session has its history in proofs (this project's own).
-use Rattle.std.specs.Prelude.{◌≡◌, ℕ, List, Bool, true, false, Option, Some, None, Result, Ok, Err, MatchResult}
+use Rattle.std.specs.Prelude.{◌≡◌, ℕ, List, Bool, true, false, Option, Some, None, Result, Ok, Err, IfErr}
 use mathlib.Core.List.{IsPrefix}
 use Rattle.ymx_machine.specs.declared.types.Reply.TheVariants as reply
 use Rattle.ymx_model.specs.declared.types.Role.{Role}
@@ -22,14 +22,13 @@ pub record BooksLast (role : Role) (config : Config) (old : SeatView) (Such : Li
   pub booked : Books false old last Such
   pub history : IsWitnessed true role config last.seen
 
--- Both halves of a stream made their last call: the writing half was finished, then the reading half released. The refusal of
--- the first is answered, else that of the second.
+-- Both halves of a stream made their last call: the writing half was finished, and the reading half released. Where the first
+-- was refused, that is answered.
 pub record ClosesStream (role : Role) (config : Config) (writer reader : HalfView) (answer : Result (Unit {0}) HubFault) : Type 0 where
   pub finished : Result (Unit {0}) HubFault
-  pub released : Result (Unit {0}) HubFault
   pub finishes : BooksLast role config writer.seat (Spends (to_finish writer.id) writer.id writer.seat.number finished)
   pub releases : BooksLast role config reader.seat (Tends reader.id reader.seat.number)
-  pub first : MatchResult finished (λ _. answer ≡ released) (λ fault. answer ≡ Err fault)
+  pub first : IfErr finished (λ fault. answer ≡ Err fault)
 
 -- The reads of one stream at one seat gave these bytes, and then the end, as a recorder has it that keeps, or that witnesses.
 -- What the seat has seen then is the history of a session of this role and config, which replays.
