@@ -32,7 +32,7 @@ impl Coming {
         ensures told { self.new.is_told ≡ (self.old.is_told || has_come) }
         ensures once { self.old.is_told ≡ true → watcher.new ≡ watcher.old }
         ensures late { has_come ≡ false → watcher.new ≡ watcher.old }
-        ensures line { self.old.is_told ≡ false → has_come ≡ true → Tells (notice_text (NoticeOf.PeerCame peer)) (V.said watcher.old) (V.said watcher.new) }
+        ensures line { self.old.is_told ≡ false → has_come ≡ true → Tells (notice_text (NoticeOf.PeerCame peer)) (V.failures watcher.old) (V.failures watcher.new) (V.said watcher.old) (V.said watcher.new) }
     {
         if has_come && !self.is_told {
             self.is_told = true;

@@ -60,6 +60,8 @@ impl<R: Clock + Wait, V: ProgramWatcher> Watcher for Counted<'_, R, V> {
 
     ghost said = { λ c. V.said c.watcher };
 
+    ghost failures = { λ c. V.failures c.watcher };
+
     fn begins(&mut self, from: &TcpConnection) -> Origin {
         let mut origin = self.watcher.begins(from);
         origin.number = self.known.note_begun(Instant::now(self.rt).ok());

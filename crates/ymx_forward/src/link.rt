@@ -121,6 +121,8 @@ impl<R: Wait, V: ProgramWatcher> Watcher for LinkWatcher<'_, R, V> {
 
     ghost said = { λ _. None };
 
+    ghost failures = { λ _. 0 };
+
     fn begins(&mut self, from: &TcpConnection) -> Origin
         // It is by this link.
         ensures link { result.link ≡ Some self.old.number }

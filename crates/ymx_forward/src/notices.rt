@@ -18,7 +18,7 @@ use ymx_policy::{Named, Notice, Reason, notice_text};
 pub(crate) trait ProgramWatcher: Watcher {
     /// Tells this.
     fn tell(&mut self, notice: Notice)
-        ensures { Tells (notice_text notice) (Self.said self.old) (Self.said self.new) };
+        ensures { Tells (notice_text notice) (Self.failures self.old) (Self.failures self.new) (Self.said self.old) (Self.said self.new) };
 }
 
 /// Says that a tunnel is ready, and how each of its connections ended, a line each. Where the device fails the line is
@@ -44,7 +44,7 @@ impl<'a, R: Clock, L: Outlet> Notices<'a, R, L> {
     /// Says this text, as much of it as the device takes.
     #[tactic(auto, using(crate::proofs::Saying::tells))]
     fn say(&mut self, text: &str)
-        ensures told { Tells text.now (L.contents self.old.device.now) (L.contents self.new.device.now) }
+        ensures told { Tells text.now (L.failures self.old.device.now) (L.failures self.new.device.now) (L.contents self.old.device.now) (L.contents self.new.device.now) }
         ensures kept { self.new.begun ≡ self.old.begun }
     {
         let _ = push_all(&mut *self.device, text.as_bytes());
@@ -52,7 +52,7 @@ impl<'a, R: Clock, L: Outlet> Notices<'a, R, L> {
 
     /// Says the text of this notice.
     pub(crate) fn say_notice(&mut self, notice: Notice)
-        ensures told { Tells (notice_text notice) (L.contents self.old.device.now) (L.contents self.new.device.now) }
+        ensures told { Tells (notice_text notice) (L.failures self.old.device.now) (L.failures self.new.device.now) (L.contents self.old.device.now) (L.contents self.new.device.now) }
         ensures kept { self.new.begun ≡ self.old.begun }
     {
         self.say(notice_text(notice).as_str());
@@ -64,9 +64,12 @@ impl<R: Clock, L: Outlet> Watcher for Notices<'_, R, L> {
 
     ghost said = { λ n. L.contents n.device.now };
 
+    ghost failures = { λ n. L.failures n.device.now };
+
     fn begins(&mut self, from: &TcpConnection) -> Origin
         ensures number { (result.number ≡ self.new.begun) × (self.new.begun ≡ more self.old.begun 1) }
         ensures silent { L.contents self.new.device.now ≡ L.contents self.old.device.now }
+        ensures unfailed { L.failures self.new.device.now ≡ L.failures self.old.device.now }
     {
         self.begun = self.begun.saturating_add(1);
         let from = match from.peer() {

@@ -34,7 +34,7 @@ impl Rejections {
         // Each is told once, and counted.
         ensures once { rejected ≤ self.old.told → watcher.new ≡ watcher.old }
         ensures counted { self.old.told < rejected → V.counts watcher.new ≡ option_map (with_rejected (rejected - self.old.told)) (V.counts watcher.old) }
-        ensures line { self.old.told < rejected → Tells (notice_text (NoticeOf.Rejected peer)) (V.said watcher.old) (V.said watcher.new) }
+        ensures line { self.old.told < rejected → Tells (notice_text (NoticeOf.Rejected peer)) (V.failures watcher.old) (V.failures watcher.new) (V.said watcher.old) (V.said watcher.new) }
     {
         if rejected > self.told {
             let more = rejected - self.told;

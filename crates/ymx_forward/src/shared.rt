@@ -21,6 +21,8 @@ impl<R: Wait, V: ProgramWatcher> Watcher for Shared<'_, R, V> {
 
     ghost said = { λ _. None };
 
+    ghost failures = { λ _. 0 };
+
     fn begins(&mut self, from: &TcpConnection) -> Origin {
         let mut watcher = self.watcher.lock(self.rt);
         watcher.begins(from)

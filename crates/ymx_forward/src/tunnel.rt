@@ -971,7 +971,7 @@ impl<'a> TunnelLoop<'a> {
         ensures tunnel { self.new.tunnel ≡ self.old.tunnel }
         ensures kept { (self.new.tunnel_end.now ≡ self.old.tunnel_end.now) ⊎ (self.new.has_unwatched ≡ true) }
         ensures counted { V.counts watcher.new ≡ option_map (with_declined (declined_for why)) (V.counts watcher.old) }
-        ensures line { Tells (refusal_text origin (declined_for why)) (V.said watcher.old) (V.said watcher.new) }
+        ensures line { Tells (refusal_text origin (declined_for why)) (V.failures watcher.old) (V.failures watcher.new) (V.said watcher.old) (V.said watcher.new) }
     {
         match why {
             NotJoined::BySession(fault) => {
@@ -1173,7 +1173,7 @@ impl<'a> TunnelLoop<'a> {
 
     /// Says why a connection to the target was not joined to its stream.
     fn end_unjoined<V: Watcher>(&mut self, origin: Origin, why: NotJoined, watcher: &mut V)
-        ensures line { TellsEnd origin (ended_with_nothing (unjoined_for why) None) (V.said watcher.old) (V.said watcher.new) }
+        ensures line { TellsEnd origin (ended_with_nothing (unjoined_for why) None) (V.failures watcher.old) (V.failures watcher.new) (V.said watcher.old) (V.said watcher.new) }
         ensures counted { V.counts watcher.new ≡ option_map (with_ended (ended_with_nothing (unjoined_for why) None)) (V.counts watcher.old) }
         ensures same { self.new.tunnel ≡ self.old.tunnel }
         ensures end { self.new.tunnel_end.now ≡ self.old.tunnel_end.now }
@@ -1281,7 +1281,7 @@ impl<'a> TunnelLoop<'a> {
         ensures told { self.new.coming.is_told ≡ (self.old.coming.is_told || tells_coming self.old.tunnel_end.now pulled self.old.tunnel) }
         ensures once { self.old.coming.is_told ≡ true → watcher.new ≡ watcher.old }
         ensures late { tells_coming self.old.tunnel_end.now pulled self.old.tunnel ≡ false → watcher.new ≡ watcher.old }
-        ensures line { self.old.coming.is_told ≡ false → tells_coming self.old.tunnel_end.now pulled self.old.tunnel ≡ true → Tells (notice_text (NoticeOf.PeerCame self.old.peer)) (V.said watcher.old) (V.said watcher.new) }
+        ensures line { self.old.coming.is_told ≡ false → tells_coming self.old.tunnel_end.now pulled self.old.tunnel ≡ true → Tells (notice_text (NoticeOf.PeerCame self.old.peer)) (V.failures watcher.old) (V.failures watcher.new) (V.said watcher.old) (V.said watcher.new) }
         ensures loss { self.new.is_loss_told ≡ self.old.is_loss_told }
         ensures peer { self.new.peer ≡ self.old.peer }
     {
@@ -1295,7 +1295,7 @@ impl<'a> TunnelLoop<'a> {
         ensures told { self.new.rejections.told ≡ max self.old.rejections.told self.old.tunnel.no_memory }
         ensures once { self.old.tunnel.no_memory ≤ self.old.rejections.told → watcher.new ≡ watcher.old }
         ensures counted { self.old.rejections.told < self.old.tunnel.no_memory → V.counts watcher.new ≡ option_map (with_rejected (self.old.tunnel.no_memory - self.old.rejections.told)) (V.counts watcher.old) }
-        ensures line { self.old.rejections.told < self.old.tunnel.no_memory → Tells (notice_text (NoticeOf.Rejected self.old.peer)) (V.said watcher.old) (V.said watcher.new) }
+        ensures line { self.old.rejections.told < self.old.tunnel.no_memory → Tells (notice_text (NoticeOf.Rejected self.old.peer)) (V.failures watcher.old) (V.failures watcher.new) (V.said watcher.old) (V.said watcher.new) }
     {
         let rejected = self.tunnel.no_memory();
         self.rejections.tell(rejected, self.peer, watcher);
@@ -1327,7 +1327,7 @@ impl<'a> TunnelLoop<'a> {
         ensures once { self.old.is_loss_told ≡ true → watcher.new ≡ watcher.old }
         ensures late { is_running self.old.tunnel.engine.session.status ≡ true → watcher.new ≡ watcher.old }
         ensures kept { self.old.tunnel_end.now.is_kept ≡ true → watcher.new ≡ watcher.old }
-        ensures line { self.old.is_loss_told ≡ false → is_running self.old.tunnel.engine.session.status ≡ false → self.old.tunnel_end.now.is_kept ≡ false → Tells (notice_text (NoticeOf.PeerGone self.old.peer)) (V.said watcher.old) (V.said watcher.new) }
+        ensures line { self.old.is_loss_told ≡ false → is_running self.old.tunnel.engine.session.status ≡ false → self.old.tunnel_end.now.is_kept ≡ false → Tells (notice_text (NoticeOf.PeerGone self.old.peer)) (V.failures watcher.old) (V.failures watcher.new) (V.said watcher.old) (V.said watcher.new) }
         ensures coming { self.new.coming ≡ self.old.coming }
     {
         if self.is_loss_told || !self.is_lost() {

@@ -25,46 +25,51 @@ pub(crate) trait Watcher {
     /// The lines that its device took. None where it says nothing, its device can't tell, or behind a lock.
     ghost said: { Self → Option (List ℕ) };
 
+    /// How often its device has failed, as devices count that.
+    ghost failures: { Self → ℕ };
+
     /// A connection begins, of somebody at the other end of this socket.
     fn begins(&mut self, from: &TcpConnection) -> Origin
         ensures counted { counts self.new ≡ option_map with_begun (counts self.old) }
         ensures numbered { IfSome (counts self.new) (λ c. result.number ≡ c.begun) }
-        ensures silent { said self.new ≡ said self.old };
+        ensures silent { said self.new ≡ said self.old }
+        ensures unfailed { failures self.new ≡ failures self.old };
 
     /// A connection that had a stream has ended.
     fn ended(&mut self, origin: Origin, ended: &EndedConnection)
         ensures counted { counts self.new ≡ option_map (with_ended ended.now) (counts self.old) }
-        ensures told { TellsEnd origin ended.now (said self.old) (said self.new) };
+        ensures told { TellsEnd origin ended.now (failures self.old) (failures self.new) (said self.old) (said self.new) };
 
     /// A connection was closed, as no stream was to be had for it.
     fn refused(&mut self, origin: Origin, why: Declined)
         ensures counted { counts self.new ≡ option_map (with_declined why) (counts self.old) }
-        ensures told { Tells (refusal_text origin why) (said self.old) (said self.new) };
+        ensures told { Tells (refusal_text origin why) (failures self.old) (failures self.new) (said self.old) (said self.new) };
 
     /// The session with the peer at this address, if it is known, was lost, and none follows.
     fn lost(&mut self, peer: Option<SocketAddrV4>)
         ensures counted { counts self.new ≡ counts self.old }
-        ensures told { Tells (notice_text (NoticeOf.PeerGone peer)) (said self.old) (said self.new) };
+        ensures told { Tells (notice_text (NoticeOf.PeerGone peer)) (failures self.old) (failures self.new) (said self.old) (said self.new) };
 
     /// The system refused, for this reason, what this option asks for.
     fn failed(&mut self, option: Named, reason: Reason)
         ensures counted { counts self.new ≡ option_map with_system_refusal (counts self.old) }
-        ensures told { Tells (notice_text (NoticeOf.Refused option reason)) (said self.old) (said self.new) };
+        ensures told { Tells (notice_text (NoticeOf.Refused option reason)) (failures self.old) (failures self.new) (said self.old) (said self.new) };
 
     /// A session with a peer begins, or has ended.
     fn peer(&mut self, is_there: bool)
         ensures counted { counts self.new ≡ option_map (with_peer is_there) (counts self.old) }
-        ensures silent { said self.new ≡ said self.old };
+        ensures silent { said self.new ≡ said self.old }
+        ensures unfailed { failures self.new ≡ failures self.old };
 
     /// The peer at this address, if it is known, has given its first sign of life, in a session that others follow.
     fn came(&mut self, peer: Option<SocketAddrV4>)
         ensures counted { counts self.new ≡ counts self.old }
-        ensures told { Tells (notice_text (NoticeOf.PeerCame peer)) (said self.old) (said self.new) };
+        ensures told { Tells (notice_text (NoticeOf.PeerCame peer)) (failures self.old) (failures self.new) (said self.old) (said self.new) };
 
     /// So many more streams of the peer at this address, if it is known, were rejected for want of memory.
     fn rejected(&mut self, count: u64, peer: Option<SocketAddrV4>)
         ensures counted { counts self.new ≡ option_map (with_rejected count) (counts self.old) }
-        ensures told { Tells (notice_text (NoticeOf.Rejected peer)) (said self.old) (said self.new) };
+        ensures told { Tells (notice_text (NoticeOf.Rejected peer)) (failures self.old) (failures self.new) (said self.old) (said self.new) };
 }
 
 /// Watches nothing.
@@ -75,6 +80,8 @@ impl Watcher for Unwatched {
     ghost counts = { λ _. None };
 
     ghost said = { λ _. None };
+
+    ghost failures = { λ _. 0 };
 
     fn begins(&mut self, _from: &TcpConnection) -> Origin {
         Origin::untold()
