@@ -63,8 +63,7 @@ IsDone due.Loss now old new limit was is =
     (new ≡ old) × (option_map as_nanos limit ≡ Some 0) × IsShut was.wire is.wire × (is_running is.engine.session.status ≡ false)
 
 -- It is listened to at some time, by which so many bytes of it have come, and what is due then is done.
-pub record IsListenedTo (old new : Silence) (limit : Option Duration) (was is : Tunnel) : Type 0 where
-  pub bytes : ℕ
+pub record IsListenedTo (bytes : ℕ) (old new : Silence) (limit : Option Duration) (was is : Tunnel) : Type 0 where
   pub now : Option Duration
   pub what : Due
   pub due : IsDueNow (heard_of old now bytes (unframed was.engine)) now what

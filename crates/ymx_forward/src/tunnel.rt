@@ -402,7 +402,8 @@ impl<'a> TunnelLoop<'a> {
             if self.is_over() {
                 return Ok(Finished { was_left: false });
             }
-            let limit = self.hear_silence(rt, &mut silence);
+            let pulled = self.tunnel.wire().pulled();
+            let limit = self.hear_silence(rt, pulled, &mut silence);
             if let Err(refused) = self.await_events(rt, poll, limit) {
                 self.is_unwatched = true;
                 self.tunnel.give_up_wire();
@@ -486,11 +487,12 @@ impl<'a> TunnelLoop<'a> {
         let _ = self.tunnel_end.take_callers();
     }
 
-    /// Hears whether the peer is silent: then it is asked for a sign, and given up where none comes. How long it may be
-    /// silent yet, or None if for ever.
+    /// Hears whether the peer, of which so many bytes have come, is silent: then it is asked for a sign, and given up where
+    /// none comes. How long it may be silent yet, or None if for ever.
     fn hear_silence<R: Clock + Wait>(
         &mut self,
         rt: &R,
+        pulled: u64,
         silence: &mut Option<Silence>,
     ) -> Option<Duration>
         ensures runs { Runs self.old.tunnel self.new.tunnel }
@@ -499,13 +501,12 @@ impl<'a> TunnelLoop<'a> {
         ensures none { silence.old ≡ None → silence.new ≡ None }
         ensures asked { IfSome silence.old (λ silence. silence.was_asked ≡ false → self.new.tunnel.wire ≡ self.old.tunnel.wire) }
         // It is listened to while the session runs, and what is due is done.
-        ensures listens { is_running self.old.tunnel.engine.session.status ≡ true → IfSome silence.old (λ old. IfSome silence.new (λ new. IsListenedTo old new result self.old.tunnel self.new.tunnel)) }
+        ensures listens { is_running self.old.tunnel.engine.session.status ≡ true → IfSome silence.old (λ old. IfSome silence.new (λ new. IsListenedTo pulled old new result self.old.tunnel self.new.tunnel)) }
         ensures same { is_some silence.new ≡ is_some silence.old }
     {
         if self.is_lost() {
             return None;
         }
-        let pulled = self.tunnel.wire().pulled();
         self.hear_first(rt, pulled);
         let Some(silence) = silence else {
             return None;
