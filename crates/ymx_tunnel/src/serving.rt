@@ -131,11 +131,7 @@ fn serve_connection<J: Naming + Send + Sync, R: Threads + Wait + Sync>(
 fn serve_streams<
     J: Naming + Send + Sync,
     R: Net<Stream = TcpStream, Listener = TcpListener> + Threads + Wait + Sync,
->(
-    rt: &R,
-    server: &ServerState<'_, J>,
-    target: SocketAddr,
-) {
+>(rt: &R, server: &ServerState<'_, J>, target: SocketAddr) {
     let Some(mut caller) = server.caller(rt) else {
         return;
     };
