@@ -92,10 +92,11 @@ same_came_back() {
 # without_thread NUMBER: where no thread of this number can be made, the client of the guide says so, its function is not
 # called, and no byte comes to the peer
 without_thread() {
-    rm -f "$scratch/failed"
+    # what an earlier peer has said must not be taken for this one's word
+    rm -f "$scratch/failed" "$scratch/peer.out"
     python3 "$here/peer.py" > "$scratch/peer.out" 2>&1 &
     jobs=$!
-    until grep -q listening "$scratch/peer.out"; do
+    until grep -q listening "$scratch/peer.out" 2> /dev/null; do
         kill -0 "$jobs" 2> /dev/null || fail 'the peer failed' "$scratch/peer.out"
         sleep 0.1
     done
