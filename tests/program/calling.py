@@ -15,7 +15,7 @@ from beside import Peer, swap
 from kept import BYTES, COME, GONE, LOST, SESSIONS, SETTLED, WHOLE
 from kept import connection, finish, is_refused, listen_again, rests, says, show, used
 from raw import ACK, ANY, FIN, NOT_HERE, NOWHERE, PING, SYN, Program, refused
-from raw import accept, break_off, call, frame, free_place, free_places, has_ended, is_cut, leave, listen, take
+from raw import accept, break_off, call, frame, free_place, free_places, has_ended, is_cut, is_cut_at, leave, listen, take
 
 # How much less than the pauses may have gone by, as the clocks of two processes count it.
 EARLY = 0.1
@@ -207,7 +207,7 @@ def a_peer_that_calls_again():
     break_off(peer.connection)
     assert is_cut(user)
     says(program, connection(1, LOST), GONE)
-    assert is_cut(call(users))
+    assert is_cut_at(users)
     says(program, connection(2, "no stream: Lost"))
     peer = Peer(call(place))
     show(peer.connection)
@@ -229,7 +229,7 @@ def a_count_that_ends_without_a_peer():
     users = program.place()
     leave(peer.connection)
     says(program, GONE)
-    assert is_cut(call(users))
+    assert is_cut_at(users)
     assert program.end() == (0, connection(1, "no stream: Lost"))
 
 

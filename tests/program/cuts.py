@@ -226,7 +226,7 @@ def a_user_without_a_session():
     place = program.place()
     threading.Thread(target=program.process.stderr.read, daemon=True).start()
     for turn in range(TIMES):
-        assert raw.is_cut(call(place)), f"{turn}: no reset"
+        assert raw.is_cut_at(place), f"{turn}: no reset"
 
 
 # ---- clean ends

@@ -18,8 +18,8 @@ import time
 import raw
 from beside import Peer, swap
 from raw import ACK, ANY, BAD, FIN, FULL, GONE, PING, RST, SYN, WINDOW, Program, broke, refused
-from raw import accept, break_off, call, frame, free_place, has_ended, is_cut, leave, listen, local, next_frame, preloaded
-from raw import preloads, take
+from raw import accept, break_off, call, frame, free_place, has_ended, is_cut, is_cut_at, leave, listen, local, next_frame
+from raw import preloaded, preloads, take
 from status import get, parse
 
 SESSIONS = 200
@@ -454,7 +454,7 @@ def a_peer_that_comes_again():
     says(program, connection(1, LOST), GONE)
     address = "{}:{}".format(*listener.getsockname())
     listener.close()
-    assert is_cut(call(place))
+    assert is_cut_at(place)
     says(program, refused(address), connection(2, "no stream: Lost"))
     with listen_again(address) as listener:
         users = [call(place)]
@@ -541,7 +541,7 @@ def no_peer_at_first():
     address = free_place()
     program = Program("local", "-v", "--keep", "--listen", ANY, "--peer", address)
     place = program.place()
-    assert is_cut(call(place))
+    assert is_cut_at(place)
     says(program, refused(address), connection(1, "no stream: Lost"))
     with listen_again(address) as listener:
         user = call(place)

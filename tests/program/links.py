@@ -21,7 +21,8 @@ import raw
 from beside import Peer, swap
 from kept import COME, LOST, WHOLE, connection, finish, is_refused, says, show
 from raw import ACK, ANY, BAD, GONE, NOT_HERE, PING, SYN, WINDOW, Program, broke, refused
-from raw import accept, break_off, call, free_place, frame, has_ended, is_cut, leave, listen, preloaded, preloads, take
+from raw import accept, break_off, call, free_place, frame, has_ended, is_cut, is_cut_at, leave, listen, preloaded, preloads
+from raw import take
 
 BYTES = random.Random(11).randbytes(300_000)
 # How long a connection lasts, in seconds, and how much less than that its line may say, as two processes count it.
@@ -263,7 +264,7 @@ def a_peer_that_is_away():
     one.accept(1)
     address = "{}:{}".format(*listener.getsockname())
     listener.close()
-    assert is_cut(call(place))
+    assert is_cut_at(place)
     says(program, refused(address), connection(2, "no stream: Lost"))
     for stream in 3, 5:
         user = call(place)

@@ -16,8 +16,8 @@ import sys
 import time
 
 import raw
-from raw import (ANY, AWAY, DATA, SYN, Program, accept, call, frame, free_place, free_places, has_ended, is_cut, leave, listen,
-                 next_frame, take)
+from raw import (ANY, AWAY, DATA, SYN, Program, accept, call, frame, free_place, free_places, has_ended, is_cut_at, leave,
+                 listen, next_frame, take)
 
 # How many bytes of a request are read at most.
 REQUEST = 8_192
@@ -180,7 +180,7 @@ def counts_the_refused():
     """A user for whom the peer can't be reached is counted as one that got no stream."""
     page = free_place()
     program = Program("local", "-v", "--keep", "--listen", ANY, "--peer", free_place(), "--status", page)
-    assert is_cut(call(program.place()))
+    assert is_cut_at(program.place())
     await_counts(page, connections_begun_total=1)
     samples = counts(page)
     assert samples["ymx_connections_refused_total", "lost"] == 1
@@ -283,7 +283,7 @@ def drains(words=(), remote=(), at_once=8):
     assert get(tunnel.near, "/health")[::2] == (503, "draining\n")
     while True:
         try:
-            assert is_cut(call(tunnel.users))
+            assert is_cut_at(tunnel.users)
         except ConnectionRefusedError:
             break
     assert tunnel.local.process.poll() is None
@@ -438,7 +438,7 @@ def says_go_away(*words):
     peer.sendall(frame(DATA, SYN, 3, 0) + frame(DATA, 0, 1, 5) + b"again")
     assert take(service, 5) == b"again"
     try:
-        assert is_cut(call(bound))
+        assert is_cut_at(bound)
     except ConnectionRefusedError:
         pass
     assert program.process.poll() is None

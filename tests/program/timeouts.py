@@ -13,7 +13,7 @@ import time
 import raw
 from beside import Peer
 from kept import COME, connection, says
-from raw import ANY, Program, accept, break_off, call, is_cut, listen
+from raw import ANY, Program, accept, break_off, call, is_cut, is_cut_at, listen
 
 # How much less may have gone by, as the clocks of two processes count it, and how much more: also on a loaded machine, but
 # less than a call takes where nothing is said.
@@ -80,7 +80,7 @@ def a_user(limit, *words):
     program, place = kept(silent, *words)
     for number in 1, 2:
         began = time.monotonic()
-        assert is_cut(call(place))
+        assert is_cut_at(place)
         passed(began, limit)
         says(program, timed_out(silent.place), connection(number, "no stream: Lost"))
         # Who comes while users are closed is closed with them.
@@ -100,7 +100,7 @@ def many_users():
     # One who comes later has a call of his own.
     time.sleep(ANSWER)
     began = time.monotonic()
-    assert is_cut(call(place))
+    assert is_cut_at(place)
     passed(began, 2)
     says(program, timed_out(silent.place), connection(6, "no stream: Lost"))
 
