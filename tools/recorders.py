@@ -51,21 +51,9 @@ KNOWN = {
         ("ymx_hub/src/hub.rt", "requires unwitnessed { R.WITNESSED ≡ false }"),
         ("ymx_hub/src/hub.rt", "requires witnessed { R.WITNESSED ≡ true }"),
     ],
-    "the pumps of the front door, whose seats are let go: what was kept would be lost": [
-        ("ymx_connect/src/pumping.rt", "requires off { R.KEEPS ≡ false }"),
-        ("ymx_connect/src/running.rt", "requires off { R.KEEPS ≡ false }"),
-        ("ymx_connect/src/running.rt", "requires { (R.KEEPS ≡ false) × IsNewcomer"),
-        ("ymx_connect/src/running.rt", "requires { R.KEEPS ≡ false }"),
-    ],
-    "what a thread has promised is proved of its body": [
-        ("ymx_connect/src/pumping.rt", "ghost kept_by = { λ promise pumped. HasWritten R.WITNESSED"),
-    ],
-    "a caller for a thread, who has the calls of the handle at a seat: their bodies are the same for all": [
-        ("ymx_connect/src/handle.rt", "impl<J: Naming> Handle<Witnessed<J>> {"),
-    ],
-    "the ends of halves with no seat, of a history in proofs: their clauses say what each books": [
-        ("ymx_connect/src/spending.rt", "impl<J: Naming> Writer<Witnessed<J>> {"),
-        ("ymx_connect/src/spending.rt", "impl<J: Naming> Reader<Witnessed<J>> {"),
+    "a transcript is handed out where entries are kept": [
+        ("ymx_hub/src/booked.rt", "requires keeps { R.KEEPS ≡ true }"),
+        ("ymx_hub/src/hub.rt", "requires { R.KEEPS ≡ true }"),
     ],
     "what a half tells of its bytes and its end, where entries are kept: the body is one for all recorders": [
         ("ymx_tunnel/src/halves.rt", text)

@@ -1,4 +1,4 @@
--- How the pumps behind the front door have ended: their gates let them run, and their recorder keeps nothing.
+-- How the pumps behind the front door have ended, whose gates let them run.
 use Rattle.std.proofs.Common.{◌≡◌, ℕ, List, [], Bool, true, false, Option, None, Result, refl, sym, ap, ◌∙◌, subst}
 use Rattle.ymx_model.specs.declared.types.Role.{Role}
 use Rattle.ymx_model.specs.declared.types.Config.{Config}
@@ -19,56 +19,54 @@ use Rattle.ymx_connect.specs.declared.ended.Ended.{Ended}
 use Rattle.ymx_connect.specs.Connecting.{may_end, may_end_writing, IsSpared}
 use Rattle.ymx_connect.specs.Pumping.{HasRead, HasWritten, HasClosed, HasWorked, HaveMet, InOneHistory, InOneHistoryOverTcp}
 
-may_read : (keeps : Bool) (fails failed : ℕ) (remaining : Option (List ℕ)) (why : PumpWhy) → keeps ≡ false →
-    ReadEnd keeps fails failed remaining false why → may_end why ≡ true
-may_read keeps fails failed remaining (Memory refused) k r = sym k ∙ r
-may_read keeps fails failed remaining Gate k r = r
-may_read keeps fails failed remaining NoThread k r = absurd r
-may_read keeps fails failed remaining _ k r = refl
+may_read : (fails failed : ℕ) (remaining : Option (List ℕ)) (why : PumpWhy) → ReadEnd false fails failed remaining false why → may_end why ≡ true
+may_read fails failed remaining (Memory refused) r = r
+may_read fails failed remaining Gate r = r
+may_read fails failed remaining NoThread r = absurd r
+may_read fails failed remaining _ r = refl
 
-may_write : (keeps : Bool) (fails failed : ℕ) (is_ended : Bool) (why : PumpWhy) → keeps ≡ false →
-    WriteEnd keeps fails failed is_ended false why → may_end_writing why ≡ true
-may_write keeps fails failed is_ended (Broken fault) k w = absurd w
-may_write keeps fails failed is_ended (Memory refused) k w = sym k ∙ w
-may_write keeps fails failed is_ended Gate k w = w
-may_write keeps fails failed is_ended NoThread k w = absurd w
-may_write keeps fails failed is_ended _ k w = refl
+may_write : (fails failed : ℕ) (is_ended : Bool) (why : PumpWhy) → WriteEnd false fails failed is_ended false why → may_end_writing why ≡ true
+may_write fails failed is_ended (Broken fault) w = absurd w
+may_write fails failed is_ended (Memory refused) w = w
+may_write fails failed is_ended Gate w = w
+may_write fails failed is_ended NoThread w = absurd w
+may_write fails failed is_ended _ w = refl
 
 -- ---- what the pumps did with their devices
 
--- of a recorder that keeps nothing: what was booked stands in what is left of the seat
+-- what was booked stands in what is left of the seat
 books_left : (old new : SeatView) (Such : List Entry → Type 0) → Books false old new Such → Books false old (record new { entries = []; room = 0 }) Such
 books_left old new Such b = record { number = b.number; start = b.start; gains = tt; extends = b.extends }
 
 shown_left : (old new : SeatView) → IsShown old new → IsShown (record old { entries = []; room = 0 }) (record new { entries = []; room = 0 })
 shown_left old new s = record { rest = ap (λ (v : SeatView). record v { entries = []; room = 0 }) s.rest; grown = s.grown }
 
-pub has_read : (keeps : Bool) (fails failed : ℕ) (before after : Option (List ℕ)) (first last now : SeatView) (moved : ℕ) (why : PumpWhy) → keeps ≡ false → IsNewcomer first.number first.seen →
-    PumpRead keeps before after first last moved why → ReadEnd keeps fails failed after false why → now ≡ record last { entries = []; room = 0 } → HasRead fails failed before after moved why now
-has_read keeps fails failed before after first last now moved why k n r e same = subst (HasRead fails failed before after moved why) (sym same) (record {
-  spared = may_read keeps fails failed after why k e;
-  ended = subst (λ (b : Bool). ReadEnd b fails failed after false why) k e;
+pub has_read : (fails failed : ℕ) (before after : Option (List ℕ)) (first last now : SeatView) (moved : ℕ) (why : PumpWhy) → IsNewcomer first.number first.seen →
+    PumpRead false before after first last moved why → ReadEnd false fails failed after false why → now ≡ record last { entries = []; room = 0 } → HasRead fails failed before after moved why now
+has_read fails failed before after first last now moved why n r e same = subst (HasRead fails failed before after moved why) (sym same) (record {
+  spared = may_read fails failed after why e;
+  ended = e;
   first = first;
   last = record last { entries = []; room = 0 };
   fresh = n;
-  read = left (subst (λ (b : Bool). PumpRead b before after first last moved why) k r);
+  read = left r;
   shown = shown_none (record last { entries = []; room = 0 });
 })
   where
     left : PumpRead false before after first last moved why → PumpRead false before after first (record last { entries = []; room = 0 }) moved why
     left p = record { given = p.given; taken = p.taken; last = p.last; gave = p.gave; parts = p.parts; whole = p.whole; amount = p.amount; booked = books_left first last (ReadAdds first.number p.given p.taken p.last why) p.booked }
 
-pub has_written : (keeps witnessed : Bool) (role : Role) (config : Config) (size fails failed : ℕ) (before after : Option (List ℕ)) (is_ended : Bool) (first last now : SeatView) (moved : ℕ) (why : PumpWhy) → keeps ≡ false → IsNewcomer first.number first.seen →
-    PumpWrote keeps size (has_failed fails failed) before after first last moved why → WriteEnd keeps fails failed is_ended false why → (why ≡ End → EmitsNoMore witnessed role config last.seen) →
-    now ≡ record last { entries = []; room = 0 } → HasWritten witnessed role config fails failed before after is_ended moved why now
-has_written keeps witnessed role config size fails failed before after is_ended first last now moved why k n w e o same = subst (HasWritten witnessed role config fails failed before after is_ended moved why) (sym same) (record {
-  spared = may_write keeps fails failed is_ended why k e;
-  ended = subst (λ (b : Bool). WriteEnd b fails failed is_ended false why) k e;
+pub has_written : (role : Role) (config : Config) (size fails failed : ℕ) (before after : Option (List ℕ)) (is_ended : Bool) (first last now : SeatView) (moved : ℕ) (why : PumpWhy) → IsNewcomer first.number first.seen →
+    PumpWrote false size (has_failed fails failed) before after first last moved why → WriteEnd false fails failed is_ended false why → (why ≡ End → EmitsNoMore true role config last.seen) →
+    now ≡ record last { entries = []; room = 0 } → HasWritten role config fails failed before after is_ended moved why now
+has_written role config size fails failed before after is_ended first last now moved why n w e o same = subst (HasWritten role config fails failed before after is_ended moved why) (sym same) (record {
+  spared = may_write fails failed is_ended why e;
+  ended = e;
   size = size;
   first = first;
   last = record last { entries = []; room = 0 };
   fresh = n;
-  wrote = left (subst (λ (b : Bool). PumpWrote b size (has_failed fails failed) before after first last moved why) k w);
+  wrote = left w;
   out = o;
   shown = shown_none (record last { entries = []; room = 0 });
 })
@@ -80,25 +78,25 @@ has_written keeps witnessed role config size fails failed before after is_ended 
     left p = record { written = p.written; took = p.took; amount = p.amount; booked = shown (WriteAdds size first.number (has_failed fails failed) p.written why) p.booked }
 
 -- neither has ended for want of memory or of a thread
-pub spared_by : (fails failed flaws flawed : ℕ) (before after had has : Option (List ℕ)) (witnessed : Bool) (role : Role) (config : Config) (is_ended : Bool) (ended : Ended) (one other : SeatView) →
-    HasRead fails failed before after ended.read_bytes ended.read one → HasWritten witnessed role config flaws flawed had has is_ended ended.written_bytes ended.written other → IsSpared ended
-spared_by fails failed flaws flawed before after had has witnessed role config is_ended ended one other r w = record { read = r.spared; written = w.spared }
+pub spared_by : (fails failed flaws flawed : ℕ) (before after had has : Option (List ℕ)) (role : Role) (config : Config) (is_ended : Bool) (ended : Ended) (one other : SeatView) →
+    HasRead fails failed before after ended.read_bytes ended.read one → HasWritten role config flaws flawed had has is_ended ended.written_bytes ended.written other → IsSpared ended
+spared_by fails failed flaws flawed before after had has role config is_ended ended one other r w = record { read = r.spared; written = w.spared }
 
 -- ---- one history
 
 pub read_on : (fails failed : ℕ) (before after : Option (List ℕ)) (moved : ℕ) (why : PumpWhy) (now later : SeatView) → HasRead fails failed before after moved why now → IsShown now later → HasRead fails failed before after moved why later
 read_on fails failed before after moved why now later r s = record { spared = r.spared; ended = r.ended; first = r.first; last = r.last; fresh = r.fresh; read = r.read; shown = shown_on r.last now later r.shown s }
 
-pub written_on : (witnessed : Bool) (role : Role) (config : Config) (fails failed : ℕ) (before after : Option (List ℕ)) (is_ended : Bool) (moved : ℕ) (why : PumpWhy) (now later : SeatView) →
-    HasWritten witnessed role config fails failed before after is_ended moved why now → IsShown now later → HasWritten witnessed role config fails failed before after is_ended moved why later
-written_on witnessed role config fails failed before after is_ended moved why now later w s = record { spared = w.spared; ended = w.ended; size = w.size; first = w.first; last = w.last; fresh = w.fresh; wrote = w.wrote; out = w.out; shown = shown_on w.last now later w.shown s }
+pub written_on : (role : Role) (config : Config) (fails failed : ℕ) (before after : Option (List ℕ)) (is_ended : Bool) (moved : ℕ) (why : PumpWhy) (now later : SeatView) →
+    HasWritten role config fails failed before after is_ended moved why now → IsShown now later → HasWritten role config fails failed before after is_ended moved why later
+written_on role config fails failed before after is_ended moved why now later w s = record { spared = w.spared; ended = w.ended; size = w.size; first = w.first; last = w.last; fresh = w.fresh; wrote = w.wrote; out = w.out; shown = shown_on w.last now later w.shown s }
 
 worked_on : (role : Role) (config : Config) (Kept : Option (List Entry) → Type 0) (drained : Result (Unit {0}) Undrained) (now later : SeatView) → HasWorked role config Kept drained now → IsShown now later → HasWorked role config Kept drained later
 worked_on role config Kept drained now later w s = record { caller = w.caller; last = w.last; kept = w.kept; closed = w.closed; shown = shown_on w.last now later w.shown s }
 
 -- a caller closed the session behind its work, and let its seat go
 pub has_worked : (role : Role) (config : Config) (Kept : Option (List Entry) → Type 0) (drained : Result (Unit {0}) Undrained) (session caller last now : SeatView) →
-    Kept session.seen → caller ≡ session → HasClosed true role config caller last drained → now ≡ record last { entries = []; room = 0 } → HasWorked role config Kept drained now
+    Kept session.seen → caller ≡ session → HasClosed role config caller last drained → now ≡ record last { entries = []; room = 0 } → HasWorked role config Kept drained now
 has_worked role config Kept drained session caller last now k e c same = subst (HasWorked role config Kept drained) (sym same) (record {
   caller = caller;
   last = record last { entries = []; room = 0 };
@@ -107,15 +105,15 @@ has_worked role config Kept drained session caller last now k e c same = subst (
   shown = shown_none (record last { entries = []; room = 0 });
 })
 
-pub have_met : (witnessed : Bool) (role : Role) (config : Config) (one other third first second last : SeatView) → IsShown one first → IsShown other second → IsShown third last →
-    (first.seen ≡ second.seen) × (first.seen ≡ last.seen) → IsWitnessed witnessed role config first.seen → HaveMet witnessed role config one other third
-have_met witnessed role config one other third first second last s t u same history = record { first = first; second = second; last = last; shown = (s, t, u); same = same; history = history }
+pub have_met : (role : Role) (config : Config) (one other third first second last : SeatView) → IsShown one first → IsShown other second → IsShown third last →
+    (first.seen ≡ second.seen) × (first.seen ≡ last.seen) → IsWitnessed true role config first.seen → HaveMet role config one other third
+have_met role config one other third first second last s t u same history = record { first = first; second = second; last = last; shown = (s, t, u); same = same; history = history }
 
 -- all three have met: so what they did stands in one history
 pub in_one_history : (role : Role) (config : Config) (Kept : Option (List Entry) → Type 0) (drained : Result (Unit {0}) Undrained) (fails failed flaws flawed : ℕ) (before after had has : Option (List ℕ)) (is_ended : Bool)
     (fed out : ℕ) (read written : PumpWhy) (caller reader writer : SeatView) →
-    HasWorked role config Kept drained caller → HasRead fails failed before after fed read reader → HasWritten true role config flaws flawed had has is_ended out written writer → HaveMet true role config caller reader writer →
-    InOneHistory role config (HasWorked role config Kept drained) (HasRead fails failed before after fed read) (HasWritten true role config flaws flawed had has is_ended out written)
+    HasWorked role config Kept drained caller → HasRead fails failed before after fed read reader → HasWritten role config flaws flawed had has is_ended out written writer → HaveMet role config caller reader writer →
+    InOneHistory role config (HasWorked role config Kept drained) (HasRead fails failed before after fed read) (HasWritten role config flaws flawed had has is_ended out written)
 in_one_history role config Kept drained fails failed flaws flawed before after had has is_ended fed out read written caller reader writer w r o m = record {
   caller = m.first;
   reader = m.second;
@@ -124,16 +122,16 @@ in_one_history role config Kept drained fails failed flaws flawed before after h
   same = m.same;
   worked = worked_on role config Kept drained caller m.first w m.shown.0;
   read = read_on fails failed before after fed read reader m.second r m.shown.1;
-  wrote = written_on true role config flaws flawed had has is_ended out written writer m.last o m.shown.2;
+  wrote = written_on role config flaws flawed had has is_ended out written writer m.last o m.shown.2;
 }
 
 pub over_tcp : (role : Role) (config : Config) (Worked : SeatView → Type 0) (ended : Ended) (reads read_failed writes write_failed : ℕ) (was_shut : Bool) → reads ≡ 0 → writes ≡ 0 →
-    InOneHistory role config Worked (HasRead reads read_failed None None ended.read_bytes ended.read) (HasWritten true role config writes write_failed None None was_shut ended.written_bytes ended.written) →
+    InOneHistory role config Worked (HasRead reads read_failed None None ended.read_bytes ended.read) (HasWritten role config writes write_failed None None was_shut ended.written_bytes ended.written) →
     InOneHistoryOverTcp role config Worked ended
 over_tcp role config Worked ended reads read_failed writes write_failed was_shut r w h = (
   read_failed,
   write_failed,
   was_shut,
-  subst (λ (n : ℕ). InOneHistory role config Worked (HasRead n read_failed None None ended.read_bytes ended.read) (HasWritten true role config 0 write_failed None None was_shut ended.written_bytes ended.written)) r
-      (subst (λ (n : ℕ). InOneHistory role config Worked (HasRead reads read_failed None None ended.read_bytes ended.read) (HasWritten true role config n write_failed None None was_shut ended.written_bytes ended.written)) w h),
+  subst (λ (n : ℕ). InOneHistory role config Worked (HasRead n read_failed None None ended.read_bytes ended.read) (HasWritten role config 0 write_failed None None was_shut ended.written_bytes ended.written)) r
+      (subst (λ (n : ℕ). InOneHistory role config Worked (HasRead reads read_failed None None ended.read_bytes ended.read) (HasWritten role config n write_failed None None was_shut ended.written_bytes ended.written)) w h),
 )

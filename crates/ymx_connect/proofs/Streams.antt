@@ -1,5 +1,5 @@
 -- What reads and writes of a stream add, call after call.
-use Rattle.std.proofs.Common.{◌≡◌, ℕ, ◌+◌, ◌-◌, ◌^◌, ◌<◌, ◌≤◌, inl, inr, min, List, [], ◌∷◌, ◌++◌, length, take, drop, Bool, Ok, Err, arith, refl, sym, ◌∙◌, ap, subst, append-nil, append_assoc, take-append-drop}
+use Rattle.std.proofs.Common.{◌≡◌, ℕ, ◌+◌, ◌-◌, ◌^◌, ◌<◌, ◌≤◌, inl, inr, min, List, [], ◌∷◌, ◌++◌, length, take, drop, Bool, false, Ok, Err, arith, refl, sym, ◌∙◌, ap, subst, append-nil, append_assoc, take-append-drop}
 use Rattle.std.specs.Io.{StartsWith}
 use Rattle.std.proofs.lemmas.List.{length-take-le}
 use Rattle.std.proofs.lemmas.Grind.{common_steps}
@@ -172,65 +172,65 @@ starts_part bytes k more =
     subst (λ (l : List ℕ). StartsWith l (bytes ++ take k more)) (sym whole) (take-append_seam (bytes ++ take k more) (drop k more))
 
 -- So far this was read, and written, and counted, and both halves are of the streams of which they were.
-pub record HasCopied (keeps_reads keeps_writes : Bool) (reader writer reads writes : HalfView) (count : ℕ) : Type 0 where
+pub record HasCopied (reader writer reads writes : HalfView) (count : ℕ) : Type 0 where
   pub bytes : List ℕ
   pub counted : count ≡ min (length bytes) most
   pub from : reads.id ≡ reader.id
   pub to : writes.id ≡ writer.id
-  pub read : Books keeps_reads reader.seat reads.seat (ReadsOn reader.id reader.seat.number bytes)
-  pub written : Books keeps_writes writer.seat writes.seat (WritesOn writer.id writer.seat.number bytes)
+  pub read : Books false reader.seat reads.seat (ReadsOn reader.id reader.seat.number bytes)
+  pub written : Books false writer.seat writes.seat (WritesOn writer.id writer.seat.number bytes)
 
-pub copied_none : (keeps_reads keeps_writes : Bool) (reader writer : HalfView) → HasCopied keeps_reads keeps_writes reader writer reader writer 0
-copied_none kr kw reader writer = record {
+pub copied_none : (reader writer : HalfView) → HasCopied reader writer reader writer 0
+copied_none reader writer = record {
   bytes = [];
   counted = refl;
   from = refl;
   to = refl;
-  read = reads_none kr reader.seat reader.id;
-  written = writes_none kw writer.seat writer.id;
+  read = reads_none false reader.seat reader.id;
+  written = writes_none false writer.seat writer.id;
 }
 
 -- a round more
-pub copied_more : (keeps_reads keeps_writes : Bool) (reader writer reads writes reads_now writes_now : HalfView) (count more size n : ℕ) (buffer piece : List ℕ) (u : Unit {0}) →
-    HasCopied keeps_reads keeps_writes reader writer reads writes count → 0 < n → n ≤ length buffer → piece ≡ take n buffer → more ≡ min (count + n) most →
+pub copied_more : (reader writer reads writes reads_now writes_now : HalfView) (count more size n : ℕ) (buffer piece : List ℕ) (u : Unit {0}) →
+    HasCopied reader writer reads writes count → 0 < n → n ≤ length buffer → piece ≡ take n buffer → more ≡ min (count + n) most →
     reads_now.id ≡ reads.id → writes_now.id ≡ writes.id →
-    Books keeps_reads reads.seat reads_now.seat (ReadTurns reads.id size buffer reads.seat.number (Ok n)) → Books keeps_writes writes.seat writes_now.seat (WriteTurns writes.id piece writes.seat.number (Ok u)) →
-    HasCopied keeps_reads keeps_writes reader writer reads_now writes_now more
-copied_more kr kw reader writer reads writes reads_now writes_now count more size n buffer piece u h some fits e m from to read write = record {
+    Books false reads.seat reads_now.seat (ReadTurns reads.id size buffer reads.seat.number (Ok n)) → Books false writes.seat writes_now.seat (WriteTurns writes.id piece writes.seat.number (Ok u)) →
+    HasCopied reader writer reads_now writes_now more
+copied_more reader writer reads writes reads_now writes_now count more size n buffer piece u h some fits e m from to read write = record {
   bytes = h.bytes ++ take n buffer;
   counted = counts_more h.bytes (take n buffer) count more n h.counted (length-take-le n buffer fits) m;
   from = from ∙ h.from;
   to = to ∙ h.to;
-  read = reads_more kr reader.seat reads.seat reads_now.seat reader.id reads.id size n h.bytes buffer some h.from h.read read;
-  written = subst (λ (l : List ℕ). Books kw writer.seat writes_now.seat (WritesOn writer.id writer.seat.number (h.bytes ++ l))) e (writes_more kw writer.seat writes.seat writes_now.seat writer.id writes.id h.bytes piece u h.to h.written write);
+  read = reads_more false reader.seat reads.seat reads_now.seat reader.id reads.id size n h.bytes buffer some h.from h.read read;
+  written = subst (λ (l : List ℕ). Books false writer.seat writes_now.seat (WritesOn writer.id writer.seat.number (h.bytes ++ l))) e (writes_more false writer.seat writes.seat writes_now.seat writer.id writes.id h.bytes piece u h.to h.written write);
 }
 
 -- the end was read
-pub copied_all : (keeps_reads keeps_writes : Bool) (reader writer reads writes : HalfView) (after : SeatView) (count size n : ℕ) (buffer : List ℕ) →
-    HasCopied keeps_reads keeps_writes reader writer reads writes count → n ≡ 0 → Books keeps_reads reads.seat after (ReadTurns reads.id size buffer reads.seat.number (Ok n)) →
-    Copies keeps_reads keeps_writes reader writer after writes.seat (Ok count)
-copied_all kr kw reader writer reads writes after count size n buffer h none read =
-    (h.bytes, h.counted, (reads_end kr reader.seat reads.seat after reader.id reads.id size n h.bytes buffer none h.from h.read read, h.written))
+pub copied_all : (reader writer reads writes : HalfView) (after : SeatView) (count size n : ℕ) (buffer : List ℕ) →
+    HasCopied reader writer reads writes count → n ≡ 0 → Books false reads.seat after (ReadTurns reads.id size buffer reads.seat.number (Ok n)) →
+    Copies reader writer after writes.seat (Ok count)
+copied_all reader writer reads writes after count size n buffer h none read =
+    (h.bytes, h.counted, (reads_end false reader.seat reads.seat after reader.id reads.id size n h.bytes buffer none h.from h.read read, h.written))
 
 -- a read stopped
-pub copied_until : (keeps_reads keeps_writes : Bool) (reader writer reads writes : HalfView) (after : SeatView) (count size : ℕ) (fault : HubFault) (buffer : List ℕ) →
-    HasCopied keeps_reads keeps_writes reader writer reads writes count → Books keeps_reads reads.seat after (ReadTurns reads.id size buffer reads.seat.number (Err fault)) →
-    Copies keeps_reads keeps_writes reader writer after writes.seat (Err fault)
-copied_until kr kw reader writer reads writes after count size fault buffer h read =
-    inl (h.bytes, (reads_stop kr reader.seat reads.seat after reader.id reads.id size fault h.bytes buffer h.from h.read read, h.written))
+pub copied_until : (reader writer reads writes : HalfView) (after : SeatView) (count size : ℕ) (fault : HubFault) (buffer : List ℕ) →
+    HasCopied reader writer reads writes count → Books false reads.seat after (ReadTurns reads.id size buffer reads.seat.number (Err fault)) →
+    Copies reader writer after writes.seat (Err fault)
+copied_until reader writer reads writes after count size fault buffer h read =
+    inl (h.bytes, (reads_stop false reader.seat reads.seat after reader.id reads.id size fault h.bytes buffer h.from h.read read, h.written))
 
 -- a write stopped
-pub copied_in_part : (keeps_reads keeps_writes : Bool) (reader writer reads writes : HalfView) (after last : SeatView) (count size n : ℕ) (stop : WriteFault) (buffer piece : List ℕ) →
-    HasCopied keeps_reads keeps_writes reader writer reads writes count → 0 < n → piece ≡ take n buffer →
-    Books keeps_reads reads.seat after (ReadTurns reads.id size buffer reads.seat.number (Ok n)) → Books keeps_writes writes.seat last (WriteTurns writes.id piece writes.seat.number (Err stop)) →
-    Copies keeps_reads keeps_writes reader writer after last (Err stop.fault)
-copied_in_part kr kw reader writer reads writes after last count size n stop buffer piece h some e read write =
+pub copied_in_part : (reader writer reads writes : HalfView) (after last : SeatView) (count size n : ℕ) (stop : WriteFault) (buffer piece : List ℕ) →
+    HasCopied reader writer reads writes count → 0 < n → piece ≡ take n buffer →
+    Books false reads.seat after (ReadTurns reads.id size buffer reads.seat.number (Ok n)) → Books false writes.seat last (WriteTurns writes.id piece writes.seat.number (Err stop)) →
+    Copies reader writer after last (Err stop.fault)
+copied_in_part reader writer reads writes after last count size n stop buffer piece h some e read write =
     inr (
       h.bytes ++ take n buffer,
       h.bytes ++ take stop.taken (take n buffer),
       starts_part h.bytes stop.taken (take n buffer),
       (
-        reads_more kr reader.seat reads.seat after reader.id reads.id size n h.bytes buffer some h.from h.read read,
-        subst (λ (l : List ℕ). Books kw writer.seat last (WritesUntil stop.fault writer.id writer.seat.number (h.bytes ++ take stop.taken l))) e (writes_stop kw writer.seat writes.seat last writer.id writes.id h.bytes piece stop h.to h.written write),
+        reads_more false reader.seat reads.seat after reader.id reads.id size n h.bytes buffer some h.from h.read read,
+        subst (λ (l : List ℕ). Books false writer.seat last (WritesUntil stop.fault writer.id writer.seat.number (h.bytes ++ take stop.taken l))) e (writes_stop false writer.seat writes.seat last writer.id writes.id h.bytes piece stop h.to h.written write),
       ),
     )

@@ -1,21 +1,24 @@
 -- What the door says whose session has its history in proofs.
-use Rattle.std.proofs.Common.{◌≡◌, ℕ, List, ◌++◌, Bool, false, Option, Some, None, Ok, sym, ap, subst, ◌∙◌, append_assoc}
+use Rattle.std.proofs.Common.{◌≡◌, ℕ, List, [], ◌∷◌, ◌++◌, true, false, Option, Some, None, Result, Ok, sym, ap, subst, ◌∙◌, append_assoc, append-nil}
+use mathlib.Core.List.{IsPrefix}
 use Rattle.ymx_machine.specs.declared.types.Reply.TheVariants as reply
 use Rattle.ymx_model.specs.declared.types.Role.{Role}
 use Rattle.ymx_model.specs.declared.types.Config.{Config}
 use Rattle.ymx_model.specs.declared.types.Entry.{Entry}
 use Rattle.ymx_session.specs.NewSessions.{new_fault}
 use Rattle.ymx_seats.specs.Views.{SeatView, IsWitnessed}
-use Rattle.ymx_hub.specs.Books.{Books}
+use Rattle.std.specs.Result.{result_and}
+use Rattle.ymx_hub.specs.declared.faults.HubFault.{HubFault}
+use Rattle.ymx_hub.specs.Books.{Books, Grows, Extends, Spends, to_finish}
 use Rattle.ymx_hub.specs.Halves.{HalfView, OpensHalves}
-use Rattle.ymx_hub.specs.Shown.{HasGrown, IsShown}
+use Rattle.ymx_hub.specs.Shown.{HasGrown, IsShown, BooksShown}
 use Rattle.ymx_hub.specs.Turns.{WriteTurns}
 use Rattle.ymx_connect.specs.declared.connect_fault.ConnectFault.{ConnectFault}
 use Rattle.ymx_connect.specs.declared.connect_fault.ConnectFault.TheVariants.{Session, Memory, NoThread}
 use Rattle.ymx_connect.specs.Connecting.{IsConnectFault}
 use Rattle.ymx_connect.specs.Settings.{IsLack}
 use Rattle.ymx_connect.specs.Streams.{ReadsUpTo}
-use Rattle.ymx_connect.specs.Told.{ReadsToEnd, StandsIn, Exchanges}
+use Rattle.ymx_connect.specs.Told.{SeesLast, SeesRelease, ClosesStream, ReadsToEnd, StandsIn, Exchanges}
 
 -- a session was made, and its pumps could not run
 pub lacks_later : (role : Role) (config : Config) (fault : ConnectFault) → new_fault role config ≡ None → IsLack fault → IsConnectFault role config fault
@@ -24,10 +27,10 @@ lacks_later role config (Memory refused) n f = n
 lacks_later role config (NoThread refused) n f = n
 
 -- all reads of a half, up to the end
-pub reads_to_end : (keeps witnessed : Bool) (role : Role) (config : Config) (id : ℕ) (before after : SeatView) (bytes : List ℕ) →
-    Books keeps before after (ReadsUpTo reply.ReadEnd id before.number bytes) → IsWitnessed witnessed role config after.seen →
-    ReadsToEnd keeps witnessed role config bytes
-reads_to_end keeps witnessed role config id before after bytes reads history = record { id = id; before = before; after = after; reads = reads; history = history }
+pub reads_to_end : (role : Role) (config : Config) (id : ℕ) (before after : SeatView) (bytes : List ℕ) →
+    Books false before after (ReadsUpTo reply.ReadEnd id before.number bytes) → IsWitnessed true role config after.seen →
+    ReadsToEnd role config bytes
+reads_to_end role config id before after bytes reads history = record { id = id; before = before; after = after; reads = reads; history = history }
 
 stands : (n : ℕ) (v w : Option (List Entry)) → HasGrown n v w → StandsIn v w
 stands n None None g = tt
@@ -45,16 +48,53 @@ stands_on (Some v) (Some w) (Some x) g h = (g.0 ++ h.0, sym (append_assoc v g.0 
 stands_at : (v w x : Option (List Entry)) → StandsIn v w → x ≡ w → StandsIn v x
 stands_at v w x g e = subst (StandsIn v) (sym e) g
 
--- A stream that was opened, written and read up to the end. The caller met its writing half behind the write, and its reading half
--- behind the reads.
-pub exchanges : (text bytes : List ℕ) (caller opened met last : SeatView) (made : HalfView × HalfView) (wrote wrote_met read read_met : SeatView) (u : Unit {0}) →
+-- what a seat had seen stands in what it has seen behind its own entries
+grows_stands : (n : ℕ) (v added w : List Entry) → Grows n v added w → IsPrefix v w
+grows_stands n v [] w g = ([], append-nil v ∙ sym g)
+grows_stands n v (e ∷ es) w g =
+    let on : IsPrefix ((v ++ g.0) ++ e ∷ []) w = grows_stands n ((v ++ g.0) ++ e ∷ []) es w g.3 in
+    (g.0 ++ (e ∷ on.0), sym (append_assoc v g.0 (e ∷ on.0)) ∙ sym (append_assoc (v ++ g.0) (e ∷ []) on.0) ∙ on.1)
+
+extends_stands : (n : ℕ) (v w : Option (List Entry)) (Such : List Entry → Type 0) → Extends n v w Such → StandsIn v w
+extends_stands n None None Such e = tt
+extends_stands n None (Some w) Such e = absurd e
+extends_stands n (Some v) None Such e = absurd e
+extends_stands n (Some v) (Some w) Such e = grows_stands n v e.0 w e.2
+
+module _ (old new half : SeatView) (Such : List Entry → Type 0) (sees : SeesLast old new half Such) where
+  -- what a half had seen before its last call stands in what the caller has seen then
+  half_stands : StandsIn half.seen new.seen
+  half_stands =
+      let booked : BooksShown false half sees.last Such = sees.booked in
+      stands_at half.seen sees.last.seen new.seen
+      (stands_on half.seen booked.between.seen sees.last.seen
+      (extends_stands half.number half.seen booked.between.seen Such booked.booked.extends)
+      (stands booked.between.number booked.between.seen sees.last.seen booked.shown.grown))
+      sees.seen
+
+  caller_stands : StandsIn old.seen new.seen
+  caller_stands = stands old.number old.seen new.seen sees.shown.grown
+
+-- the caller meets the seat of a half behind its last call
+pub sees_last : (old new half last shown : SeatView) (Such : List Entry → Type 0) → Books false half last Such → IsShown last shown → IsShown old new → new.seen ≡ shown.seen → SeesLast old new half Such
+sees_last old new half last shown Such booked met mine same = record { last = shown; booked = record { between = last; booked = booked; shown = met }; shown = mine; seen = same }
+
+-- both halves make their last call
+pub closes_stream : (role : Role) (config : Config) (old between new : SeatView) (writer reader : HalfView) (finished released answer : Result (Unit {0}) HubFault) →
+    SeesLast old between writer.seat (Spends (to_finish writer.id) writer.id writer.seat.number finished) → SeesRelease role config between new reader released →
+    answer ≡ result_and finished released → ClosesStream role config old new writer reader answer
+closes_stream role config old between new writer reader finished released answer f r a = record { between = between; finished = finished; released = released; finishes = f; releases = r; answered = a }
+
+-- A stream that was opened, written and read up to the end. The caller spent its writing half behind the write, and its reading
+-- half behind the reads.
+pub exchanges : (text bytes : List ℕ) (caller opened met last : SeatView) (made : HalfView × HalfView) (wrote read : SeatView) (u : Unit {0}) (First Next : List Entry → Type 0) →
     Books false caller opened (OpensHalves caller.number (Ok made)) → Books false made.0.seat wrote (WriteTurns made.0.id text made.0.seat.number (Ok u)) →
-    IsShown opened met → IsShown wrote wrote_met → met.seen ≡ wrote_met.seen →
+    SeesLast opened met wrote First →
     Books false made.1.seat read (ReadsUpTo reply.ReadEnd made.1.id made.1.seat.number bytes) →
-    IsShown met last → IsShown read read_met → last.seen ≡ read_met.seen →
+    SeesLast met last read Next →
     Exchanges text bytes last.seen
-exchanges text bytes caller opened met last made wrote wrote_met read read_met u opens writes o w same reads l r equal =
-    let on : StandsIn met.seen last.seen = stands met.number met.seen last.seen l.grown in record {
+exchanges text bytes caller opened met last made wrote read u First Next opens writes first reads next =
+    let on : StandsIn met.seen last.seen = caller_stands met last read Next next in record {
       caller = caller;
       opened = opened;
       writer = made.0;
@@ -65,8 +105,8 @@ exchanges text bytes caller opened met last made wrote wrote_met read read_met u
       writes = writes;
       reads = reads;
       within = (
-        stands_on opened.seen met.seen last.seen (stands opened.number opened.seen met.seen o.grown) on,
-        stands_on wrote.seen met.seen last.seen (stands_at wrote.seen wrote_met.seen met.seen (stands wrote.number wrote.seen wrote_met.seen w.grown) same) on,
-        stands_at read.seen read_met.seen last.seen (stands read.number read.seen read_met.seen r.grown) equal,
+        stands_on opened.seen met.seen last.seen (caller_stands opened met wrote First first) on,
+        stands_on wrote.seen met.seen last.seen (half_stands opened met wrote First first) on,
+        half_stands met last read Next next,
       );
     }

@@ -36,7 +36,7 @@ pub record HasRead (fails failed : ℕ) (before after : Option (List ℕ)) (move
 -- The write pump ran at the seat of a caller that had made no call, until it ended by itself: the writer took what the emissions
 -- gave, and so many bytes. It ended with End only where nothing is due and nothing will be, by the history in the sight of that
 -- seat. The seat has then seen what stands in `now`, perhaps more.
-pub record HasWritten (witnessed : Bool) (role : Role) (config : Config) (fails failed : ℕ) (before after : Option (List ℕ)) (is_ended : Bool) (moved : ℕ) (why : PumpWhy) (now : SeatView) : Type 0 where
+pub record HasWritten (role : Role) (config : Config) (fails failed : ℕ) (before after : Option (List ℕ)) (is_ended : Bool) (moved : ℕ) (why : PumpWhy) (now : SeatView) : Type 0 where
   pub spared : may_end_writing why ≡ true
   pub ended : WriteEnd false fails failed is_ended false why
   pub size : ℕ
@@ -44,17 +44,17 @@ pub record HasWritten (witnessed : Bool) (role : Role) (config : Config) (fails 
   pub last : SeatView
   pub fresh : IsNewcomer first.number first.seen
   pub wrote : PumpWrote false size (has_failed fails failed) before after first last moved why
-  pub out : why ≡ End → EmitsNoMore witnessed role config last.seen
+  pub out : why ≡ End → EmitsNoMore true role config last.seen
   pub shown : IsShown last now
 
 -- A caller that had seen what stands in `first` closed the session, and has then seen what stands in `last`. Before that it had
 -- seen the history, which goes on from there, of a session of which nothing was due; or of which something was due, where it
 -- waited in vain. No want of memory kept it from closing.
-pub record HasClosed (witnessed : Bool) (role : Role) (config : Config) (first last : SeatView) (drained : Result (Unit {0}) Undrained) : Type 0 where
+pub record HasClosed (role : Role) (config : Config) (first last : SeatView) (drained : Result (Unit {0}) Undrained) : Type 0 where
   pub between : SeatView
   pub session : Session
   pub shown : IsShown first between
-  pub history : IsHistoryOf witnessed role config between.seen session
+  pub history : IsHistoryOf true role config between.seen session
   pub due : MatchResult drained (λ _. is_ready session ≡ false) (λ _. is_ready session ≡ true)
   pub told : Result (Unit {0}) HubFault
   pub closed : Books false between last (Asks to_close done_or between.number told)
@@ -66,17 +66,17 @@ pub record HasWorked (role : Role) (config : Config) (Kept : Option (List Entry)
   pub caller : SeatView
   pub last : SeatView
   pub kept : Kept caller.seen
-  pub closed : HasClosed true role config caller last drained
+  pub closed : HasClosed role config caller last drained
   pub shown : IsShown last now
 
--- The whole history so far was shown to three callers, and is that of a session of this role and config, where there is one.
-pub record HaveMet (witnessed : Bool) (role : Role) (config : Config) (one other third : SeatView) : Type 0 where
+-- The whole history so far was shown to three callers, and is that of a session of this role and config.
+pub record HaveMet (role : Role) (config : Config) (one other third : SeatView) : Type 0 where
   pub first : SeatView
   pub second : SeatView
   pub last : SeatView
   pub shown : IsShown one first × IsShown other second × IsShown third last
   pub same : (first.seen ≡ second.seen) × (first.seen ≡ last.seen)
-  pub history : IsWitnessed witnessed role config first.seen
+  pub history : IsWitnessed true role config first.seen
 
 -- One history of a session of this role and config, which replays, and which three callers have seen: who worked, the read pump and
 -- the write pump. So all that they did stands in it.
@@ -95,4 +95,4 @@ pub record InOneHistory (role : Role) (config : Config) (Worked Read Wrote : Sea
 abbrev pub InOneHistoryOverTcp : Role → Config → (Worked : SeatView → Type 0) → Ended → Type 0
 InOneHistoryOverTcp role config Worked ended =
     (read_failed write_failed : ℕ) × (was_shut : Bool)
-    × InOneHistory role config Worked (HasRead 0 read_failed None None ended.read_bytes ended.read) (HasWritten true role config 0 write_failed None None was_shut ended.written_bytes ended.written)
+    × InOneHistory role config Worked (HasRead 0 read_failed None None ended.read_bytes ended.read) (HasWritten role config 0 write_failed None None was_shut ended.written_bytes ended.written)

@@ -1,5 +1,5 @@
 -- What `read_all` and `copy` add to the lists of their seats (this project's own).
-use Rattle.std.specs.Prelude.{◌≡◌, ℕ, ◌-◌, ◌^◌, ◌⊎◌, min, List, [], ◌∷◌, ◌++◌, length, Bool, Result, Ok, Err}
+use Rattle.std.specs.Prelude.{◌≡◌, ℕ, ◌-◌, ◌^◌, ◌⊎◌, min, List, [], ◌∷◌, ◌++◌, length, false, Result, Ok, Err}
 use Rattle.std.specs.Io.{StartsWith}
 use Rattle.ymx_machine.specs.shared.Evidence.{evidence}
 use Rattle.ymx_machine.specs.declared.types.CallFault.{CallFault}
@@ -65,19 +65,19 @@ WritesUntil fault id seat bytes added =
 -- ---- a copy
 
 -- the seats of both halves behind a copy: what was read, by reads that are such, was written, by writes that are such
-abbrev pub BooksCopy : (keeps_reads keeps_writes : Bool) (reader writer : HalfView) (reads writes : SeatView) →
+abbrev pub BooksCopy : (reader writer : HalfView) (reads writes : SeatView) →
     (Read Written : ℕ → ℕ → List Entry → Type 0) → Type 0
-BooksCopy keeps_reads keeps_writes reader writer reads writes Read Written =
-    Books keeps_reads reader.seat reads (Read reader.id reader.seat.number)
-    × Books keeps_writes writer.seat writes (Written writer.id writer.seat.number)
+BooksCopy reader writer reads writes Read Written =
+    Books false reader.seat reads (Read reader.id reader.seat.number)
+    × Books false writer.seat writes (Written writer.id writer.seat.number)
 
 -- Read up to the end, all of it was written, and counted as far as 64 bits go; or the reads stopped, and all that they gave
 -- was written; or the writes stopped, and took a beginning of what the reads gave.
-abbrev pub Copies : (keeps_reads keeps_writes : Bool) (reader writer : HalfView) (reads writes : SeatView) → Result ℕ HubFault → Type 0
-Copies keeps_reads keeps_writes reader writer reads writes (Ok count) =
+abbrev pub Copies : (reader writer : HalfView) (reads writes : SeatView) → Result ℕ HubFault → Type 0
+Copies reader writer reads writes (Ok count) =
     (bytes : List ℕ) × (count ≡ min (length bytes) (2 ^ 64 - 1))
-    × BooksCopy keeps_reads keeps_writes reader writer reads writes (λ id seat. ReadsUpTo reply.ReadEnd id seat bytes) (λ id seat. WritesOn id seat bytes)
-Copies keeps_reads keeps_writes reader writer reads writes (Err fault) =
-    ((bytes : List ℕ) × BooksCopy keeps_reads keeps_writes reader writer reads writes (λ id seat. ReadsUntil fault id seat bytes) (λ id seat. WritesOn id seat bytes))
+    × BooksCopy reader writer reads writes (λ id seat. ReadsUpTo reply.ReadEnd id seat bytes) (λ id seat. WritesOn id seat bytes)
+Copies reader writer reads writes (Err fault) =
+    ((bytes : List ℕ) × BooksCopy reader writer reads writes (λ id seat. ReadsUntil fault id seat bytes) (λ id seat. WritesOn id seat bytes))
     ⊎ ((given : List ℕ) × (taken : List ℕ) × StartsWith given taken
-    × BooksCopy keeps_reads keeps_writes reader writer reads writes (λ id seat. ReadsOn id seat given) (λ id seat. WritesUntil fault id seat taken))
+    × BooksCopy reader writer reads writes (λ id seat. ReadsOn id seat given) (λ id seat. WritesUntil fault id seat taken))

@@ -1,5 +1,6 @@
 -- What the door says whose session has its history in proofs (this project's own).
-use Rattle.std.specs.Prelude.{◌≡◌, ℕ, List, Bool, true, false, Option, Some, None, Result, Ok, Err, IfErr}
+use Rattle.std.specs.Prelude.{◌≡◌, ℕ, List, true, false, Option, Some, None, Result, Ok, IfOk}
+use Rattle.std.specs.Result.{result_and}
 use mathlib.Core.List.{IsPrefix}
 use Rattle.ymx_machine.specs.declared.types.Reply.TheVariants as reply
 use Rattle.ymx_model.specs.declared.types.Role.{Role}
@@ -7,7 +8,8 @@ use Rattle.ymx_model.specs.declared.types.Config.{Config}
 use Rattle.ymx_model.specs.declared.types.Entry.{Entry}
 use Rattle.ymx_seats.specs.Views.{SeatView, IsWitnessed}
 use Rattle.ymx_hub.specs.Books.{Books, Spends, to_finish}
-use Rattle.ymx_hub.specs.Releasing.{Tends}
+use Rattle.ymx_hub.specs.Releasing.{Tends, IsDropped}
+use Rattle.ymx_hub.specs.Shown.{IsShown, BooksShown}
 use Rattle.ymx_hub.specs.declared.faults.HubFault.{HubFault}
 use Rattle.ymx_hub.specs.Halves.{HalfView, OpensHalves}
 use Rattle.ymx_hub.specs.Turns.{WriteTurns}
@@ -15,29 +17,40 @@ use Rattle.ymx_connect.specs.Streams.{ReadsUpTo}
 
 -- ---- what the calls do
 
--- A half made its last call, whose entries are such. Its seat had seen what stands in `old`, and has seen `last` behind the
--- call: the history of a session of this role and config, which replays.
-pub record BooksLast (role : Role) (config : Config) (old : SeatView) (Such : List Entry → Type 0) : Type 0 where
+-- A half made its last call, whose entries are such, and its seat is gone. The caller has seen the whole history behind it: of
+-- its own nothing is new there, and of the half just these entries, behind all that the half had seen.
+pub record SeesLast (old new half : SeatView) (Such : List Entry → Type 0) : Type 0 where
   pub last : SeatView
-  pub booked : Books false old last Such
-  pub history : IsWitnessed true role config last.seen
+  pub booked : BooksShown false half last Such
+  pub shown : IsShown old new
+  pub seen : new.seen ≡ last.seen
 
--- Both halves of a stream made their last call: the writing half was finished, and the reading half released. Where the first
--- was refused, that is answered.
-pub record ClosesStream (role : Role) (config : Config) (writer reader : HalfView) (answer : Result (Unit {0}) HubFault) : Type 0 where
+-- The same of a reading half that was released: nothing of its stream is left that had come.
+pub record SeesRelease (role : Role) (config : Config) (old new : SeatView) (reader : HalfView) (answer : Result (Unit {0}) HubFault) : Type 0 where
+  pub last : SeatView
+  pub booked : BooksShown false reader.seat last (Tends reader.id reader.seat.number)
+  pub dropped : IfOk answer (λ _. IsDropped false true role config reader.id reader.seat last)
+  pub shown : IsShown old new
+  pub seen : new.seen ≡ last.seen
+
+-- Both halves of a stream made their last call: the writing half was finished, and then the reading half released. The first
+-- refusal is answered.
+pub record ClosesStream (role : Role) (config : Config) (old new : SeatView) (writer reader : HalfView) (answer : Result (Unit {0}) HubFault) : Type 0 where
+  pub between : SeatView
   pub finished : Result (Unit {0}) HubFault
-  pub finishes : BooksLast role config writer.seat (Spends (to_finish writer.id) writer.id writer.seat.number finished)
-  pub releases : BooksLast role config reader.seat (Tends reader.id reader.seat.number)
-  pub first : IfErr finished (λ fault. answer ≡ Err fault)
+  pub released : Result (Unit {0}) HubFault
+  pub finishes : SeesLast old between writer.seat (Spends (to_finish writer.id) writer.id writer.seat.number finished)
+  pub releases : SeesRelease role config between new reader released
+  pub answered : answer ≡ result_and finished released
 
--- The reads of one stream at one seat gave these bytes, and then the end, as a recorder has it that keeps, or that witnesses.
--- What the seat has seen then is the history of a session of this role and config, which replays.
-pub record ReadsToEnd (keeps witnessed : Bool) (role : Role) (config : Config) (bytes : List ℕ) : Type 0 where
+-- The reads of one stream at one seat gave these bytes, and then the end. What the seat has seen then is the history of a session
+-- of this role and config.
+pub record ReadsToEnd (role : Role) (config : Config) (bytes : List ℕ) : Type 0 where
   pub id : ℕ
   pub before : SeatView
   pub after : SeatView
-  pub reads : Books keeps before after (ReadsUpTo reply.ReadEnd id before.number bytes)
-  pub history : IsWitnessed witnessed role config after.seen
+  pub reads : Books false before after (ReadsUpTo reply.ReadEnd id before.number bytes)
+  pub history : IsWitnessed true role config after.seen
 
 -- ---- what programs do with one stream
 

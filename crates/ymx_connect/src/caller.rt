@@ -17,15 +17,20 @@ use crate::handle::Handle;
 use crate::spending::discard;
 use std::marker::Model;
 use std::sync::Wait;
-use ymx_hub::{HubFault as StreamFault, Seat, Undrained};
+use ymx_hub::{
+    HubFault as StreamFault, Seat, Undrained, accept_at_seat, open_at_seat, open_with_at_seat,
+};
 use ymx_seats::{Naming, Witnessed};
 
 /// A running session, as one caller sees it: its history stands in proofs. A contract sees the caller's seat, with the history
-/// as it was at its last call. It can't be dropped: `leave` ends it. Each half of a stream is a caller of its own, with a history that it has seen: `meet_writer` and
-/// `meet_reader` show the whole one to both, so that what the half did stands in what the caller has seen.
+/// as it was at its last call. It can't be dropped: `leave` ends it.
+///
+/// Each half of a stream is a caller of its own, with a history that it has seen. Who spends a half (`finish`, `reset`,
+/// `close_reader`, `release`, `close_stream`) has then seen the whole history, in which all stands that the half did; for a
+/// half that goes on, `meet_writer` and `meet_reader` show it to both.
 pub struct Caller<J: Naming> {
-    handle: Handle<Witnessed<J>>,
-    seat: Seat<Witnessed<J>>,
+    handle: Handle<J>,
+    pub(crate) seat: Seat<Witnessed<J>>,
 }
 
 impl<J: Naming> Model for Caller<J> {
@@ -38,14 +43,14 @@ impl<J: Naming> Model for Caller<J> {
 
 impl<J: Naming> Caller<J> {
     /// The caller who has this seat.
-    pub(crate) fn new(handle: Handle<Witnessed<J>>, seat: Seat<Witnessed<J>>) -> Caller<J>
+    pub(crate) fn new(handle: Handle<J>, seat: Seat<Witnessed<J>>) -> Caller<J>
         ensures { result ≡ seat }
     {
         Caller { handle, seat }
     }
 
     /// The session, which threads may share. Each takes a caller of its own by `Handle::caller`.
-    pub fn handle(&self) -> &Handle<Witnessed<J>> {
+    pub fn handle(&self) -> &Handle<J> {
         &self.handle
     }
 
@@ -70,18 +75,18 @@ impl<J: Naming> Caller<J> {
         self.seat.history();
     }
 
-    /// Shows the whole history so far to this caller and to another, as to the seat of a half that was spent: both have then
+    /// Shows the whole history so far to this caller and to another, as to the seat of a half that a copy spent: both have then
     /// seen the same, so what either had seen before stands in one history. It is no event of the session.
     pub fn meet<W: Wait>(&mut self, rt: &W, other: &mut Seat<Witnessed<J>>)
         ensures mine { IsShown self.old self.new }
         ensures theirs { IsShown other.old other.new }
         ensures same { self.new.seen ≡ other.new.seen }
     {
-        self.handle.meet(rt, &mut self.seat, other);
+        self.handle.hub.meet(rt, &mut self.seat, other);
     }
 
     /// `meet`, with a writing half: what was written so far stands in the history that the caller has then seen.
-    pub fn meet_writer<W: Wait>(&mut self, rt: &W, writer: &mut Writer<Witnessed<J>>)
+    pub fn meet_writer<W: Wait>(&mut self, rt: &W, writer: &mut Writer<J>)
         ensures same { writer.new.id ≡ writer.old.id }
         ensures mine { IsShown self.old self.new }
         ensures theirs { IsShown writer.old.seat writer.new.seat }
@@ -91,7 +96,7 @@ impl<J: Naming> Caller<J> {
     }
 
     /// `meet`, with a reading half: what was read so far stands in the history that the caller has then seen.
-    pub fn meet_reader<W: Wait>(&mut self, rt: &W, reader: &mut Reader<Witnessed<J>>)
+    pub fn meet_reader<W: Wait>(&mut self, rt: &W, reader: &mut Reader<J>)
         ensures same { reader.new.id ≡ reader.old.id }
         ensures mine { IsShown self.old self.new }
         ensures theirs { IsShown reader.old.seat reader.new.seat }
@@ -106,14 +111,14 @@ impl<J: Naming> Caller<J> {
     /// are used up, `OpensPending` while 256 own streams are neither acknowledged, reset nor given up, and `TooMany`
     /// while 1,024 streams are there. `Seats` where no two of 4,294,967,295 callers are left, and `Memory` where there is none
     /// for the stream: no stream is opened then.
-    pub fn open<W: Wait>(
-        &mut self,
-        rt: &W,
-    ) -> Result<(Writer<Witnessed<J>>, Reader<Witnessed<J>>), StreamFault>
+    pub fn open<W: Wait>(&mut self, rt: &W) -> Result<(Writer<J>, Reader<J>), StreamFault>
         ensures booked { Books false self.old self.new (OpensHalves self.old.number result) }
         ensures paired { IfOk result (λ made. made.1.id ≡ made.0.id) }
     {
-        self.handle.open_at_seat(rt, &mut self.seat)
+        match open_at_seat(rt, &self.handle.hub, &mut self.seat) {
+            Ok((writer, reader)) => Ok((Writer::new(writer), Reader::new(reader))),
+            Err(fault) => Err(fault),
+        }
     }
 
     /// Opens a stream with these first bytes, and says how many of them were taken: the first 262,144 at most. It is
@@ -122,11 +127,14 @@ impl<J: Naming> Caller<J> {
         &mut self,
         rt: &W,
         bytes: &[u8],
-    ) -> Result<(Writer<Witnessed<J>>, Reader<Witnessed<J>>, usize), StreamFault>
+    ) -> Result<(Writer<J>, Reader<J>, usize), StreamFault>
         ensures booked { Books false self.old self.new (OpensHalvesWith bytes.now self.old.number result) }
         ensures paired { IfOk result (λ made. made.1.id ≡ made.0.id) }
     {
-        self.handle.open_with_at_seat(rt, &mut self.seat, bytes)
+        match open_with_at_seat(rt, &self.handle.hub, &mut self.seat, bytes) {
+            Ok((writer, reader, taken)) => Ok((Writer::new(writer), Reader::new(reader), taken)),
+            Err(fault) => Err(fault),
+        }
     }
 
     /// Waits for a stream that the peer opens, and acknowledges it. `None` once the session is closed, or lost with
@@ -134,14 +142,15 @@ impl<J: Naming> Caller<J> {
     ///
     /// `Seats` where no two of 4,294,967,295 callers are left, and `Memory` where there is none for its halves: no stream is
     /// taken then, and the same call may be made again.
-    pub fn accept<W: Wait>(
-        &mut self,
-        rt: &W,
-    ) -> Result<Option<(Writer<Witnessed<J>>, Reader<Witnessed<J>>)>, StreamFault>
+    pub fn accept<W: Wait>(&mut self, rt: &W) -> Result<Option<(Writer<J>, Reader<J>)>, StreamFault>
         ensures booked { Books false self.old self.new (AcceptsHalves self.old.number result) }
         ensures paired { IfOk result (λ offer. IfSome offer (λ made. made.1.id ≡ made.0.id)) }
     {
-        self.handle.accept_at_seat(rt, &mut self.seat)
+        match accept_at_seat(rt, &self.handle.hub, &mut self.seat) {
+            Ok(Some((writer, reader))) => Ok(Some((Writer::new(writer), Reader::new(reader)))),
+            Ok(None) => Ok(None),
+            Err(fault) => Err(fault),
+        }
     }
 
     /// Asks the peer for a sign of life, waits for it, and returns the ping's number (ping).
@@ -151,7 +160,7 @@ impl<J: Naming> Caller<J> {
         ensures booked { Books false self.old self.new (PingTurns self.old.number result) }
         ensures spares { IsNotMemory result }
     {
-        self.handle.ping_at_seat(rt, &mut self.seat)
+        self.handle.hub.ping(rt, &mut self.seat)
     }
 
     /// Takes no more streams of the peer's (go away). Refused, in this order, with `Closed` and `Lost`.
@@ -159,7 +168,7 @@ impl<J: Naming> Caller<J> {
         ensures booked { Books false self.old self.new (Asks to_go_away done_or self.old.number result) }
         ensures spares { IsNotMemory result }
     {
-        self.handle.go_away_at_seat(rt, &mut self.seat)
+        self.handle.hub.go_away(rt, &mut self.seat)
     }
 
     /// Waits until nothing is due: all that was due was emitted. It is no event of the session. It shows the whole history
@@ -170,7 +179,7 @@ impl<J: Naming> Caller<J> {
         ensures shown { IsShown self.old self.new }
         ensures due { (s : Session) × IsHistoryOf true J.role J.config self.new.seen s × MatchResult result (λ _. is_ready s ≡ false) (λ _. is_ready s ≡ true) }
     {
-        self.handle.drain_at_seat(rt, &mut self.seat)
+        self.handle.hub.drain(rt, &mut self.seat)
     }
 
     /// Closes the session at once, and wakes all who wait: they answer `Closed`. What is not sent is dropped. It is
@@ -179,7 +188,7 @@ impl<J: Naming> Caller<J> {
         ensures booked { Books false self.old self.new (Asks to_close done_or self.old.number result) }
         ensures spares { IsNotMemory result }
     {
-        self.handle.close_at_seat(rt, &mut self.seat)
+        self.handle.hub.close(rt, &mut self.seat)
     }
 
     /// Whether the session goes on: it is neither lost, broken nor closed. It is no event of the session. It shows the whole
@@ -188,11 +197,11 @@ impl<J: Naming> Caller<J> {
         ensures shown { IsShown self.old self.new }
         ensures status { (s : Session) × IsHistoryOf true J.role J.config self.new.seen s × (result ≡ is_running s.status) }
     {
-        self.handle.is_running_at_seat(rt, &mut self.seat)
+        self.handle.hub.is_running(rt, &mut self.seat)
     }
 
     /// Whether a stream of the peer's was rejected here for want of memory.
     pub fn has_lacked_memory<W: Wait>(&self, rt: &W) -> bool {
-        self.handle.has_lacked_memory(rt)
+        self.handle.hub.has_lacked_memory(rt)
     }
 }

@@ -88,7 +88,7 @@ pub fn connect<
 ) -> Result<Connected<T, I, O>, ConnectFault>
     ensures may { IfOk result (λ connected. new_fault role config ≡ None) }
     // The work, both pumps and the close of the session, before which nothing was due or something was in vain, stand in one history.
-    ensures told { IfOk result (λ connected. InOneHistory role (with_first role config) (HasWorked role (with_first role config) (λ seen. K.Keeps work role (with_first role config) seen connected.answer) connected.ended.drained) (HasRead (I.failures reader) (I.failures connected.reader) (I.remaining reader) (I.remaining connected.reader) connected.ended.read_bytes connected.ended.read) (HasWritten true role (with_first role config) (O.failures writer) (O.failures connected.writer) (O.contents writer) (O.contents connected.writer) (O.is_ended connected.writer) connected.ended.written_bytes connected.ended.written)) }
+    ensures told { IfOk result (λ connected. InOneHistory role (with_first role config) (HasWorked role (with_first role config) (λ seen. K.Keeps work role (with_first role config) seen connected.answer) connected.ended.drained) (HasRead (I.failures reader) (I.failures connected.reader) (I.remaining reader) (I.remaining connected.reader) connected.ended.read_bytes connected.ended.read) (HasWritten role (with_first role config) (O.failures writer) (O.failures connected.writer) (O.contents writer) (O.contents connected.writer) (O.is_ended connected.writer) connected.ended.written_bytes connected.ended.written)) }
     ensures spared { IfOk result (λ connected. IsSpared connected.ended) }
     ensures refused { IfErr result (λ fault. IsConnectFault role config fault) }
 {
@@ -120,7 +120,7 @@ fn run_named<
     work: K,
 ) -> Result<Connected<T, I, O>, ConnectFault>
     requires { unnamed ≡ record { role = J.role; config = J.config; table = J.table } }
-    ensures told { IfOk result (λ connected. InOneHistory J.role J.config (HasWorked J.role J.config (λ seen. K.Keeps work J.role J.config seen connected.answer) connected.ended.drained) (HasRead (I.failures reader) (I.failures connected.reader) (I.remaining reader) (I.remaining connected.reader) connected.ended.read_bytes connected.ended.read) (HasWritten true J.role J.config (O.failures writer) (O.failures connected.writer) (O.contents writer) (O.contents connected.writer) (O.is_ended connected.writer) connected.ended.written_bytes connected.ended.written)) }
+    ensures told { IfOk result (λ connected. InOneHistory J.role J.config (HasWorked J.role J.config (λ seen. K.Keeps work J.role J.config seen connected.answer) connected.ended.drained) (HasRead (I.failures reader) (I.failures connected.reader) (I.remaining reader) (I.remaining connected.reader) connected.ended.read_bytes connected.ended.read) (HasWritten J.role J.config (O.failures writer) (O.failures connected.writer) (O.contents writer) (O.contents connected.writer) (O.is_ended connected.writer) connected.ended.written_bytes connected.ended.written)) }
     ensures spared { IfOk result (λ connected. IsSpared connected.ended) }
     ensures refused { IfErr result IsLack }
 {
@@ -149,7 +149,7 @@ fn run_named<
         reader,
         writer,
         buffers,
-        move || -> Worked<Witnessed<J>, T>
+        move || -> Worked<J, T>
             requires { IsSend J.row × IsSync J.row × IsNewcomer caller.number caller.seen }
             ensures { HasWorked J.role J.config (λ seen. K.Keeps work J.role J.config seen result.answer) result.drained result.sight }
         { work_at(rt, hub_lent, handle, caller.into_seat(alloc), work) },
@@ -165,10 +165,10 @@ fn run_named<
 fn work_at<J: Naming + Send + Sync, W: Wait, T: Drop, K: Work<W, T> + Drop>(
     rt: &W,
     hub: &Hub<Witnessed<J>>,
-    handle: Handle<Witnessed<J>>,
+    handle: Handle<J>,
     seat: Seat<Witnessed<J>>,
     work: K,
-) -> Worked<Witnessed<J>, T>
+) -> Worked<J, T>
     requires fresh { IsNewcomer seat.number seat.seen }
     ensures { HasWorked J.role J.config (λ seen. K.Keeps work J.role J.config seen result.answer) result.drained result.sight }
 {

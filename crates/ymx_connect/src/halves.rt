@@ -4,12 +4,11 @@
 //! still goes out; else it is reset, and what is unsent is dropped. A reader that is released is spent only once the
 //! peer's end has come, so nothing of a finished stream is lost.
 
-ghost use Rattle.std.specs.Prelude.{◌≡◌, ◌<◌, ◌≤◌, List, ℕ, length, drop, false, IfOk, IfErr, MatchResult};
+ghost use Rattle.std.specs.Prelude.{◌≡◌, ◌<◌, ◌≤◌, List, ℕ, length, drop, true, false, IfOk, IfErr, MatchResult};
 ghost use Rattle.ymx_machine.specs.declared.types.Reply.TheVariants as reply;
 ghost use Rattle.ymx_seats.specs.Views.{IsWitnessed};
 ghost use Rattle.ymx_hub.specs.Answers.{IsNotMemory};
-ghost use Rattle.ymx_hub.specs.Books.{Books, Spends, Closes, to_finish, to_reset};
-ghost use Rattle.ymx_hub.specs.Releasing.{Tends};
+ghost use Rattle.ymx_hub.specs.Books.{Books};
 ghost use Rattle.ymx_hub.specs.Turns.{ReadTurns, WriteTurns};
 ghost use Rattle.ymx_connect.specs.Streams.{ReadsUpTo, ReadsUntil, Copies};
 ghost use Rattle.ymx_connect.specs.Told.{ReadsToEnd};
@@ -17,24 +16,25 @@ ghost use Rattle.ymx_connect.specs.Told.{ReadsToEnd};
 use std::alloc::Global;
 use std::marker::Model;
 use std::sync::Wait;
-use ymx_hub::{HubFault as StreamFault, ReadHalf, Recorder, Seat, WriteFault, WriteHalf};
+use ymx_hub::{HubFault as StreamFault, ReadHalf, WriteFault, WriteHalf};
+use ymx_seats::{Naming, Witnessed};
 
 /// Bytes that `read_all` reads at once.
 const CHUNK: usize = 4_096;
 
-/// The writing half of a stream. It must be spent, by `finish` or `reset`: it cannot be dropped. A contract sees the id
-/// of its stream and its seat.
-pub struct Writer<R: Recorder> {
-    pub(crate) half: WriteHalf<R>,
+/// The writing half of a stream. It must be spent, by `Caller::finish` or `Caller::reset`: it cannot be dropped. A contract
+/// sees the id of its stream and its seat.
+pub struct Writer<J: Naming> {
+    pub(crate) half: WriteHalf<Witnessed<J>>,
 }
 
-/// The reading half of a stream. It must be spent, by `close` or `release`: it cannot be dropped. A contract sees the id
-/// of its stream and its seat.
-pub struct Reader<R: Recorder> {
-    pub(crate) half: ReadHalf<R>,
+/// The reading half of a stream. It must be spent, by `Caller::release` or `Caller::close_reader`: it cannot be dropped. A
+/// contract sees the id of its stream and its seat.
+pub struct Reader<J: Naming> {
+    pub(crate) half: ReadHalf<Witnessed<J>>,
 }
 
-impl<R: Recorder> Model for Writer<R> {
+impl<J: Naming> Model for Writer<J> {
     ghost use Rattle.ymx_hub.specs.Halves.{HalfView};
 
     ghost Value = { HalfView };
@@ -42,7 +42,7 @@ impl<R: Recorder> Model for Writer<R> {
     ghost view = { λ writer. writer.half };
 }
 
-impl<R: Recorder> Model for Reader<R> {
+impl<J: Naming> Model for Reader<J> {
     ghost use Rattle.ymx_hub.specs.Halves.{HalfView};
 
     ghost Value = { HalfView };
@@ -50,26 +50,26 @@ impl<R: Recorder> Model for Reader<R> {
     ghost view = { λ reader. reader.half };
 }
 
-impl<R: Recorder> Writer<R> {
+impl<J: Naming> Writer<J> {
     /// The writer over a half of a hub.
-    pub fn new(half: WriteHalf<R>) -> Writer<R>
+    pub fn new(half: WriteHalf<Witnessed<J>>) -> Writer<J>
         ensures { result ≡ half }
     {
         Writer { half }
     }
 
-    /// The half of the hub, for a call that takes one.
-    pub fn into_half(self) -> WriteHalf<R>
+    /// The half of the hub, for a call that takes one: a copy, or one that spends it and gives its seat back.
+    pub fn into_half(self) -> WriteHalf<Witnessed<J>>
         ensures { result ≡ self }
     {
         let Writer { half } = self;
         half
     }
 
-    /// What the seat of this half has seen, where the recorder witnesses, is the history of a session of the role and the
-    /// config that the recorder names. It does nothing at run time.
+    /// What the seat of this half has seen is the history of a session of this role and config, which replays. It does nothing
+    /// at run time.
     pub fn history(&self)
-        ensures { IsWitnessed R.WITNESSED R.role R.config self.now.seat.seen }
+        ensures { IsWitnessed true J.role J.config self.now.seat.seen }
     {
         self.half.history();
     }
@@ -80,55 +80,33 @@ impl<R: Recorder> Writer<R> {
     /// while it does. `Memory` where there is none for more than 262,144 unsent bytes.
     pub fn write_all<W: Wait>(&mut self, rt: &W, bytes: &[u8]) -> Result<(), WriteFault>
         ensures same { self.new.id ≡ self.old.id }
-        ensures booked { Books R.KEEPS self.old.seat self.new.seat (WriteTurns self.old.id bytes.now self.old.seat.number result) }
+        ensures booked { Books false self.old.seat self.new.seat (WriteTurns self.old.id bytes.now self.old.seat.number result) }
         ensures within { IfErr result (λ stop. stop.taken ≤ length bytes.now) }
     {
         self.half.write_all(rt, bytes)
     }
-
-    /// `finish`, at the seat of this half, which comes back: half-closes the stream (half-close). The half is spent whatever
-    /// is answered.
-    ///
-    /// Refused with `Closed`, `Reset` and `Lost`. `Memory`, and nothing is done, where there is none for the entries.
-    pub fn finish_at_seat<W: Wait>(self, rt: &W) -> (Seat<R>, Result<(), StreamFault>)
-        ensures booked { Books R.KEEPS self.seat result.0 (Spends (to_finish self.id) self.id self.seat.number result.1) }
-        ensures off { R.KEEPS ≡ false → IsNotMemory result.1 }
-    {
-        self.into_half().finish(rt)
-    }
-
-    /// `reset`, at the seat of this half, which comes back: resets the stream (flags). The half is spent whatever is answered.
-    ///
-    /// Refused with `Closed`, with `Reset` where the peer was first, and with `Lost`. `Memory`, and nothing is done, where
-    /// there is none for the entries.
-    pub fn reset_at_seat<W: Wait>(self, rt: &W) -> (Seat<R>, Result<(), StreamFault>)
-        ensures booked { Books R.KEEPS self.seat result.0 (Spends (to_reset self.id) self.id self.seat.number result.1) }
-        ensures off { R.KEEPS ≡ false → IsNotMemory result.1 }
-    {
-        self.into_half().reset(rt)
-    }
 }
 
-impl<R: Recorder> Reader<R> {
+impl<J: Naming> Reader<J> {
     /// The reader over a half of a hub.
-    pub fn new(half: ReadHalf<R>) -> Reader<R>
+    pub fn new(half: ReadHalf<Witnessed<J>>) -> Reader<J>
         ensures { result ≡ half }
     {
         Reader { half }
     }
 
-    /// The half of the hub, for a call that takes one.
-    pub fn into_half(self) -> ReadHalf<R>
+    /// The half of the hub, for a call that takes one: a copy, or one that spends it and gives its seat back.
+    pub fn into_half(self) -> ReadHalf<Witnessed<J>>
         ensures { result ≡ self }
     {
         let Reader { half } = self;
         half
     }
 
-    /// What the seat of this half has seen, where the recorder witnesses, is the history of a session of the role and the
-    /// config that the recorder names. It does nothing at run time.
+    /// What the seat of this half has seen is the history of a session of this role and config, which replays. It does nothing
+    /// at run time.
     pub fn history(&self)
-        ensures { IsWitnessed R.WITNESSED R.role R.config self.now.seat.seen }
+        ensures { IsWitnessed true J.role J.config self.now.seat.seen }
     {
         self.half.history();
     }
@@ -141,11 +119,11 @@ impl<R: Recorder> Reader<R> {
     pub fn read<W: Wait>(&mut self, rt: &W, buffer: &mut [u8]) -> Result<usize, StreamFault>
         requires { 0 < length buffer.old }
         ensures same { self.new.id ≡ self.old.id }
-        ensures booked { Books R.KEEPS self.old.seat self.new.seat (ReadTurns self.old.id (length buffer.old) buffer.new self.old.seat.number result) }
+        ensures booked { Books false self.old.seat self.new.seat (ReadTurns self.old.id (length buffer.old) buffer.new self.old.seat.number result) }
         ensures within { IfOk result (λ count. count ≤ length buffer.old) }
         ensures length { length buffer.new ≡ length buffer.old }
         ensures rest { MatchResult result (λ count. drop count buffer.new ≡ drop count buffer.old) (λ fault. buffer.new ≡ buffer.old) }
-        ensures off { R.KEEPS ≡ false → IsNotMemory result }
+        ensures spares { IsNotMemory result }
     {
         self.half.read(rt, buffer)
     }
@@ -155,10 +133,10 @@ impl<R: Recorder> Reader<R> {
     #[tactic(auto, using(crate::proofs::Told::reads_to_end))]
     pub fn read_all<W: Wait>(&mut self, rt: &W, alloc: Global) -> Result<Vec<u8>, StreamFault>
         ensures same { self.new.id ≡ self.old.id }
-        ensures all { IfOk result (λ bytes. Books R.KEEPS self.old.seat self.new.seat (ReadsUpTo reply.ReadEnd self.old.id self.old.seat.number bytes.items)) }
-        ensures stopped { IfErr result (λ fault. (bytes : List ℕ) × Books R.KEEPS self.old.seat self.new.seat (ReadsUntil fault self.old.id self.old.seat.number bytes)) }
-        ensures history { IsWitnessed R.WITNESSED R.role R.config self.new.seat.seen }
-        ensures told { IfOk result (λ bytes. ReadsToEnd R.KEEPS R.WITNESSED R.role R.config bytes.items) }
+        ensures all { IfOk result (λ bytes. Books false self.old.seat self.new.seat (ReadsUpTo reply.ReadEnd self.old.id self.old.seat.number bytes.items)) }
+        ensures stopped { IfErr result (λ fault. (bytes : List ℕ) × Books false self.old.seat self.new.seat (ReadsUntil fault self.old.id self.old.seat.number bytes)) }
+        ensures history { IsWitnessed true J.role J.config self.new.seat.seen }
+        ensures told { IfOk result (λ bytes. ReadsToEnd J.role J.config bytes.items) }
     {
         let read = self.read_up(rt, alloc);
         self.half.history();
@@ -171,8 +149,8 @@ impl<R: Recorder> Reader<R> {
     /// The bytes up to the end.
     fn read_up<W: Wait>(&mut self, rt: &W, alloc: Global) -> Result<Vec<u8>, StreamFault>
         ensures same { self.new.id ≡ self.old.id }
-        ensures all { IfOk result (λ bytes. Books R.KEEPS self.old.seat self.new.seat (ReadsUpTo reply.ReadEnd self.old.id self.old.seat.number bytes.items)) }
-        ensures stopped { IfErr result (λ fault. (bytes : List ℕ) × Books R.KEEPS self.old.seat self.new.seat (ReadsUntil fault self.old.id self.old.seat.number bytes)) }
+        ensures all { IfOk result (λ bytes. Books false self.old.seat self.new.seat (ReadsUpTo reply.ReadEnd self.old.id self.old.seat.number bytes.items)) }
+        ensures stopped { IfErr result (λ fault. (bytes : List ℕ) × Books false self.old.seat self.new.seat (ReadsUntil fault self.old.id self.old.seat.number bytes)) }
     {
         let mut buffer = [0; CHUNK];
         let mut bytes = Vec::new(alloc);
@@ -191,37 +169,17 @@ impl<R: Recorder> Reader<R> {
         }
         unreachable!()
     }
-
-    /// `close`, at the seat of this half, which comes back: spends the half, whatever is answered.
-    ///
-    /// Refused with `Closed`, and `Memory` where there is none for the entry, only where the stream is given up.
-    pub fn close_at_seat<W: Wait>(self, rt: &W) -> (Seat<R>, Result<(), StreamFault>)
-        ensures booked { Books R.KEEPS self.seat result.0 (Closes self.id self.seat.number result.1) }
-        ensures off { R.KEEPS ≡ false → IsNotMemory result.1 }
-    {
-        self.into_half().close(rt)
-    }
-
-    /// `release`, at the seat of this half, which comes back: lets the half go, without a wait.
-    ///
-    /// Refused with `Closed`, and `Memory` where there is none for the entries, only where the stream is given up now.
-    pub fn release_at_seat<W: Wait>(self, rt: &W) -> (Seat<R>, Result<(), StreamFault>)
-        ensures booked { Books R.KEEPS self.seat result.0 (Tends self.id self.seat.number) }
-        ensures off { R.KEEPS ≡ false → IsNotMemory result.1 }
-    {
-        self.into_half().release(rt)
-    }
 }
 
 /// Reads up to the end, and writes all that was read, in order: how many bytes, at most the greatest `u64`. A fault of
 /// either half comes when it comes, and what was read and not written is gone then.
-pub fn copy<W: Wait, R: Recorder, S: Recorder>(
+pub fn copy<W: Wait, J: Naming, K: Naming>(
     rt: &W,
-    reader: &mut Reader<R>,
-    writer: &mut Writer<S>,
+    reader: &mut Reader<J>,
+    writer: &mut Writer<K>,
 ) -> Result<u64, StreamFault>
     ensures same { (reader.new.id ≡ reader.old.id) × (writer.new.id ≡ writer.old.id) }
-    ensures copied { Copies R.KEEPS S.KEEPS reader.old writer.old reader.new.seat writer.new.seat result }
+    ensures copied { Copies reader.old writer.old reader.new.seat writer.new.seat result }
 {
     let mut buffer = [0; CHUNK];
     let mut copied = 0u64;

@@ -2,8 +2,8 @@
 //!
 //! `connect_tcp` takes a TCP connection, and `connect` any reader and writer, and the program's `Work`. The history of the
 //! session stands in proofs: it takes no memory, and each call says what it added to it. `Work::run` is given a `Caller`,
-//! which opens and accepts streams. A stream comes as a `Writer` and a `Reader`. Threads of the program's share the session's
-//! `Handle`, and each takes a `Caller` of its own. What `Work` promises of its answer, `connect` promises too.
+//! which opens and accepts streams. A stream comes as a `Writer` and a `Reader`, which the caller spends. Threads of the
+//! program's share the session's `Handle`, and each takes a `Caller` of its own. What `Work` promises of its answer, `connect` promises too.
 //!
 //! What moves bytes between a hub and its devices are pumps, which touch no device under the lock. `write_pump` takes what
 //! the hub emits to a writer, `read_pump` what a reader gives to the hub, and looks at the streams that were released behind
@@ -42,7 +42,6 @@ pub use halves::{Reader, Writer, copy};
 pub use handle::Handle;
 pub use pump_end::{PumpEnd, PumpWhy, SettlerEnd};
 pub use reading::read_pump;
-pub use spending::close_stream;
 pub use starting::RefusedThread;
 pub use tcp::{ConnectionReader, ConnectionWriter};
 pub use work::Work;

@@ -15,10 +15,10 @@ use std::snapshot::Snapshot;
 use std::sync::Wait;
 use std::thread::Promise;
 use ymx_header::FRAME_LENGTH;
-use ymx_hub::{Hub, Recorder, Seat};
+use ymx_hub::{Hub, Seat};
 use ymx_memory::RefusedAllocation;
 use ymx_model::{Inlet, Outlet};
-use ymx_seats::Sight;
+use ymx_seats::{Naming, Sight, Witnessed};
 
 /// Bytes that the read pump reads at once: 13 whole frames of the longest that are sent. With 16 a session would take more
 /// than 600,000 bytes.
@@ -36,7 +36,7 @@ pub(crate) struct Buffer {
 
 /// How the read pump ended, as its thread says, and its reader.
 #[derive(Drop)]
-pub(crate) struct PumpedIn<R: Recorder, I: Drop> {
+pub(crate) struct PumpedIn<J: Naming, I: Drop> {
     /// Its reader, behind what it read.
     pub(crate) reader: I,
     /// Why it ended.
@@ -44,12 +44,12 @@ pub(crate) struct PumpedIn<R: Recorder, I: Drop> {
     /// How many bytes it fed.
     pub(crate) moved: u64,
     /// What its seat has seen.
-    pub(crate) sight: Sight<R>,
+    pub(crate) sight: Sight<Witnessed<J>>,
 }
 
 /// How the write pump ended, as its thread says, and its writer.
 #[derive(Drop)]
-pub(crate) struct PumpedOut<R: Recorder, O: Drop> {
+pub(crate) struct PumpedOut<J: Naming, O: Drop> {
     /// Its writer, behind what it wrote.
     pub(crate) writer: O,
     /// Why it ended.
@@ -57,26 +57,26 @@ pub(crate) struct PumpedOut<R: Recorder, O: Drop> {
     /// How many bytes it wrote.
     pub(crate) moved: u64,
     /// What its seat has seen.
-    pub(crate) sight: Sight<R>,
+    pub(crate) sight: Sight<Witnessed<J>>,
 }
 
-/// What the thread of a read pump promises of this reader, at a hub of this recorder: it is read on from where it was.
+/// What the thread of a read pump promises of this reader, of a session whose history has this name: it is read on from where it was.
 #[derive(Drop)]
-pub(crate) struct ReadsOn<R: Recorder, I> {
+pub(crate) struct ReadsOn<J: Naming, I> {
     before: Snapshot<I>,
-    kind: PhantomData<R>,
+    kind: PhantomData<J>,
 }
 
-/// What the thread of a write pump promises of this writer, at a hub of this recorder: it is written on from where it was.
+/// What the thread of a write pump promises of this writer, of a session whose history has this name: it is written on from where it was.
 #[derive(Drop)]
-pub(crate) struct WritesOn<R: Recorder, O> {
+pub(crate) struct WritesOn<J: Naming, O> {
     before: Snapshot<O>,
-    kind: PhantomData<R>,
+    kind: PhantomData<J>,
 }
 
-impl<R: Recorder, I> ReadsOn<R, I> {
+impl<J: Naming, I> ReadsOn<J, I> {
     /// Of this reader.
-    pub(crate) fn of(reader: &I) -> ReadsOn<R, I>
+    pub(crate) fn of(reader: &I) -> ReadsOn<J, I>
         ensures { result.before.value ≡ reader.now }
     {
         ReadsOn {
@@ -86,9 +86,9 @@ impl<R: Recorder, I> ReadsOn<R, I> {
     }
 }
 
-impl<R: Recorder, O> WritesOn<R, O> {
+impl<J: Naming, O> WritesOn<J, O> {
     /// Of this writer.
-    pub(crate) fn of(writer: &O) -> WritesOn<R, O>
+    pub(crate) fn of(writer: &O) -> WritesOn<J, O>
         ensures { result.before.value ≡ writer.now }
     {
         WritesOn {
@@ -98,16 +98,16 @@ impl<R: Recorder, O> WritesOn<R, O> {
     }
 }
 
-impl<R: Recorder, I: Inlet + Drop> Promise<PumpedIn<R, I>> for ReadsOn<R, I> {
+impl<J: Naming, I: Inlet + Drop> Promise<PumpedIn<J, I>> for ReadsOn<J, I> {
     ghost use Rattle.ymx_connect.specs.Pumping.{HasRead};
 
     ghost kept_by = { λ promise pumped. HasRead (I.failures promise.before.value) (I.failures pumped.reader) (I.remaining promise.before.value) (I.remaining pumped.reader) pumped.moved pumped.why pumped.sight };
 }
 
-impl<R: Recorder, O: Outlet + Drop> Promise<PumpedOut<R, O>> for WritesOn<R, O> {
+impl<J: Naming, O: Outlet + Drop> Promise<PumpedOut<J, O>> for WritesOn<J, O> {
     ghost use Rattle.ymx_connect.specs.Pumping.{HasWritten};
 
-    ghost kept_by = { λ promise pumped. HasWritten R.WITNESSED R.role R.config (O.failures promise.before.value) (O.failures pumped.writer) (O.contents promise.before.value) (O.contents pumped.writer) (O.is_ended pumped.writer) pumped.moved pumped.why pumped.sight };
+    ghost kept_by = { λ promise pumped. HasWritten J.role J.config (O.failures promise.before.value) (O.failures pumped.writer) (O.contents promise.before.value) (O.contents pumped.writer) (O.is_ended pumped.writer) pumped.moved pumped.why pumped.sight };
 }
 
 /// Lets a pump run.
@@ -146,15 +146,14 @@ impl Buffer {
 
 /// Runs the read pump at the first seat, until it ends. Behind each feed it looks at the streams that were released, at the
 /// second.
-pub(crate) fn pump_from_wire<R: Recorder, W: Wait, I: Inlet + Drop>(
+pub(crate) fn pump_from_wire<J: Naming, W: Wait, I: Inlet + Drop>(
     rt: &W,
-    hub: &Hub<R>,
-    seats: (Seat<R>, Seat<R>),
+    hub: &Hub<Witnessed<J>>,
+    seats: (Seat<Witnessed<J>>, Seat<Witnessed<J>>),
     reader: I,
     buffer: Buffer,
-) -> PumpedIn<R, I>
-    requires off { R.KEEPS ≡ false }
-    requires fresh { IsNewcomer seats.0.number seats.0.seen }
+) -> PumpedIn<J, I>
+    requires { IsNewcomer seats.0.number seats.0.seen }
     ensures { HasRead (I.failures reader) (I.failures result.reader) (I.remaining reader) (I.remaining result.reader) result.moved result.why result.sight }
 {
     let Buffer { mut bytes } = buffer;
@@ -186,16 +185,15 @@ pub(crate) fn pump_from_wire<R: Recorder, W: Wait, I: Inlet + Drop>(
 }
 
 /// Runs the write pump at this seat, until it ends.
-pub(crate) fn pump_to_wire<R: Recorder, W: Wait, O: Outlet + Drop>(
+pub(crate) fn pump_to_wire<J: Naming, W: Wait, O: Outlet + Drop>(
     rt: &W,
-    hub: &Hub<R>,
-    seat: Seat<R>,
+    hub: &Hub<Witnessed<J>>,
+    seat: Seat<Witnessed<J>>,
     writer: O,
     buffer: Buffer,
-) -> PumpedOut<R, O>
-    requires off { R.KEEPS ≡ false }
-    requires fresh { IsNewcomer seat.number seat.seen }
-    ensures { HasWritten R.WITNESSED R.role R.config (O.failures writer) (O.failures result.writer) (O.contents writer) (O.contents result.writer) (O.is_ended result.writer) result.moved result.why result.sight }
+) -> PumpedOut<J, O>
+    requires { IsNewcomer seat.number seat.seen }
+    ensures { HasWritten J.role J.config (O.failures writer) (O.failures result.writer) (O.contents writer) (O.contents result.writer) (O.is_ended result.writer) result.moved result.why result.sight }
 {
     let Buffer { mut bytes } = buffer;
     let mut writer = writer;

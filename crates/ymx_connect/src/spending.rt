@@ -1,28 +1,29 @@
-//! How the halves of a stream are spent, of a session whose history stands in proofs.
+//! How a caller spends the halves of a stream. What a half did stands in the history that the caller has then seen.
 
-ghost use Rattle.std.specs.Prelude.{◌≡◌, true, false};
+ghost use Rattle.std.specs.Prelude.{◌≡◌};
 ghost use Rattle.ymx_hub.specs.Answers.{IsNotMemory};
 ghost use Rattle.ymx_hub.specs.Books.{Spends, Closes, to_finish, to_reset};
-ghost use Rattle.ymx_hub.specs.Releasing.{Tends};
-ghost use Rattle.ymx_connect.specs.Told.{BooksLast, ClosesStream};
+ghost use Rattle.ymx_connect.specs.Told.{SeesLast, SeesRelease, ClosesStream};
 
+use crate::caller::Caller;
 use crate::halves::{Reader, Writer};
 use std::sync::Wait;
 use ymx_hub::HubFault as StreamFault;
-use ymx_seats::{Naming, Recorder, Seat, Witnessed};
+use ymx_seats::{Naming, Recorder, Seat};
 
-impl<J: Naming> Writer<Witnessed<J>> {
+impl<J: Naming> Caller<J> {
     /// Half-closes the stream (half-close): the peer reads what was written, and then the end. The half is spent
     /// whatever is answered.
     ///
     /// Refused with `Closed`, `Reset` and `Lost`.
-    pub fn finish<W: Wait>(self, rt: &W) -> Result<(), StreamFault>
-        ensures booked { BooksLast J.role J.config self.seat (Spends (to_finish self.id) self.id self.seat.number result) }
+    #[tactic(auto, using(crate::proofs::Told::sees_last))]
+    pub fn finish<W: Wait>(&mut self, rt: &W, writer: Writer<J>) -> Result<(), StreamFault>
+        ensures booked { SeesLast self.old self.new writer.seat (Spends (to_finish writer.id) writer.id writer.seat.number result) }
         ensures spares { IsNotMemory result }
     {
-        let (seat, finished) = self.finish_at_seat(rt);
-        seat.history();
-        discard(seat);
+        let (mut last, finished) = writer.into_half().finish(rt);
+        self.meet(rt, &mut last);
+        discard(last);
         finished
     }
 
@@ -30,62 +31,63 @@ impl<J: Naming> Writer<Witnessed<J>> {
     /// spent whatever is answered.
     ///
     /// Refused with `Closed`, with `Reset` where the peer was first, and with `Lost`.
-    pub fn reset<W: Wait>(self, rt: &W) -> Result<(), StreamFault>
-        ensures booked { BooksLast J.role J.config self.seat (Spends (to_reset self.id) self.id self.seat.number result) }
+    #[tactic(auto, using(crate::proofs::Told::sees_last))]
+    pub fn reset<W: Wait>(&mut self, rt: &W, writer: Writer<J>) -> Result<(), StreamFault>
+        ensures booked { SeesLast self.old self.new writer.seat (Spends (to_reset writer.id) writer.id writer.seat.number result) }
         ensures spares { IsNotMemory result }
     {
-        let (seat, was_reset) = self.reset_at_seat(rt);
-        seat.history();
-        discard(seat);
+        let (mut last, was_reset) = writer.into_half().reset(rt);
+        self.meet(rt, &mut last);
+        discard(last);
         was_reset
     }
-}
 
-impl<J: Naming> Reader<Witnessed<J>> {
-    /// Spends the half, whatever is answered. If the writing half was spent, the stream is given up, and unread bytes
-    /// are dropped.
+    /// Spends the reading half of a stream, whatever is answered. If its writing half was spent, the stream is given up, and
+    /// unread bytes are dropped.
     ///
     /// Refused with `Closed`, only where the stream is given up.
-    pub fn close<W: Wait>(self, rt: &W) -> Result<(), StreamFault>
-        ensures booked { BooksLast J.role J.config self.seat (Closes self.id self.seat.number result) }
+    #[tactic(auto, using(crate::proofs::Told::sees_last))]
+    pub fn close_reader<W: Wait>(&mut self, rt: &W, reader: Reader<J>) -> Result<(), StreamFault>
+        ensures booked { SeesLast self.old self.new reader.seat (Closes reader.id reader.seat.number result) }
         ensures spares { IsNotMemory result }
     {
-        let (seat, closed) = self.close_at_seat(rt);
-        seat.history();
-        discard(seat);
+        let (mut last, closed) = reader.into_half().close(rt);
+        self.meet(rt, &mut last);
+        discard(last);
         closed
     }
 
-    /// Lets the half go, without a wait: what comes of the stream is dropped, so that the peer gets its credit back, and
-    /// the half is spent by itself once the peer's end is there, the stream was reset or the session is lost. Until then
-    /// a stream that was finished keeps what is unsent, and is one of the 1,024.
+    /// Lets the reading half of a stream go, without a wait: what comes of the stream is dropped, so that the peer gets its
+    /// credit back, and the half is spent by itself once the peer's end is there, the stream was reset or the session is
+    /// lost. Until then a stream that was finished keeps what is unsent, and is one of the 1,024.
     ///
     /// Refused with `Closed`, only where the stream is given up now.
-    pub fn release<W: Wait>(self, rt: &W) -> Result<(), StreamFault>
-        ensures booked { BooksLast J.role J.config self.seat (Tends self.id self.seat.number) }
+    pub fn release<W: Wait>(&mut self, rt: &W, reader: Reader<J>) -> Result<(), StreamFault>
+        ensures booked { SeesRelease J.role J.config self.old self.new reader result }
         ensures spares { IsNotMemory result }
     {
-        let (seat, released) = self.release_at_seat(rt);
-        seat.history();
-        discard(seat);
+        let (last, released) = reader.into_half().release(rt, &mut self.seat);
+        discard(last);
         released
     }
-}
 
-/// Half-closes the stream, and releases its reading half: what was written still arrives, what comes is dropped, and the
-/// stream is given up by itself once the peer's end is there. It doesn't wait for that. Answers the first refusal, of `finish`
-/// or of `release`.
-pub fn close_stream<J: Naming, W: Wait>(
-    rt: &W,
-    writer: Writer<Witnessed<J>>,
-    reader: Reader<Witnessed<J>>,
-) -> Result<(), StreamFault>
-    ensures booked { ClosesStream J.role J.config writer reader result }
-    ensures spares { IsNotMemory result }
-{
-    let finished = writer.finish(rt);
-    let released = reader.release(rt);
-    finished.and(released)
+    /// Half-closes the stream, and releases its reading half: what was written still arrives, what comes is dropped, and the
+    /// stream is given up by itself once the peer's end is there. It doesn't wait for that. Answers the first refusal, of
+    /// `finish` or of `release`.
+    #[tactic(auto, using(crate::proofs::Told::closes_stream))]
+    pub fn close_stream<W: Wait>(
+        &mut self,
+        rt: &W,
+        writer: Writer<J>,
+        reader: Reader<J>,
+    ) -> Result<(), StreamFault>
+        ensures booked { ClosesStream J.role J.config self.old self.new writer reader result }
+        ensures spares { IsNotMemory result }
+    {
+        let finished = self.finish(rt, writer);
+        let released = self.release(rt, reader);
+        finished.and(released)
+    }
 }
 
 /// Lets a seat go, with its entries.

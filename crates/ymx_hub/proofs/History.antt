@@ -1,5 +1,5 @@
 -- One more entry keeps the history.
-use Rattle.std.proofs.Common.{◌≡◌, ℕ, ◌+◌, List, [], ◌∷◌, ◌++◌, length, Bool, true, false, refl, sym, subst, ◌∙◌, append-nil, arith}
+use Rattle.std.proofs.Common.{◌≡◌, ℕ, ◌+◌, List, [], ◌∷◌, ◌++◌, length, ◌⊎◌, inl, inr, Bool, true, false, refl, sym, subst, ◌∙◌, append-nil, arith}
 use Rattle.ymx_model.specs.session.Events.{Event}
 use Rattle.ymx_machine.specs.shared.Events.{Reply}
 use Rattle.ymx_model.specs.declared.types.Entry.{Entry}
@@ -10,7 +10,11 @@ use Rattle.ymx_model.specs.session.Emissions.{in_turn}
 use Rattle.ymx_model.specs.session.Histories.{Gives, ReplaysFrom}
 use Rattle.ymx_seats.specs.Transcripts.{IsNew, IsGood, IsReplayable}
 use Rattle.ymx_seats.specs.Views.{kept_entries, entry}
+use Rattle.ymx_machine.specs.declared.types.CallFault.TheVariants.{Closed}
+use Rattle.ymx_hub.specs.Answers.{IsSeatFault, refused_seat}
 use Rattle.ymx_hub.specs.Booked.{Kept}
+use Rattle.ymx_hub.specs.declared.faults.HubFault.{HubFault}
+use Rattle.ymx_hub.specs.declared.faults.HubFault.TheVariants.{Call, Seats}
 
 pub replays_more : (at : ℕ) (es : List Entry) (e : Entry) (s t u : Session) → ReplaysFrom in_turn at es s t → e.position ≡ at + length es → Gives in_turn t e.event e.reply u → ReplaysFrom in_turn at (es ++ e ∷ []) s u
 replays_more at [] e s t u r p h = (omega (arith, p), (u, subst (λ (v : Session). Gives in_turn v e.event e.reply u) r h, refl))
@@ -22,12 +26,12 @@ of_new s n = subst (λ (z : Session). z ≡ new_session z.role z.table.window z.
 
 pub kept_new : (keeps : Bool) (role : Role) (config : Config) (es : List Entry) (s : Session) → IsNew s → es ≡ [] → role ≡ s.role → config.window ≡ s.table.window → config.first ≡ s.next → Kept keeps false role config es s
 kept_new true role config es s n e r w f = rw (e, r, w, f) (of_new s n)
-kept_new false role config es s n e r w f = e
+kept_new false role config es s n e r w f = (e, refl)
 
 pub kept_after : (keeps over : Bool) (role : Role) (config : Config) (es : List Entry) (s t : Session) (n : ℕ) (a : Event) (r : Reply) → Kept keeps over role config es s → Gives in_turn s a r t → Kept keeps over role config (es ++ kept_entries keeps (entry (length es) n a r)) t
 kept_after true true role config es s t n a r k h = tt
 kept_after true false role config es s t n a r k h = replays_more 0 es (entry (length es) n a r) (new_session role config.window config.first) s t k (omega arith) h
-kept_after false over role config es s t n a r k h = append-nil es ∙ k
+kept_after false over role config es s t n a r k h = (append-nil es ∙ k.0, k.1)
 
 pub kept_twice : (keeps over : Bool) (role : Role) (config : Config) (es mid last : List Entry) (s t u : Session) (n : ℕ) (a : Event) (r : Reply) (m : ℕ) (b : Event) (q : Reply) → Kept keeps over role config es s → Gives in_turn s a r t → mid ≡ es ++ kept_entries keeps (entry (length es) n a r) → Gives in_turn t b q u → last ≡ mid ++ kept_entries keeps (entry (length mid) m b q) → Kept keeps over role config last u
 kept_twice keeps over role config es mid last s t u n a r m b q k g e h d =
@@ -46,9 +50,17 @@ no_entries role config es e g = record {
 pub kept_replays : (keeps over : Bool) (role : Role) (config : Config) (es : List Entry) (s : Session) → Kept keeps over role config es s → over ≡ false → IsGood role config → IsReplayable (record { role = role; config = config; entries = es })
 kept_replays true true role config es s k o g = cc
 kept_replays true false role config es s k o g = record { good = g; session = s; history = k }
-kept_replays false over role config es s k o g = no_entries role config es k g
+kept_replays false over role config es s k o g = no_entries role config es k.0 g
 
 -- once the entries are moved out, none are kept
-pub kept_none : (keeps : Bool) (role : Role) (config : Config) (es : List Entry) (s : Session) → es ≡ [] → Kept keeps true role config es s
-kept_none true role config es s e = tt
-kept_none false role config es s e = e
+pub kept_none : (keeps : Bool) (role : Role) (config : Config) (es : List Entry) (s : Session) → keeps ≡ true → Kept keeps true role config es s
+kept_none true role config es s k = tt
+kept_none false role config es s k = cc
+
+-- no seat is left, as no transcript is handed out where nothing is kept
+pub no_seat : (keeps over : Bool) (role : Role) (config : Config) (es : List Entry) (s : Session) (fault : HubFault) → Kept keeps over role config es s →
+    ((fault ≡ Call Closed) × (over ≡ true)) ⊎ (fault ≡ Seats refused_seat) → IsSeatFault keeps fault
+no_seat true over role config es s fault k (inl closed) = inl closed.0
+no_seat true over role config es s fault k (inr none) = inr none
+no_seat false over role config es s fault k (inl closed) = cc
+no_seat false over role config es s fault k (inr none) = none

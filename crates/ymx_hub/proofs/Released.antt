@@ -1,9 +1,10 @@
 -- What is booked of streams that were released.
 use Rattle.std.proofs.Common.{◌≡◌, ◌⊎◌, ◌<◌, ◌≤◌, ◌+◌, length, arith, Some, ℕ, List, [], ◌∷◌, ◌++◌, ◌==◌, ◌-◌, if◌then◌else◌, nat_eq, Bool, true, false, Result, Ok, Err, refl, sym, ap, subst, ◌∙◌, inl, inr, append_assoc, append-nil}
-use Rattle.std.specs.Prelude.{slice_get, IfOk}
+use Rattle.std.specs.Prelude.{slice_get, get_or, cond, IfOk}
 use Rattle.std.specs.List.{list_any}
 use Rattle.std.proofs.lemmas.Bool.Decides.{nat_tests}
-use Rattle.std.proofs.lemmas.Option.{slice_get_within}
+use Rattle.std.proofs.lemmas.Option.{slice_get_within, get_or_from_slice_get}
+use Rattle.std.proofs.lemmas.List.Folds.{list_any_at}
 use Rattle.indexmap.specs.IndexMap.{swap_remove_by}
 use Rattle.ymx_model.specs.session.Sessions.{Session}
 use Rattle.ymx_memory.specs.declared.refused.RefusedAllocation.{RefusedAllocation}
@@ -11,6 +12,8 @@ use Rattle.ymx_machine.specs.shared.Evidence.{evidence}
 use Rattle.ymx_machine.specs.shared.Events.{Reply}
 use Rattle.ymx_machine.specs.declared.types.Reply.TheVariants as reply
 use Rattle.ymx_model.specs.declared.types.Entry.{Entry}
+use Rattle.ymx_model.specs.declared.types.Role.{Role}
+use Rattle.ymx_model.specs.declared.types.Config.{Config}
 use Rattle.ymx_model.specs.declared.types.Got.{Got}
 use Rattle.ymx_model.specs.declared.types.Got.TheVariants as got
 use Rattle.ymx_session.specs.Replies.{read_or, done_or}
@@ -23,7 +26,9 @@ use Rattle.ymx_hub.specs.Booked.{BookedView, without, is_half_spent, spent}
 use Rattle.ymx_hub.specs.Books.{Books, One, Asks, Closes, Forgets, to_read, to_forget}
 use Rattle.ymx_hub.specs.Steps.{Steps, StepsAsked, StepsClosed}
 use Rattle.ymx_hub.specs.Turns.{EndsIn}
-use Rattle.ymx_hub.specs.Releasing.{AreReads, FindsEnd, ReadsUp, Tends, joined, AllTend, Settles, Waits, AllWait, SpentAlike, all_without, all_spent, Leaves, LeavesOne, LeavesSome}
+use Rattle.ymx_hub.specs.Shown.{BooksShown, IsShown}
+use Rattle.ymx_hub.specs.WholeHistories.{IsHistoryOf}
+use Rattle.ymx_hub.specs.Releasing.{AreReads, FindsEnd, ReadsUp, ReadsOut, Tends, joined, AllTend, Settles, SettlesAmong, IsAmong, AllAmong, Waits, AllWait, IsDropped, SpentAlike, all_without, all_spent, Leaves, LeavesOne, LeavesSome}
 use Rattle.ymx_hub.proofs.Books.{books_same, books_at, books_weaker}
 
 reads_append : (id seat : ℕ) (es ds : List Entry) → AreReads id seat es → AreReads id seat ds → AreReads id seat (es ++ ds)
@@ -80,9 +85,6 @@ module _ (keeps : Bool) (old mid new : SeatView) (id size : ℕ) (buffer : List 
         ends_behind FindsEnd es ds (one_ends FindsEnd id size old.number (reply.Refused some.0) ds some.2 (inr (some.0, refl))),
       )
 
-reads_tend : (id seat : ℕ) (es : List Entry) → AreReads id seat es → Tends id seat es
-reads_tend id seat es r = (es, [], sym (append-nil es), r, inl refl)
-
 -- nothing more has come, and more may
 pub reads_stop : (keeps : Bool) (old new : SeatView) (id : ℕ) → Books keeps old new (AreReads id old.number) → Books keeps old new (ReadsUp id old.number (Ok false))
 reads_stop keeps old new id h = books_weaker keeps old new (AreReads id old.number) (ReadsUp id old.number (Ok false)) (λ es r. r) h
@@ -92,10 +94,10 @@ pub reads_lack : (keeps : Bool) (old new : SeatView) (id : ℕ) (refused : Refus
 reads_lack keeps old new id refused h = books_weaker keeps old new (AreReads id old.number) (ReadsUp id old.number (Err refused)) (λ es r. r) h
 
 pub lack_tends : (keeps : Bool) (old new : SeatView) (id : ℕ) (refused : RefusedAllocation) → Books keeps old new (ReadsUp id old.number (Err refused)) → Books keeps old new (Tends id old.number)
-lack_tends keeps old new id refused h = books_weaker keeps old new (ReadsUp id old.number (Err refused)) (Tends id old.number) (λ es r. reads_tend id old.number es r) h
+lack_tends keeps old new id refused h = books_weaker keeps old new (ReadsUp id old.number (Err refused)) (Tends id old.number) (λ es r. inl r) h
 
 pub stop_tends : (keeps : Bool) (old new : SeatView) (id : ℕ) → Books keeps old new (ReadsUp id old.number (Ok false)) → Books keeps old new (Tends id old.number)
-stop_tends keeps old new id h = books_weaker keeps old new (ReadsUp id old.number (Ok false)) (Tends id old.number) (λ es r. reads_tend id old.number es r) h
+stop_tends keeps old new id h = books_weaker keeps old new (ReadsUp id old.number (Ok false)) (Tends id old.number) (λ es r. inl r) h
 
 closed_forgets : (id seat : ℕ) (result : Result (Unit {0}) HubFault) (ds : List Entry) → Closes id seat result ds → Forgets id seat ds
 closed_forgets id seat (Ok u) ds (inl none) = inl none
@@ -104,14 +106,17 @@ closed_forgets id seat (Err fault) ds (inl none) = inl none.1
 closed_forgets id seat (Err fault) ds (inr some) = inr (done_or {A = Unit {0}} (Err some.0), some.2)
 
 -- nothing more comes, and the half is spent
+pub reads_out : (keeps : Bool) (old mid new : SeatView) (id : ℕ) (result : Result (Unit {0}) HubFault) → Books keeps old mid (ReadsUp id old.number (Ok true)) → Books keeps mid new (Closes id mid.number result) → Books keeps old new (ReadsOut id old.number)
+reads_out keeps old mid new id result g h =
+    books_at keeps old mid new (ReadsUp id old.number (Ok true)) (λ n. Closes id n result) (ReadsOut id old.number)
+    (λ es ds r c. (es, ds, refl, r.0, r.1, closed_forgets id old.number result ds c)) g h
+
 pub tends_end : (keeps : Bool) (old mid new : SeatView) (id : ℕ) (result : Result (Unit {0}) HubFault) → Books keeps old mid (ReadsUp id old.number (Ok true)) → Books keeps mid new (Closes id mid.number result) → Books keeps old new (Tends id old.number)
-tends_end keeps old mid new id result g h =
-    books_at keeps old mid new (ReadsUp id old.number (Ok true)) (λ n. Closes id n result) (Tends id old.number)
-    (λ es ds r c. (es, ds, refl, r.0, inr (r.1, closed_forgets id old.number result ds c))) g h
+tends_end keeps old mid new id result g h = books_weaker keeps old new (ReadsOut id old.number) (Tends id old.number) (λ es r. inr r) (reads_out keeps old mid new id result g h)
 
 -- nothing is done
 pub tends_none : (keeps : Bool) (seat : SeatView) (id : ℕ) → Books keeps seat seat (Tends id seat.number)
-tends_none keeps seat id = books_same keeps seat (Tends id seat.number) ([], [], refl, tt, inl refl)
+tends_none keeps seat id = books_same keeps seat (Tends id seat.number) (inl tt)
 
 -- ---- some streams
 
@@ -123,19 +128,29 @@ all_append : (seat : ℕ) (ps qs : List (ℕ × List Entry)) → AllTend seat ps
 all_append seat [] qs a b = b
 all_append seat (p ∷ ps) qs a b = (a.0, all_append seat ps qs a.1 b)
 
+among_append : (ids : List ℕ) (ps qs : List (ℕ × List Entry)) → AllAmong ids ps → AllAmong ids qs → AllAmong ids (ps ++ qs)
+among_append ids [] qs a b = b
+among_append ids (p ∷ ps) qs a b = (a.0, among_append ids ps qs a.1 b)
+
+-- those that are among these are among others that have them all
+among_others : (ids others : List ℕ) (ps : List (ℕ × List Entry)) → ((id : ℕ) → IsAmong ids id → IsAmong others id) → AllAmong ids ps → AllAmong others ps
+among_others ids others [] f a = tt
+among_others ids others (p ∷ ps) f a = (f p.0 a.0, among_others ids others ps f a.1)
+
+-- the stream at a place is among them
+among_at : (ids : List ℕ) (at id : ℕ) → slice_get ids at ≡ Some id → IsAmong ids id
+among_at ids at id e =
+    let within : at < length ids = slice_get_within ids at id e in
+    let there : get_or ids at id ≡ id = get_or_from_slice_get ids at id id e in
+    list_any_at (nat_eq id) ids at id within (ap (nat_eq id) there ∙ same id)
+  where
+    same : (n : ℕ) → nat_eq n n ≡ true
+    same n = grind (arith, nat_tests)
+
 pub settles_none : (keeps : Bool) (seat : SeatView) → Books keeps seat seat (Settles seat.number)
 settles_none keeps seat = books_same keeps seat (Settles seat.number) ([], refl, tt)
 
-pub settles_on : (keeps : Bool) (old mid new : SeatView) (id : ℕ) → Books keeps old mid (Settles old.number) → Books keeps mid new (Tends id mid.number) → Books keeps old new (Settles old.number)
-settles_on keeps old mid new id g h =
-    books_at keeps old mid new (Settles old.number) (λ n. Tends id n) (Settles old.number)
-    (λ es ds s t. (
-      s.0 ++ (id, ds) ∷ [],
-      ap (λ xs. xs ++ ds) s.1 ∙ ap (λ ys. joined s.0 ++ ys) (sym (append-nil ds)) ∙ sym (joined_append s.0 ((id, ds) ∷ [])),
-      all_append old.number s.0 ((id, ds) ∷ []) s.2 (t, tt),
-    )) g h
-
--- looks at all released streams once more
+-- looks at released streams once more
 pub settles_more : (keeps : Bool) (old mid new : SeatView) → Books keeps old mid (Settles old.number) → Books keeps mid new (Settles mid.number) → Books keeps old new (Settles old.number)
 settles_more keeps old mid new g h =
     books_at keeps old mid new (Settles old.number) Settles (Settles old.number)
@@ -144,6 +159,34 @@ settles_more keeps old mid new g h =
       ap (λ xs. xs ++ ds) s.1 ∙ ap (λ ys. joined s.0 ++ ys) t.1 ∙ sym (joined_append s.0 t.0),
       all_append old.number s.0 t.0 s.2 t.2,
     )) g h
+
+pub among_none : (keeps : Bool) (ids : List ℕ) (seat : SeatView) → Books keeps seat seat (SettlesAmong ids seat.number)
+among_none keeps ids seat = books_same keeps seat (SettlesAmong ids seat.number) ([], refl, tt, tt)
+
+-- one stream more, which is listed at this place
+pub among_on : (keeps : Bool) (old mid new : SeatView) (ids listed : List ℕ) (at id : ℕ) (h k : BookedView) → Books keeps old mid (SettlesAmong ids old.number) → LeavesSome ids listed h k → slice_get listed at ≡ Some id → Books keeps mid new (Tends id mid.number) → Books keeps old new (SettlesAmong ids old.number)
+among_on keeps old mid new ids listed at id h k g l e t =
+    books_at keeps old mid new (SettlesAmong ids old.number) (λ n. Tends id n) (SettlesAmong ids old.number)
+    (λ es ds s t. (
+      s.0 ++ (id, ds) ∷ [],
+      ap (λ xs. xs ++ ds) s.1 ∙ ap (λ ys. joined s.0 ++ ys) (sym (append-nil ds)) ∙ sym (joined_append s.0 ((id, ds) ∷ [])),
+      all_append old.number s.0 ((id, ds) ∷ []) s.2 (t, tt),
+      among_append ids s.0 ((id, ds) ∷ []) s.3 (l.1.none_new id (among_at listed at id e), tt),
+    )) g t
+
+-- looks at all released streams once more
+pub among_more : (keeps : Bool) (old mid new : SeatView) (ids listed : List ℕ) (h k : BookedView) → Books keeps old mid (SettlesAmong ids old.number) → LeavesSome ids listed h k → Books keeps mid new (SettlesAmong listed mid.number) → Books keeps old new (SettlesAmong ids old.number)
+among_more keeps old mid new ids listed h k g l t =
+    books_at keeps old mid new (SettlesAmong ids old.number) (SettlesAmong listed) (SettlesAmong ids old.number)
+    (λ es ds s t. (
+      s.0 ++ t.0,
+      ap (λ xs. xs ++ ds) s.1 ∙ ap (λ ys. joined s.0 ++ ys) t.1 ∙ sym (joined_append s.0 t.0),
+      all_append old.number s.0 t.0 s.2 t.2,
+      among_append ids s.0 t.0 s.3 (among_others listed ids t.0 l.1.none_new t.3),
+    )) g t
+
+pub settles_among : (keeps : Bool) (old new : SeatView) (ids : List ℕ) → Books keeps old new (SettlesAmong ids old.number) → Books keeps old new (Settles old.number)
+settles_among keeps old new ids g = books_weaker keeps old new (SettlesAmong ids old.number) (Settles old.number) (λ es s. (s.0, s.1, s.2)) g
 
 -- ---- which halves are spent
 
@@ -201,12 +244,24 @@ alike_none h = (refl, refl)
 
 -- none leaves
 pub leaves_none : (before after : List ℕ) (old new : BookedView) → after ≡ before → SpentAlike old new → Leaves [] before after old new
-leaves_none before after old new e a = record { released = e; halves = a }
+leaves_none before after old new e a = record { released = e; none_new = λ id h. subst (λ ids. IsAmong ids id) e h; halves = a }
+
+-- what is told of the list as this stream was taken out
+abbrev pub TakenOut : ℕ → (before after : List ℕ) → Type 0
+TakenOut id before after = (q : ℕ) → list_any (nat_eq q) after ≡ cond (nat_eq id q) false (list_any (nat_eq q) before)
+
+still_among : (id : ℕ) (before after : List ℕ) → TakenOut id before after → (q : ℕ) → IsAmong after q → IsAmong before q
+still_among id before after u q h = of (nat_eq id q) (sym h ∙ u q)
+  where
+    of : (b : Bool) → true ≡ cond b false (list_any (nat_eq q) before) → IsAmong before q
+    of true e = cc
+    of false e = sym e
 
 -- a stream leaves, and its half is spent
-pub leaves_one : (keeps : Bool) (seat id : ℕ) (result : Result (Unit {0}) HubFault) (before between after : List ℕ) (old mid new : BookedView) → between ≡ before → after ≡ without id between → SpentAlike old mid → StepsClosed (is_half_spent id mid) keeps seat id result mid new → Leaves (id ∷ []) before after old new
-leaves_one keeps seat id result before between after old mid new e w a s = record {
+pub leaves_one : (keeps : Bool) (seat id : ℕ) (result : Result (Unit {0}) HubFault) (before between after : List ℕ) (old mid new : BookedView) → between ≡ before → TakenOut id between after → after ≡ without id between → SpentAlike old mid → StepsClosed (is_half_spent id mid) keeps seat id result mid new → Leaves (id ∷ []) before after old new
+leaves_one keeps seat id result before between after old mid new e u w a s = record {
   released = w ∙ ap (without id) e;
+  none_new = λ q h. subst (λ ids. IsAmong ids q) e (still_among id between after u q h);
   halves = alike_twice (spent id old) (spent id mid) new (spent_alike id old mid a) (closed_alike (is_half_spent id mid) keeps seat id result mid new s);
 }
 
@@ -214,6 +269,7 @@ leaves_one keeps seat id result before between after old mid new e w a s = recor
 pub leaves_on : (xs ys before between after : List ℕ) (old mid new : BookedView) → Leaves xs before between old mid → Leaves ys between after mid new → Leaves (xs ++ ys) before after old new
 leaves_on xs ys before between after old mid new a b = record {
   released = b.released ∙ ap (all_without ys) a.released ∙ sym (without_append xs ys before);
+  none_new = λ id h. a.none_new id (b.none_new id h);
   halves = rw (spent_append xs ys old) (alike_twice (all_spent ys (all_spent xs old)) (all_spent ys mid) new (all_alike ys (all_spent xs old) mid a.halves) b.halves);
 }
 
@@ -226,12 +282,31 @@ pub stay_one : (id : ℕ) (before after : List ℕ) (old new : BookedView) → a
 stay_one id before after old new e a = inl (leaves_none before after old new e a)
 
 -- it leaves, whatever the call answers that spends its half
-pub end_one : (keeps : Bool) (seat id : ℕ) (result : Result (Unit {0}) HubFault) (before between after : List ℕ) (old mid new : BookedView) → between ≡ before → after ≡ swap_remove_by (nat_eq id) between → SpentAlike old mid → StepsClosed (is_half_spent id mid) keeps seat id result mid new → LeavesOne id before after old new
-end_one keeps seat id result before between after old mid new e w a s = inr (leaves_one keeps seat id result before between after old mid new e (w ∙ without_same id between) a s)
+pub end_one : (keeps : Bool) (seat id : ℕ) (result : Result (Unit {0}) HubFault) (before between after : List ℕ) (old mid new : BookedView) → between ≡ before → TakenOut id between after → after ≡ swap_remove_by (nat_eq id) between → SpentAlike old mid → StepsClosed (is_half_spent id mid) keeps seat id result mid new → LeavesOne id before after old new
+end_one keeps seat id result before between after old mid new e u w a s = inr (leaves_one keeps seat id result before between after old mid new e u (w ∙ without_same id between) a s)
 
-pub end_waits : (keeps : Bool) (seat id : ℕ) (result : Result (Unit {0}) HubFault) (before between after : List ℕ) (old mid new : BookedView) → between ≡ before → after ≡ swap_remove_by (nat_eq id) between → SpentAlike old mid → StepsClosed (is_half_spent id mid) keeps seat id result mid new → IfOk result (λ (u : Unit {0}). Waits new.session id ⊎ Leaves (id ∷ []) before after old new)
-end_waits keeps seat id (Ok u) before between after old mid new e w a s = inr (leaves_one keeps seat id (Ok u) before between after old mid new e (w ∙ without_same id between) a s)
-end_waits keeps seat id (Err fault) before between after old mid new e w a s = tt
+pub end_done : (keeps : Bool) (before_seat mid_seat after_seat : SeatView) (id : ℕ) (result : Result (Unit {0}) HubFault) (before between after : List ℕ) (old mid new : BookedView) → Books keeps before_seat mid_seat (ReadsUp id before_seat.number (Ok true)) → Books keeps mid_seat after_seat (Closes id mid_seat.number result) → between ≡ before → TakenOut id between after → after ≡ swap_remove_by (nat_eq id) between → SpentAlike old mid → StepsClosed (is_half_spent id mid) keeps mid_seat.number id result mid new → IfOk result (λ (u : Unit {0}). (Waits new.session id × (after ≡ before)) ⊎ (Books keeps before_seat after_seat (ReadsOut id before_seat.number) × Leaves (id ∷ []) before after old new))
+end_done keeps before_seat mid_seat after_seat id (Ok u) before between after old mid new g h e t w a s = inr (reads_out keeps before_seat mid_seat after_seat id (Ok u) g h, leaves_one keeps mid_seat.number id (Ok u) before between after old mid new e t (w ∙ without_same id between) a s)
+end_done keeps before_seat mid_seat after_seat id (Err fault) before between after old mid new g h e t w a s = tt
+
+-- ---- a stream that is released
+
+-- it is listed where a read of it waits
+pub release_done : (keeps : Bool) (old new : SeatView) (id : ℕ) (result : Result (Unit {0}) HubFault) (s : Session) (listed after : List ℕ) (h k : BookedView) → IsAmong listed id →
+    IfOk result (λ (u : Unit {0}). (Waits s id × (after ≡ listed)) ⊎ (Books keeps old new (ReadsOut id old.number) × Leaves (id ∷ []) listed after h k)) →
+    IfOk result (λ (u : Unit {0}). (Waits s id × IsAmong after id) ⊎ Books keeps old new (ReadsOut id old.number))
+release_done keeps old new id (Ok u) s listed after h k e (inl w) = inl (w.0, ap (list_any (nat_eq id)) w.1 ∙ e)
+release_done keeps old new id (Ok u) s listed after h k e (inr out) = inr out.0
+release_done keeps old new id (Err fault) s listed after h k e d = tt
+
+-- the history is shown behind it
+pub is_dropped : (keeps witnessed : Bool) (role : Role) (config : Config) (old mid new : SeatView) (id : ℕ) (result : Result (Unit {0}) HubFault) (s : Session) (ids : List ℕ) →
+    IfOk result (λ (u : Unit {0}). (Waits s id × IsAmong ids id) ⊎ Books keeps old mid (ReadsOut id old.number)) →
+    IsShown mid new → IsHistoryOf witnessed role config new.seen s →
+    IfOk result (λ (u : Unit {0}). IsDropped keeps witnessed role config id old new)
+is_dropped keeps witnessed role config old mid new id (Ok u) s ids (inl w) shown history = inr (s, history, w.0)
+is_dropped keeps witnessed role config old mid new id (Ok u) s ids (inr out) shown history = inl (record { between = mid; booked = out; shown = shown })
+is_dropped keeps witnessed role config old mid new id (Err fault) s ids d shown history = tt
 
 pub some_none : (ids : List ℕ) (old : BookedView) → LeavesSome ids ids old old
 some_none ids old = ([], leaves_none ids ids old old refl (refl, refl))

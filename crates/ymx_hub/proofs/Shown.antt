@@ -59,6 +59,10 @@ extends_behind n (Some v) (Some m) (Some w) Such g h = some h.0 h.1 h.2
 pub shown_booked : (keeps : Bool) (old new : SeatView) (Such : List Entry → Type 0) → Books keeps old new Such → BooksShown keeps old new Such
 shown_booked keeps old new Such g = record { between = new; booked = g; shown = shown_none new }
 
+-- what is shown behind what is booked
+pub booked_shown : (keeps : Bool) (old mid new : SeatView) (Such : List Entry → Type 0) → Books keeps old mid Such → IsShown mid new → BooksShown keeps old new Such
+booked_shown keeps old mid new Such g s = record { between = mid; booked = g; shown = s }
+
 -- what is shown alone
 pub shown_alone : (keeps : Bool) (old new : SeatView) (Such : List Entry → Type 0) → Such [] → IsShown old new → BooksShown keeps old new Such
 shown_alone keeps old new Such p s = record { between = old; booked = books_same keeps old Such p; shown = s }

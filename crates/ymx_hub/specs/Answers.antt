@@ -1,5 +1,5 @@
 -- What a hub answers for what its session answered (this project's own).
-use Rattle.std.specs.Prelude.{◌≡◌, ◌⊎◌, ℕ, ◌<◌, Result, Ok, Err, IfErr}
+use Rattle.std.specs.Prelude.{◌≡◌, ◌⊎◌, ℕ, ◌<◌, Bool, true, false, Result, Ok, Err, IfErr}
 use Rattle.ymx_machine.specs.shared.Evidence.{evidence}
 use Rattle.ymx_machine.specs.declared.types.CallFault.{CallFault}
 use Rattle.ymx_machine.specs.declared.types.CallFault.TheVariants.{OutOfMemory, Closed}
@@ -37,9 +37,10 @@ TakesNone (call.OpenWith bytes) = ⊥
 TakesNone (call.Write id bytes) = ⊥
 TakesNone _ = Unit {0}
 
--- why there is no seat: the transcript was handed out, or no seat was left
-abbrev pub IsSeatFault : HubFault → Type 0
-IsSeatFault fault = (fault ≡ Call Closed) ⊎ (fault ≡ Seats refused_seat)
+-- why there is no seat: no seat was left; or, where entries are kept, the transcript was handed out
+abbrev pub IsSeatFault : (keeps : Bool) → HubFault → Type 0
+IsSeatFault true fault = (fault ≡ Call Closed) ⊎ (fault ≡ Seats refused_seat)
+IsSeatFault false fault = fault ≡ Seats refused_seat
 
 -- how many bytes a write took
 abbrev pub took_count : Wrote → ℕ

@@ -40,11 +40,11 @@ spent id h =
     else record h { unspent = h.unspent - 1; half_spent = h.half_spent ++ id ∷ [] }
 
 -- Until they are moved out, the entries that are kept are the history of the session, which was made with this
--- role and config. A recorder that keeps nothing has none.
+-- role and config. A recorder that keeps nothing has none, and hands out no transcript.
 abbrev pub Kept : (keeps ended : Bool) → Role → Config → List Entry → Session → Type 0
 Kept true false role config entries s = IsHistory role config entries s
 Kept true true role config entries s = Unit {0}
-Kept false ended role config entries s = entries ≡ []
+Kept false ended role config entries s = (entries ≡ []) × (ended ≡ false)
 
 -- A recorder that witnesses has a journal, whose whole history is that of the session. The session was made with the role
 -- and config that the recorder names, and the journal has numbered as many callers as seats were given. Another recorder

@@ -1,15 +1,21 @@
 -- What a hub does with a stream whose reader is done with it (this project's own).
-use Rattle.std.specs.Prelude.{◌≡◌, ℕ, ◌⊎◌, List, [], ◌∷◌, ◌++◌, slice_get, Bool, true, false, Some, Result, Ok, Err}
+use Rattle.std.specs.Prelude.{◌≡◌, ℕ, ◌⊎◌, List, [], ◌∷◌, ◌++◌, slice_get, nat_eq, Bool, true, false, Some, Result, Ok, Err}
+use Rattle.std.specs.List.{list_any}
 use Rattle.ymx_memory.specs.declared.refused.RefusedAllocation.{RefusedAllocation}
 use Rattle.ymx_machine.specs.declared.types.CallFault.{CallFault}
 use Rattle.ymx_machine.specs.shared.Events.{Reply}
 use Rattle.ymx_machine.specs.declared.types.Reply.TheVariants as reply
 use Rattle.ymx_model.specs.declared.types.Entry.{Entry}
+use Rattle.ymx_model.specs.declared.types.Role.{Role}
+use Rattle.ymx_model.specs.declared.types.Config.{Config}
 use Rattle.ymx_model.specs.session.Sessions.{Session}
 use Rattle.ymx_model.specs.session.Calls.{read_from}
+use Rattle.ymx_seats.specs.Views.{SeatView}
 use Rattle.ymx_hub.specs.Booked.{BookedView, without, spent}
 use Rattle.ymx_hub.specs.Books.{Forgets, to_read}
+use Rattle.ymx_hub.specs.Shown.{BooksShown}
 use Rattle.ymx_hub.specs.Turns.{EndsIn}
+use Rattle.ymx_hub.specs.WholeHistories.{IsHistoryOf}
 
 -- each entry names this seat, and is a read of this stream
 abbrev pub AreReads : (id seat : ℕ) → List Entry → Type 0
@@ -26,11 +32,15 @@ ReadsUp id seat (Ok true) added = AreReads id seat added × EndsIn FindsEnd adde
 ReadsUp id seat (Ok false) added = AreReads id seat added
 ReadsUp id seat (Err refused) added = AreReads id seat added
 
+-- Reads of the stream, of which the last found that nothing more comes. Then it was given up where its other half was spent.
+abbrev pub ReadsOut : (id seat : ℕ) → List Entry → Type 0
+ReadsOut id seat added =
+    (reads : List Entry) × (last : List Entry) × (added ≡ reads ++ last) × AreReads id seat reads
+    × EndsIn FindsEnd reads × Forgets id seat last
+
 -- Reads of the stream. It is given up only behind one that found that nothing more comes.
 abbrev pub Tends : (id seat : ℕ) → List Entry → Type 0
-Tends id seat added =
-    (reads : List Entry) × (last : List Entry) × (added ≡ reads ++ last) × AreReads id seat reads
-    × ((last ≡ []) ⊎ (EndsIn FindsEnd reads × Forgets id seat last))
+Tends id seat added = AreReads id seat added ⊎ ReadsOut id seat added
 
 -- the entries of some streams, one stream behind another
 abbrev pub joined : List (ℕ × List Entry) → List Entry
@@ -45,11 +55,32 @@ AllTend seat (p ∷ ps) = Tends p.0 seat p.1 × AllTend seat ps
 abbrev pub Settles : (seat : ℕ) → List Entry → Type 0
 Settles seat added = (parts : List (ℕ × List Entry)) × (added ≡ joined parts) × AllTend seat parts
 
+-- this stream is one of these
+abbrev pub IsAmong : List ℕ → ℕ → Type 0
+IsAmong ids id = list_any (nat_eq id) ids ≡ true
+
+-- each is one of these
+abbrev pub AllAmong : List ℕ → List (ℕ × List Entry) → Type 0
+AllAmong ids [] = Unit {0}
+AllAmong ids (p ∷ ps) = IsAmong ids p.0 × AllAmong ids ps
+
+-- that of some streams, each of which is one of these
+abbrev pub SettlesAmong : List ℕ → (seat : ℕ) → List Entry → Type 0
+SettlesAmong ids seat added =
+    (parts : List (ℕ × List Entry)) × (added ≡ joined parts) × AllTend seat parts × AllAmong ids parts
+
 -- ---- what becomes of them under the lock
 
 -- a read of this stream finds nothing, and more may come
 abbrev pub Waits : Session → ℕ → Type 0
 Waits s id = (read_from id 1 s).reply ≡ reply.ReadWait
+
+-- Nothing that has come of this stream is left: nothing more comes, as a read by this seat has found; or a read of it waits, in
+-- the session to which the history in the sight of the seat leads.
+abbrev pub IsDropped : (keeps witnessed : Bool) → Role → Config → (id : ℕ) → (old new : SeatView) → Type 0
+IsDropped keeps witnessed role config id old new =
+    BooksShown keeps old new (ReadsOut id old.number)
+    ⊎ ((s : Session) × IsHistoryOf witnessed role config new.seen s × Waits s id)
 
 -- so it is at each of these
 abbrev pub AllWait : Session → List ℕ → Type 0
@@ -69,9 +100,10 @@ all_spent (x ∷ xs) h = all_spent xs (spent x h)
 abbrev pub SpentAlike : BookedView → BookedView → Type 0
 SpentAlike h k = (k.unspent ≡ h.unspent) × (k.half_spent ≡ h.half_spent)
 
--- These streams are released no more, and a half of each is spent. No other leaves, and no other half is spent.
+-- These streams are released no more, and a half of each is spent. No other leaves, none is new, and no other half is spent.
 pub record Leaves (gone before after : List ℕ) (old new : BookedView) : Type 0 where
   pub released : after ≡ all_without gone before
+  pub none_new : (id : ℕ) → IsAmong after id → IsAmong before id
   pub halves : SpentAlike (all_spent gone old) new
 
 -- this stream leaves, or none does

@@ -9,7 +9,7 @@ ghost use Rattle.ymx_model.specs.session.Emissions.{is_ready};
 ghost use Rattle.ymx_seats.specs.Tallies.{Tallies};
 ghost use Rattle.ymx_seats.specs.Transcripts.{IsNew};
 ghost use Rattle.ymx_seats.specs.Views.{SeatView, whole_of, with_caller, IsBehind};
-ghost use Rattle.ymx_hub.specs.Answers.{IsNotMemory, refused_seat};
+ghost use Rattle.ymx_hub.specs.Answers.{IsNotMemory, IsSeatFault, refused_seat};
 ghost use Rattle.ymx_hub.specs.Booked.{fresh, config_of, IsUnused};
 ghost use Rattle.ymx_hub.specs.WholeHistories.{IsHistoryOf};
 ghost use Rattle.ymx_hub.specs.Steps.{IsNext};
@@ -114,14 +114,15 @@ impl<R: Recorder> Booked<R> {
     }
 
     /// A new seat, whose entries come after those that are there, and which has seen the whole history, where there is a
-    /// journal. `Closed` once the transcript was handed out, and `Seats` after 4,294,967,295 of them: nothing is changed
-    /// then. Takes no memory.
-    #[tactic(auto, using(crate::proofs::Journals::journaled_seat, crate::proofs::Journals::witnessed_now, crate::proofs::Journals::numbered_now))]
+    /// journal. `Closed` once the transcript was handed out, which is only where entries are kept, and `Seats` after
+    /// 4,294,967,295 of them: nothing is changed then. Takes no memory.
+    #[tactic(auto, using(crate::proofs::History::no_seat, crate::proofs::Journals::journaled_seat, crate::proofs::Journals::witnessed_now, crate::proofs::Journals::numbered_now))]
     pub fn seat(&mut self) -> Result<Seat<R>, HubFault>
         ensures spares { IsNotMemory result }
         ensures new { IfOk result (IsNext self.old.given self.old.entries (whole_of self.old.journal)) }
         ensures counted { MatchResult result (λ seat. self.new ≡ record self.old { given = self.old.given + 1; journal = with_caller self.old.journal }) (λ fault. self.new ≡ self.old) }
         ensures goes_on { OnOk result ((self.old.ended ≡ false) × (self.old.given + 1 < 2 ^ 32)) }
+        ensures why { IfErr result (IsSeatFault R.KEEPS) }
         ensures refused { IfErr result (λ fault. ((fault ≡ HubFault.Call CallFault.Closed) × (self.old.ended ≡ true)) ⊎ ((fault ≡ HubFault.Seats refused_seat) × (self.old.ended ≡ false) × (self.old.given + 1 ≡ 2 ^ 32))) }
     {
         if self.ended {
@@ -181,9 +182,10 @@ impl<R: Recorder> Booked<R> {
     }
 
     /// Hands the transcript out, which has the entries that were kept, once all seats that were given are handed in and
-    /// their lists agree with it. Else nothing changes, and the seats come back: with `SeatsOut` where there are more or fewer than were given, and
-    /// where the transcript was handed out before; else with `OutOfOrder`. It takes no memory.
+    /// their lists agree with it. Else nothing changes, and the seats come back: with `SeatsOut` where there are more or
+    /// fewer than were given, and where the transcript was handed out before; else with `OutOfOrder`. It takes no memory.
     pub fn end(&mut self, seats: Vec<Seat<R>>) -> Result<Transcript, EndFault<R>>
+        requires keeps { R.KEEPS ≡ true }
         ensures ended { MatchResult result (λ transcript. (all : List SeatView) × IsPermutation seats.items all × (length all ≡ self.old.given) × Tallies all transcript.entries) (λ fault. IsPermutation seats.items fault.seats.items) }
         ensures seats_out { IfErr result (λ fault. fault.why ≡ SeatsOut → (self.old.ended ≡ true) ⊎ (length seats.items ≢ self.old.given)) }
         ensures out_of_order { IfErr result (λ fault. fault.why ≡ OutOfOrder → (self.old.ended ≡ false) × (length seats.items ≡ self.old.given) × ((order : List SeatView) → IsPermutation seats.items order → Tallies order self.old.entries → ⊥)) }

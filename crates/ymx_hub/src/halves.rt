@@ -5,8 +5,8 @@ ghost use Rattle.ymx_machine.specs.declared.types.Reply.TheVariants as reply;
 ghost use Rattle.ymx_seats.specs.Views.{IsWitnessed};
 ghost use Rattle.ymx_hub.specs.Answers.{IsNotMemory};
 ghost use Rattle.ymx_hub.specs.Books.{Books, Spends, Closes, to_finish, to_reset};
-ghost use Rattle.ymx_hub.specs.Releasing.{Tends};
-ghost use Rattle.ymx_hub.specs.Shown.{IsShown};
+ghost use Rattle.ymx_hub.specs.Releasing.{Tends, IsDropped};
+ghost use Rattle.ymx_hub.specs.Shown.{BooksShown, IsShown};
 ghost use Rattle.ymx_hub.specs.Turns.{ReadTurns, EndsIn, WriteTurns};
 
 use crate::faults::HubFault;
@@ -221,16 +221,23 @@ impl<R: Recorder> ReadHalf<R> {
     /// by `close`; until then whoever calls `Hub::settle` does the same. So a stream that was finished isn't given up
     /// before the peer's end, and nothing that was written is lost.
     ///
+    /// In the same hold of the lock the whole history is shown to its seat and to another, as by `Hub::meet`.
+    ///
     /// Refused with `Closed`, only where the stream is given up now, with `Memory` where there is none for an entry, and
     /// with `TooMany` while 1,024 others are released, which no one session has.
-    pub fn release<W: Wait>(self, rt: &W) -> (Seat<R>, Result<(), HubFault>)
+    pub fn release<W: Wait>(self, rt: &W, other: &mut Seat<R>) -> (Seat<R>, Result<(), HubFault>)
         // Its entries stand in the list of its seat: the stream is given up only where nothing more could come.
-        ensures booked { Books R.KEEPS self.seat result.0 (Tends self.id self.seat.number) }
+        ensures booked { BooksShown R.KEEPS self.seat result.0 (Tends self.id self.seat.number) }
+        // Nothing that has come is left: nothing more comes, or a read of the stream waits.
+        ensures dropped { IfOk result.1 (λ _. IsDropped R.KEEPS R.WITNESSED R.role R.config self.id self.seat result.0) }
+        // The other seat has seen all that it had seen before, and now the same; its list stays.
+        ensures other { IsShown other.old other.new }
+        ensures same { other.new.seen ≡ result.0.seen }
         // Where no entries are kept, it is not refused for want of memory.
         ensures off { R.KEEPS ≡ false → IsNotMemory result.1 }
     {
         let ReadHalf { hub, mut seat, id } = self;
-        let result = hub.release(rt, &mut seat, id);
+        let result = hub.release(rt, &mut seat, id, other);
         (seat, result)
     }
 }

@@ -119,13 +119,13 @@ impl<R: Recorder> Hub<R> {
     }
 
     /// A new seat, which has no entry; where there is a journal, none of the history that it has seen is its own. `Seats`
-    /// after 4,294,967,295 of them, and `Closed` once the transcript was handed out.
+    /// after 4,294,967,295 of them, and `Closed` once the transcript was handed out, which is only where entries are kept.
     pub fn seat<W: Wait>(&self, rt: &W) -> Result<Seat<R>, HubFault>
         // The seat has made no call.
         ensures empty { IfOk result (λ seat. seat.entries ≡ []) }
         ensures newcomer { IfOk result (λ seat. IsNewcomer seat.number seat.seen) }
         // A refusal has one of two reasons, and memory is none of them.
-        ensures refused { IfErr result IsSeatFault }
+        ensures refused { IfErr result (IsSeatFault R.KEEPS) }
     {
         take_lock(rt, &self.shared).booked.seat()
     }
@@ -300,11 +300,12 @@ impl<R: Recorder> Hub<R> {
         closed
     }
 
-    /// Hands the transcript out, once all seats that were given are handed in and their lists agree with it: each
-    /// entry stands in it as often as in their lists, each list names its own seat, and its positions rise. Else the
-    /// seats come back, perhaps in another order. From then on `seat` answers `Closed`.
+    /// Hands the transcript out, where entries are kept, once all seats that were given are handed in and their lists
+    /// agree with it: each entry stands in it as often as in their lists, each list names its own seat, and its positions
+    /// rise. Else the seats come back, perhaps in another order. From then on `seat` answers `Closed`.
     pub fn end<W: Wait>(&self, rt: &W, seats: Vec<Seat<R>>) -> Result<Transcript, EndFault<R>>
-        ensures { MatchResult result (λ transcript. R.KEEPS ≡ true → (all : List SeatView) × IsPermutation seats.items all × Tallies all transcript.entries) (λ fault. IsPermutation seats.items fault.seats.items) }
+        requires { R.KEEPS ≡ true }
+        ensures { MatchResult result (λ transcript. (all : List SeatView) × IsPermutation seats.items all × Tallies all transcript.entries) (λ fault. IsPermutation seats.items fault.seats.items) }
     {
         take_lock(rt, &self.shared).booked.end(seats)
     }

@@ -68,7 +68,7 @@ impl<R: Recorder> Hub<R> {
     /// Feeds as `feed` does, at the first seat, and in the same hold of the lock looks at the streams that were released, as
     /// `settle` does, at the second. `RefusedAllocation`, and nothing is done, where there is no memory for the entry of the
     /// feed.
-    #[tactic(auto, using(crate::proofs::Released::settles_none))]
+    #[tactic(auto, using(crate::proofs::Released::settles_none, crate::proofs::Released::settles_among))]
     pub fn feed_and_settle<W: Wait>(
         &self,
         rt: &W,

@@ -4,7 +4,8 @@
 ghost use Rattle.std.specs.Prelude.{◌≡◌, ◌⊎◌, [], ◌∷◌, false, IfOk, IsOk};
 ghost use Rattle.ymx_hub.specs.Answers.{IsNotMemory};
 ghost use Rattle.ymx_hub.specs.Books.{Books};
-ghost use Rattle.ymx_hub.specs.Releasing.{ReadsUp, Tends, Settles, Waits, AllWait, SpentAlike, Leaves, LeavesOne, LeavesSome};
+ghost use Rattle.ymx_hub.specs.Releasing.{ReadsUp, ReadsOut, Tends, Settles, SettlesAmong, IsAmong, Waits, AllWait, IsDropped, SpentAlike, Leaves, LeavesOne, LeavesSome};
+ghost use Rattle.ymx_hub.specs.Shown.{BooksShown, IsShown};
 
 use crate::awaiting::take_lock;
 use crate::faults::HubFault;
@@ -53,10 +54,10 @@ impl<R: Recorder> Shared<R> {
 
     /// Reads what has come of a released stream. Where nothing more can come its half is spent, and it is released no
     /// more; else it waits.
-    #[tactic(auto, using(crate::proofs::Released::lack_tends, crate::proofs::Released::stop_tends, crate::proofs::Released::tends_end, crate::proofs::Released::stay_one, crate::proofs::Released::end_one, crate::proofs::Released::end_waits))]
+    #[tactic(auto, using(crate::proofs::Released::lack_tends, crate::proofs::Released::stop_tends, crate::proofs::Released::tends_end, crate::proofs::Released::stay_one, crate::proofs::Released::end_one, crate::proofs::Released::end_done))]
     fn tend<W: Wait>(&mut self, rt: &W, seat: &mut Seat<R>, id: u32) -> Result<(), HubFault>
         ensures booked { Books R.KEEPS seat.old seat.new (Tends id seat.old.number) }
-        ensures waits { IfOk result (λ _. Waits self.new.booked.session id ⊎ Leaves (id ∷ []) self.old.released.keys self.new.released.keys self.old.booked self.new.booked) }
+        ensures done { IfOk result (λ _. (Waits self.new.booked.session id × (self.new.released.keys ≡ self.old.released.keys)) ⊎ (Books R.KEEPS seat.old seat.new (ReadsOut id seat.old.number) × Leaves (id ∷ []) self.old.released.keys self.new.released.keys self.old.booked self.new.booked)) }
         ensures left { LeavesOne id self.old.released.keys self.new.released.keys self.old.booked self.new.booked }
         ensures off { R.KEEPS ≡ false → IsNotMemory result }
     {
@@ -71,10 +72,24 @@ impl<R: Recorder> Shared<R> {
         self.booked.close_half(seat, id)
     }
 
-    /// Looks at all released streams, one after another.
-    #[tactic(auto, using(crate::proofs::Released::settles_none, crate::proofs::Released::settles_on, crate::proofs::Released::some_none, crate::proofs::Released::some_one))]
+    /// Releases a stream: what has come of it is read and dropped, and it is looked at until nothing more can come; so long its
+    /// reading half stays unspent. `TooMany`, and nothing is done, where there is no room for it.
+    #[tactic(auto, using(crate::proofs::Released::tends_none, crate::proofs::Released::release_done))]
+    fn release<W: Wait>(&mut self, rt: &W, seat: &mut Seat<R>, id: u32) -> Result<(), HubFault>
+        ensures booked { Books R.KEEPS seat.old seat.new (Tends id seat.old.number) }
+        ensures done { IfOk result (λ _. (Waits self.new.booked.session id × IsAmong self.new.released.keys id) ⊎ Books R.KEEPS seat.old seat.new (ReadsOut id seat.old.number)) }
+        ensures off { R.KEEPS ≡ false → IsNotMemory result }
+    {
+        if self.released.len() >= MOST_RECORDS || self.released.insert(id).is_err() {
+            return Err(HubFault::Call(CallFault::TooMany));
+        }
+        self.tend(rt, seat, id)
+    }
+
+    /// Looks at all released streams, one after another, and at no other.
+    #[tactic(auto, using(crate::proofs::Released::among_none, crate::proofs::Released::among_on, crate::proofs::Released::some_none, crate::proofs::Released::some_one))]
     fn tend_all<W: Wait>(&mut self, rt: &W, seat: &mut Seat<R>) -> Result<(), RefusedAllocation>
-        ensures booked { Books R.KEEPS seat.old seat.new (Settles seat.old.number) }
+        ensures booked { Books R.KEEPS seat.old seat.new (SettlesAmong self.old.released.keys seat.old.number) }
         ensures left { LeavesSome self.old.released.keys self.new.released.keys self.old.booked self.new.booked }
         ensures off { R.KEEPS ≡ false → IsOk result }
     {
@@ -94,14 +109,14 @@ impl<R: Recorder> Shared<R> {
         Ok(())
     }
 
-    /// Looks at the released streams until each of them waits.
-    #[tactic(auto, using(crate::proofs::Released::settles_none, crate::proofs::Released::settles_more, crate::proofs::Released::some_none, crate::proofs::Released::some_more))]
+    /// Looks at the released streams until each of them waits, and at no other.
+    #[tactic(auto, using(crate::proofs::Released::among_none, crate::proofs::Released::among_more, crate::proofs::Released::some_none, crate::proofs::Released::some_more))]
     pub(crate) fn settle<W: Wait>(
         &mut self,
         rt: &W,
         seat: &mut Seat<R>,
     ) -> Result<Settled, RefusedAllocation>
-        ensures booked { Books R.KEEPS seat.old seat.new (Settles seat.old.number) }
+        ensures booked { Books R.KEEPS seat.old seat.new (SettlesAmong self.old.released.keys seat.old.number) }
         ensures wait { IfOk result (λ _. AllWait self.new.booked.session self.new.released.keys) }
         ensures left { LeavesSome self.old.released.keys self.new.released.keys self.old.booked self.new.booked }
         ensures off { R.KEEPS ≡ false → IsOk result }
@@ -117,26 +132,29 @@ impl<R: Recorder> Shared<R> {
 }
 
 impl<R: Recorder> Hub<R> {
-    /// Releases a stream, whose reading half stays unspent until nothing more can come.
-    #[tactic(auto, using(crate::proofs::Released::tends_none))]
+    /// Releases a stream, whose reading half stays unspent until nothing more can come, and shows the whole history to its
+    /// seat and to another.
+    #[tactic(auto, using(crate::proofs::Shown::grown, crate::proofs::Shown::booked_shown, crate::proofs::Released::is_dropped))]
     pub(crate) fn release<W: Wait>(
         &self,
         rt: &W,
         seat: &mut Seat<R>,
         id: u32,
+        other: &mut Seat<R>,
     ) -> Result<(), HubFault>
-        ensures booked { Books R.KEEPS seat.old seat.new (Tends id seat.old.number) }
+        ensures booked { BooksShown R.KEEPS seat.old seat.new (Tends id seat.old.number) }
+        ensures dropped { IfOk result (λ _. IsDropped R.KEEPS R.WITNESSED R.role R.config id seat.old seat.new) }
+        ensures other { IsShown other.old other.new }
+        ensures same { other.new.seen ≡ seat.new.seen }
         ensures off { R.KEEPS ≡ false → IsNotMemory result }
     {
         let mut shared = take_lock(rt, &self.shared);
         let was_due = shared.booked.due();
-        if shared.released.len() >= MOST_RECORDS {
-            return Err(HubFault::Call(CallFault::TooMany));
-        }
-        let _has_room = shared.released.insert(id);
-        let tended = shared.tend(rt, seat, id);
+        let released = shared.release(rt, seat, id);
+        shared.booked.show(seat);
+        shared.booked.show(other);
         self.unlock(shared, was_due);
-        tended
+        released
     }
 
     /// Looks at the streams that were released: reads what came of each and drops it, and gives it up once nothing more can
@@ -145,6 +163,7 @@ impl<R: Recorder> Hub<R> {
     ///
     /// The evidence says that each stream that is still released waited then. Without memory for an entry it answers
     /// `RefusedAllocation`: the streams that are left are looked at by the next call.
+    #[tactic(auto, using(crate::proofs::Released::settles_among))]
     pub fn settle<W: Wait>(&self, rt: &W, seat: &mut Seat<R>) -> Result<Settled, RefusedAllocation>
         // Its entries stand in the list of its seat: a stream is given up only where nothing more could come.
         ensures booked { Books R.KEEPS seat.old seat.new (Settles seat.old.number) }

@@ -55,6 +55,7 @@ impl<R: Recorder> Shared<R> {
     ) -> Result<Fed, RefusedAllocation>
         ensures booked { Books R.KEEPS seat.old seat.new (Does (event.Feed bytes.now) reply.Fed seat.old.number result) }
         ensures within { IfOk result (λ fed. fed.taken ≤ length bytes.now) }
+        ensures released { self.new.released ≡ self.old.released }
         ensures off { R.KEEPS ≡ false → IsOk result }
     {
         self.touched.clear();
@@ -79,6 +80,7 @@ impl<R: Recorder> Shared<R> {
         ensures length { length buffer.new ≡ length buffer.old }
         ensures rest { MatchResult result (λ got. drop (got_count got) buffer.new ≡ drop (got_count got) buffer.old) (λ fault. buffer.new ≡ buffer.old) }
         ensures some { 0 < length buffer.old → IfOk result GivesSome }
+        ensures released { self.new.released ≡ self.old.released }
         ensures off { R.KEEPS ≡ false → IsNotMemory result }
     {
         let got = self.booked.read(seat, id, buffer);
@@ -97,6 +99,7 @@ impl<R: Recorder> Shared<R> {
     ) -> Result<Wrote, HubFault>
         ensures booked { Books R.KEEPS seat.old seat.new (Asks (to_write id bytes.now) wrote_or seat.old.number result) }
         ensures within { IfOk result (λ wrote. took_count wrote ≤ length bytes.now) }
+        ensures released { self.new.released ≡ self.old.released }
     {
         let wrote = self.booked.write(seat, id, bytes);
         if let Ok(Wrote::Wait) = wrote {

@@ -45,7 +45,7 @@ pub(crate) fn to_peer<J: Naming, R: Wait>(
     rt: &R,
     alloc: Global,
     connection: &Connection,
-    handover: &Handover<Writer<Witnessed<J>>>,
+    handover: &Handover<Writer<J>>,
 ) -> Option<RefusedAllocation> {
     let Some(writer) = handover.take(rt) else {
         connection.break_off();
@@ -54,7 +54,7 @@ pub(crate) fn to_peer<J: Naming, R: Wait>(
     let mut buffer = match copy_buffer(alloc) {
         Ok(buffer) => buffer,
         Err(refused) => {
-            let _ = writer.reset(rt);
+            reset(rt, writer);
             connection.break_off();
             return Some(refused);
         }
@@ -78,7 +78,7 @@ pub(crate) fn from_peer<J: Naming, R: Wait>(
     rt: &R,
     alloc: Global,
     connection: &Connection,
-    handover: &Handover<Reader<Witnessed<J>>>,
+    handover: &Handover<Reader<J>>,
 ) -> Option<RefusedAllocation> {
     let Some(reader) = handover.take(rt) else {
         connection.break_off();
@@ -87,7 +87,7 @@ pub(crate) fn from_peer<J: Naming, R: Wait>(
     let mut buffer = match copy_buffer(alloc) {
         Ok(buffer) => buffer,
         Err(refused) => {
-            let _ = reader.close(rt);
+            close(rt, reader);
             connection.break_off();
             return Some(refused);
         }
@@ -125,15 +125,27 @@ fn shut_unless_ended(connection: &Connection, why: CopyWhy) {
 /// Spends the halves that are left: resets the stream, and closes it.
 pub(crate) fn spend<J: Naming, R: Wait>(
     rt: &R,
-    writer: Option<Writer<Witnessed<J>>>,
-    reader: Option<Reader<Witnessed<J>>>,
+    writer: Option<Writer<J>>,
+    reader: Option<Reader<J>>,
 ) {
     if let Some(writer) = writer {
-        let _ = writer.reset(rt);
+        reset(rt, writer);
     }
     if let Some(reader) = reader {
-        let _ = reader.close(rt);
+        close(rt, reader);
     }
+}
+
+/// Resets a stream by its writing half.
+fn reset<J: Naming, R: Wait>(rt: &R, writer: Writer<J>) {
+    let (left, _) = writer.into_half().reset(rt);
+    discard(left);
+}
+
+/// Closes the reading half of a stream.
+fn close<J: Naming, R: Wait>(rt: &R, reader: Reader<J>) {
+    let (left, _) = reader.into_half().close(rt);
+    discard(left);
 }
 
 /// Lets a seat go. Its entries stand in proofs alone.

@@ -8,7 +8,7 @@ use std::sync::Wait;
 use std::thread;
 use std::thread::Threads;
 use ymx_connect::starting::start;
-use ymx_connect::{Naming, Reader, Witnessed, Writer};
+use ymx_connect::{Naming, Reader, Writer};
 
 /// How a connection ended.
 #[derive(Drop)]
@@ -27,8 +27,8 @@ pub(crate) fn join_both<J: Naming + Send + Sync, R: Threads + Wait + Sync>(
     alloc: Global,
     connections: &Connections,
     socket: TcpStream,
-    writer: Writer<Witnessed<J>>,
-    reader: Reader<Witnessed<J>>,
+    writer: Writer<J>,
+    reader: Reader<J>,
 ) -> Joining {
     let Ok(connection) = connections.add(rt, alloc, socket) else {
         spend(rt, Some(writer), Some(reader));
@@ -47,8 +47,8 @@ fn copy_both<'x, J: Naming + Send + Sync, R: Threads + Wait + Sync>(
     rt: &'x R,
     alloc: Global,
     connection: &'x Connection,
-    writer: &'x Handover<Writer<Witnessed<J>>>,
-    reader: &'x Handover<Reader<Witnessed<J>>>,
+    writer: &'x Handover<Writer<J>>,
+    reader: &'x Handover<Reader<J>>,
 ) -> Joining {
     thread::scope(thread::scope_env(), rt, move |scope| {
         let Ok(other) = start(scope, move || from_peer(rt, alloc, connection, reader)) else {

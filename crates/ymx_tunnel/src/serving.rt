@@ -10,7 +10,7 @@ use std::sync::atomic::{AtomicBool, Ordering};
 use std::thread;
 use std::thread::Threads;
 use ymx_connect::starting::start;
-use ymx_connect::{Caller, Handle, Naming, Reader, StreamFault, Witnessed, Writer};
+use ymx_connect::{Caller, Handle, Naming, Reader, StreamFault, Writer};
 
 /// How many streams `serve_remote` serves at once where nothing else is said.
 pub const USUAL_WORKERS: u32 = 16;
@@ -27,7 +27,7 @@ pub struct Served {
 /// What the workers of a server share.
 #[derive(Drop)]
 struct ServerState<'a, J: Naming> {
-    handle: &'a Handle<Witnessed<J>>,
+    handle: &'a Handle<J>,
     alloc: Global,
     connections: &'a Connections,
     lacked_memory: AtomicBool,
@@ -41,7 +41,7 @@ struct ServerState<'a, J: Naming> {
 pub fn serve_local<J: Naming + Send + Sync, R: Threads + Wait + Sync>(
     rt: &R,
     alloc: Global,
-    handle: &Handle<Witnessed<J>>,
+    handle: &Handle<J>,
     listener: &TcpListener,
     count: Option<u32>,
     connections: &Connections,
@@ -89,7 +89,7 @@ pub fn serve_remote<
 >(
     rt: &R,
     alloc: Global,
-    handle: &Handle<Witnessed<J>>,
+    handle: &Handle<J>,
     target: SocketAddr,
     workers: Option<u32>,
     connections: &Connections,
@@ -149,7 +149,7 @@ fn next_stream<J: Naming, R: Wait>(
     rt: &R,
     server: &ServerState<'_, J>,
     caller: &mut Caller<J>,
-) -> Option<(Writer<Witnessed<J>>, Reader<Witnessed<J>>)> {
+) -> Option<(Writer<J>, Reader<J>)> {
     for _ in rt.forever() {
         match caller.accept(rt) {
             Ok(stream) => return stream,
@@ -167,13 +167,7 @@ fn next_stream<J: Naming, R: Wait>(
 fn serve_stream<
     J: Naming + Send + Sync,
     R: Net<Stream = TcpStream, Listener = TcpListener> + Threads + Wait + Sync,
->(
-    rt: &R,
-    server: &ServerState<'_, J>,
-    target: SocketAddr,
-    writer: Writer<Witnessed<J>>,
-    reader: Reader<Witnessed<J>>,
-) {
+>(rt: &R, server: &ServerState<'_, J>, target: SocketAddr, writer: Writer<J>, reader: Reader<J>) {
     match TcpStream::connect(rt, target) {
         Ok(socket) => {
             let _ = socket.set_nodelay(true);
@@ -187,7 +181,7 @@ impl<'a, J: Naming> ServerState<'a, J> {
     /// Nothing has begun yet.
     fn new(
         alloc: Global,
-        handle: &'a Handle<Witnessed<J>>,
+        handle: &'a Handle<J>,
         connections: &'a Connections,
     ) -> ServerState<'a, J> {
         ServerState {
@@ -220,8 +214,8 @@ impl<'a, J: Naming> ServerState<'a, J> {
         &self,
         rt: &R,
         socket: TcpStream,
-        writer: Writer<Witnessed<J>>,
-        reader: Reader<Witnessed<J>>,
+        writer: Writer<J>,
+        reader: Reader<J>,
     )
     where
         J: Send + Sync,

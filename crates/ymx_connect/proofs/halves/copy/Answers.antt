@@ -5,7 +5,7 @@ use Rattle.ymx_connect.proofs.halves.copy.Goals as goal
 pub loop-init : goal.loop-init
 loop-init g c = record {
   next = (tt, tt);
-  copied = copied_none g.R.Recorder.KEEPS g.S.Recorder.KEEPS c.args.reader.now c.args.writer.now;
+  copied = copied_none c.args.reader.now c.args.writer.now;
 }
 
 pub loop-preserved : goal.loop-preserved
@@ -13,18 +13,18 @@ loop-preserved g c =
     let some : 0 < c.in-Ok.count = omega arith in
     record {
       next = (tt, tt);
-      copied = copied_more g.R.Recorder.KEEPS g.S.Recorder.KEEPS c.args.reader.now c.args.writer.now c.loop.reader c.loop.writer c.read.new.self c.write_all.new.self c.loop.copied _ _ c.in-Ok.count c.read.new.buffer _ _ c.loop.invariant.copied some (omega (arith, c.in-Ok.ensures.within, c.in-Ok.ensures.length)) refl c.saturating_add-copied.ensures c.in-Ok.ensures.same c.in-Ok-write_all.ensures.same c.in-Ok.ensures.booked c.in-Ok-write_all.ensures.booked;
+      copied = copied_more c.args.reader.now c.args.writer.now c.loop.reader c.loop.writer c.read.new.self c.write_all.new.self c.loop.copied _ _ c.in-Ok.count c.read.new.buffer _ _ c.loop.invariant.copied some (omega (arith, c.in-Ok.ensures.within, c.in-Ok.ensures.length)) refl c.saturating_add-copied.ensures c.in-Ok.ensures.same c.in-Ok-write_all.ensures.same c.in-Ok.ensures.booked c.in-Ok-write_all.ensures.booked;
     }
 
 pub returns-then-count-eq0-clause-copied : goal.returns-then-count-eq0-clause-copied
 returns-then-count-eq0-clause-copied g c =
-    copied_all g.R.Recorder.KEEPS g.S.Recorder.KEEPS c.args.reader.now c.args.writer.now c.loop.reader c.loop.writer c.read.new.self.seat c.loop.copied _ c.in-Ok.count c.read.new.buffer c.loop.invariant.copied c.if-count-eq0.true c.in-Ok.ensures.booked
+    copied_all c.args.reader.now c.args.writer.now c.loop.reader c.loop.writer c.read.new.self.seat c.loop.copied _ c.in-Ok.count c.read.new.buffer c.loop.invariant.copied c.if-count-eq0.true c.in-Ok.ensures.booked
 
 pub returns-in-Err-clause-copied : goal.returns-in-Err-clause-copied
 returns-in-Err-clause-copied g c =
-    copied_until g.R.Recorder.KEEPS g.S.Recorder.KEEPS c.args.reader.now c.args.writer.now c.loop.reader c.loop.writer c.read.new.self.seat c.loop.copied _ c.in-Err.fault c.read.new.buffer c.loop.invariant.copied c.in-Err.ensures.booked
+    copied_until c.args.reader.now c.args.writer.now c.loop.reader c.loop.writer c.read.new.self.seat c.loop.copied _ c.in-Err.fault c.read.new.buffer c.loop.invariant.copied c.in-Err.ensures.booked
 
 pub returns-in-Err-write_all-clause-copied : goal.returns-in-Err-write_all-clause-copied
 returns-in-Err-write_all-clause-copied g c =
     let some : 0 < c.in-Ok.count = omega arith in
-    copied_in_part g.R.Recorder.KEEPS g.S.Recorder.KEEPS c.args.reader.now c.args.writer.now c.loop.reader c.loop.writer c.read.new.self.seat c.write_all.new.self.seat c.loop.copied _ c.in-Ok.count c.in-Err-write_all.stop c.read.new.buffer _ c.loop.invariant.copied some refl c.in-Ok.ensures.booked c.in-Err-write_all.ensures.booked
+    copied_in_part c.args.reader.now c.args.writer.now c.loop.reader c.loop.writer c.read.new.self.seat c.write_all.new.self.seat c.loop.copied _ c.in-Ok.count c.in-Err-write_all.stop c.read.new.buffer _ c.loop.invariant.copied some refl c.in-Ok.ensures.booked c.in-Err-write_all.ensures.booked
