@@ -7,10 +7,12 @@ use Rattle.ymx_model.specs.declared.types.Config.{Config}
 use Rattle.ymx_model.specs.declared.types.Entry.{Entry}
 use Rattle.ymx_session.specs.NewSessions.{new_fault}
 use Rattle.ymx_seats.specs.Views.{SeatView, IsWitnessed}
+use Rattle.std.specs.Prelude.{IfOk}
 use Rattle.std.specs.Result.{result_and}
 use Rattle.ymx_hub.specs.declared.faults.HubFault.{HubFault}
 use Rattle.ymx_hub.specs.Books.{Books, Grows, Extends, Spends, to_finish}
 use Rattle.ymx_hub.specs.Halves.{HalfView, OpensHalves}
+use Rattle.ymx_hub.specs.Releasing.{Releases, IsDropped}
 use Rattle.ymx_hub.specs.Shown.{HasGrown, IsShown, BooksShown}
 use Rattle.ymx_hub.specs.Turns.{WriteTurns}
 use Rattle.ymx_connect.specs.declared.connect_fault.ConnectFault.{ConnectFault}
@@ -78,6 +80,10 @@ module _ (old new half : SeatView) (Such : List Entry → Type 0) (sees : SeesLa
 -- the caller meets the seat of a half behind its last call
 pub sees_last : (old new half last shown : SeatView) (Such : List Entry → Type 0) → Books false half last Such → IsShown last shown → IsShown old new → new.seen ≡ shown.seen → SeesLast old new half Such
 sees_last old new half last shown Such booked met mine same = record { last = shown; booked = record { between = last; booked = booked; shown = met }; shown = mine; seen = same }
+
+-- the half that is released is shown the history with its caller
+pub sees_release : (role : Role) (config : Config) (old new last : SeatView) (reader : HalfView) (answer : Result (Unit {0}) HubFault) → BooksShown false reader.seat last (Releases reader.id reader.seat.number answer) → IfOk answer (λ u. IsDropped false true role config reader.id reader.seat last) → IsShown old new → new.seen ≡ last.seen → SeesRelease role config old new reader answer
+sees_release role config old new last reader answer booked dropped mine same = record { sees = record { last = last; booked = booked; shown = mine; seen = same }; dropped = dropped }
 
 -- both halves make their last call
 pub closes_stream : (role : Role) (config : Config) (old between new : SeatView) (writer reader : HalfView) (finished released answer : Result (Unit {0}) HubFault) →

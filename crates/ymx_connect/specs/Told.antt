@@ -8,7 +8,7 @@ use Rattle.ymx_model.specs.declared.types.Config.{Config}
 use Rattle.ymx_model.specs.declared.types.Entry.{Entry}
 use Rattle.ymx_seats.specs.Views.{SeatView, IsWitnessed}
 use Rattle.ymx_hub.specs.Books.{Books, Spends, to_finish}
-use Rattle.ymx_hub.specs.Releasing.{Tends, IsDropped}
+use Rattle.ymx_hub.specs.Releasing.{Releases, IsDropped}
 use Rattle.ymx_hub.specs.Shown.{IsShown, BooksShown}
 use Rattle.ymx_hub.specs.declared.faults.HubFault.{HubFault}
 use Rattle.ymx_hub.specs.Halves.{HalfView, OpensHalves}
@@ -25,13 +25,10 @@ pub record SeesLast (old new half : SeatView) (Such : List Entry → Type 0) : T
   pub shown : IsShown old new
   pub seen : new.seen ≡ last.seen
 
--- The same of a reading half that was released: nothing of its stream is left that had come.
+-- The same of a reading half that was released. Unless that was refused, nothing of its stream is left that had come.
 pub record SeesRelease (role : Role) (config : Config) (old new : SeatView) (reader : HalfView) (answer : Result (Unit {0}) HubFault) : Type 0 where
-  pub last : SeatView
-  pub booked : BooksShown false reader.seat last (Tends reader.id reader.seat.number)
-  pub dropped : IfOk answer (λ _. IsDropped false true role config reader.id reader.seat last)
-  pub shown : IsShown old new
-  pub seen : new.seen ≡ last.seen
+  pub sees : SeesLast old new reader.seat (Releases reader.id reader.seat.number answer)
+  pub dropped : IfOk answer (λ _. IsDropped false true role config reader.id reader.seat sees.last)
 
 -- Both halves of a stream made their last call: the writing half was finished, and then the reading half released. The first
 -- refusal is answered.

@@ -61,7 +61,8 @@ impl<J: Naming> Caller<J> {
     /// credit back, and the half is spent by itself once the peer's end is there, the stream was reset or the session is
     /// lost. Until then a stream that was finished keeps what is unsent, and is one of the 1,024.
     ///
-    /// Refused with `Closed`, only where the stream is given up now.
+    /// Refused with `Closed`, only where the stream is given up now, and with `Releases`, and nothing is done, while 1,024
+    /// others are released, which no one session has.
     pub fn release<W: Wait>(&mut self, rt: &W, reader: Reader<J>) -> Result<(), StreamFault>
         ensures booked { SeesRelease J.role J.config self.old self.new reader result }
         ensures spares { IsNotMemory result }

@@ -12,10 +12,15 @@ use Rattle.ymx_machine.specs.declared.types.Wrote.TheVariants as wrote
 use Rattle.ymx_hub.specs.declared.faults.HubFault.{HubFault}
 use Rattle.ymx_hub.specs.declared.faults.HubFault.TheVariants.{Call, Memory, Seats}
 use Rattle.ymx_hub.specs.declared.refused_seat.RefusedSeat.{RefusedSeat}
+use Rattle.ymx_hub.specs.declared.released_ids.RefusedRelease.{RefusedRelease}
 
 -- the one value of the evidence that no seat was left
 abbrev pub refused_seat : RefusedSeat
 refused_seat = record { seal = tt }
+
+-- the one value of the evidence that no stream more could be released
+abbrev pub refused_release : RefusedRelease
+refused_release = record { seal = tt }
 
 -- want of memory is the hub's own fault, whoever found it
 abbrev pub hub_fault_of : CallFault → HubFault

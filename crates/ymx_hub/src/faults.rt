@@ -1,10 +1,11 @@
 //! Why a call of a hub fails.
 
 ghost use Rattle.std.specs.Prelude.{◌≡◌};
-ghost use Rattle.ymx_hub.specs.Answers.{hub_answer, hub_fault_of, refused_seat};
+ghost use Rattle.ymx_hub.specs.Answers.{hub_answer, hub_fault_of, refused_seat, refused_release};
 ghost use Rattle.ymx_machine.specs.shared.Evidence.{evidence};
 
 use crate::refused_seat::RefusedSeat;
+use crate::released_ids::RefusedRelease;
 use thiserror::Error;
 use ymx_memory::RefusedAllocation;
 use ymx_model::CallFault;
@@ -22,6 +23,9 @@ pub enum HubFault {
     /// Not enough seats were left, of 4,294,967,295 in all. It holds the evidence.
     #[error("Seats")]
     Seats(RefusedSeat),
+    /// No stream more could be released, of 1,024, which no one session has. It holds the evidence.
+    #[error("Releases")]
+    Releases(RefusedRelease),
 }
 
 impl From<RefusedAllocation> for HubFault {
@@ -43,6 +47,17 @@ impl From<RefusedSeat> for HubFault {
 
     fn from(refused: RefusedSeat) -> HubFault {
         HubFault::Seats(refused)
+    }
+}
+
+impl From<RefusedRelease> for HubFault {
+    ghost use Rattle.std.specs.Prelude.{◌≡◌};
+    ghost use Rattle.ymx_hub.specs.declared.faults.HubFault.TheVariants.{Releases};
+
+    ghost from_gives = { λ _ fault. fault ≡ Releases refused_release };
+
+    fn from(refused: RefusedRelease) -> HubFault {
+        HubFault::Releases(refused)
     }
 }
 

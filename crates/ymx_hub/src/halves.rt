@@ -5,7 +5,7 @@ ghost use Rattle.ymx_machine.specs.declared.types.Reply.TheVariants as reply;
 ghost use Rattle.ymx_seats.specs.Views.{IsWitnessed};
 ghost use Rattle.ymx_hub.specs.Answers.{IsNotMemory};
 ghost use Rattle.ymx_hub.specs.Books.{Books, Spends, Closes, to_finish, to_reset};
-ghost use Rattle.ymx_hub.specs.Releasing.{Tends, IsDropped};
+ghost use Rattle.ymx_hub.specs.Releasing.{Releases, IsDropped};
 ghost use Rattle.ymx_hub.specs.Shown.{BooksShown, IsShown};
 ghost use Rattle.ymx_hub.specs.Turns.{ReadTurns, EndsIn, WriteTurns};
 
@@ -224,10 +224,10 @@ impl<R: Recorder> ReadHalf<R> {
     /// In the same hold of the lock the whole history is shown to its seat and to another, as by `Hub::meet`.
     ///
     /// Refused with `Closed`, only where the stream is given up now, with `Memory` where there is none for an entry, and
-    /// with `TooMany` while 1,024 others are released, which no one session has.
+    /// with `Releases`, and nothing is done, while 1,024 others are released, which no one session has.
     pub fn release<W: Wait>(self, rt: &W, other: &mut Seat<R>) -> (Seat<R>, Result<(), HubFault>)
         // Its entries stand in the list of its seat: the stream is given up only where nothing more could come.
-        ensures booked { BooksShown R.KEEPS self.seat result.0 (Tends self.id self.seat.number) }
+        ensures booked { BooksShown R.KEEPS self.seat result.0 (Releases self.id self.seat.number result.1) }
         // Nothing that has come is left: nothing more comes, or a read of the stream waits.
         ensures dropped { IfOk result.1 (λ _. IsDropped R.KEEPS R.WITNESSED R.role R.config self.id self.seat result.0) }
         // The other seat has seen all that it had seen before, and now the same; its list stays.

@@ -15,12 +15,11 @@ use crate::awaiting::take_lock;
 use crate::booked::Booked;
 use crate::end_fault::EndFault;
 use crate::faults::HubFault;
+use crate::released_ids::Released;
 use crate::shared::Shared;
 use crate::wakeups::Wakeups;
-use indexmap::IndexSet;
 use std::alloc::Global;
 use std::sync::{Arc, Mutex, MutexGuard, Wait};
-use ymx_header::MOST_RECORDS;
 use ymx_memory::RefusedAllocation;
 use ymx_seats::{NewJournal, Recorder, Seat, Sight, Transcript};
 use ymx_session::{Session, Touched};
@@ -343,8 +342,8 @@ fn first_seats<R: Recorder>(booked: &mut Booked<R>) -> FirstSeats<R>
 }
 
 /// Room for the streams that a feed touches, and for those that are released.
-fn lists(alloc: Global) -> Result<(Touched, IndexSet<u32>), RefusedAllocation> {
+fn lists(alloc: Global) -> Result<(Touched, Released), RefusedAllocation> {
     let touched = Touched::new(alloc)?;
-    let released = ymx_memory::set_with_capacity(alloc, MOST_RECORDS)?;
+    let released = Released::new(alloc)?;
     Ok((touched, released))
 }

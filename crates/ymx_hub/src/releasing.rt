@@ -1,29 +1,42 @@
 //! Streams whose readers are done with them. What comes of such a stream is read and dropped, so that the peer gets its
 //! credit back, and its reading half is spent once nothing more can come.
 
-ghost use Rattle.std.specs.Prelude.{◌≡◌, ◌⊎◌, [], ◌∷◌, false, IfOk, IsOk};
-ghost use Rattle.ymx_hub.specs.Answers.{IsNotMemory};
+ghost use Rattle.std.specs.Prelude.{◌≡◌, ◌⊎◌, ◌+◌, ◌<◌, ◌≤◌, length, Contains, false, Ok, IfOk, OnErr, IsOk};
+ghost use Rattle.ymx_machine.specs.shared.Evidence.{evidence};
+ghost use Rattle.ymx_machine.specs.shared.Limits.{most_records};
+ghost use Rattle.ymx_hub.specs.Answers.{IsNotMemory, refused_release};
 ghost use Rattle.ymx_hub.specs.Books.{Books};
-ghost use Rattle.ymx_hub.specs.Releasing.{ReadsUp, ReadsOut, Tends, Settles, SettlesAmong, IsAmong, Waits, AllWait, IsDropped, SpentAlike, Leaves, LeavesOne, LeavesSome};
+ghost use Rattle.ymx_hub.specs.Releasing.{ReadsUp, ReadsOut, Looks, Releases, LooksAmong, Settles, SettlesAmong, Waits, WaitFrom, AllWait, IsDropped, SpentAlike, spent_by, spares_memory, OthersStay, LeavesSome, ReleasesOne};
 ghost use Rattle.ymx_hub.specs.Shown.{BooksShown, IsShown};
 
 use crate::awaiting::take_lock;
+use crate::booked::Booked;
 use crate::faults::HubFault;
 use crate::hub::Hub;
 use crate::settled::Settled;
 use crate::shared::Shared;
 use std::sync::Wait;
-use ymx_header::MOST_RECORDS;
 use ymx_memory::RefusedAllocation;
-use ymx_model::{CallFault, Got};
+use ymx_model::Got;
 use ymx_seats::{Recorder, Seat};
 
 /// Bytes that are read at once, and dropped.
 const CHUNK: usize = 4_096;
 
-impl<R: Recorder> Shared<R> {
+/// How a look at a released stream ended.
+#[derive(Drop)]
+enum Look {
+    /// A read of it would wait.
+    Waits,
+    /// There was no memory for the entry of a read.
+    Lacks(RefusedAllocation),
+    /// Nothing more can come, and its reading half is spent, which was answered so.
+    Spent(Result<(), HubFault>),
+}
+
+impl<R: Recorder> Booked<R> {
     /// Reads what has come of a stream, and drops it. Whether nothing more can come; else the stream waits.
-    #[tactic(auto, using(crate::proofs::Released::alike_none, crate::proofs::Released::alike_on))]
+    #[tactic(auto, using(crate::proofs::Released::alike_none, crate::proofs::Released::alike_on, crate::proofs::Released::stay_none, crate::proofs::Released::stay_read))]
     fn read_up<W: Wait>(
         &mut self,
         rt: &W,
@@ -31,103 +44,135 @@ impl<R: Recorder> Shared<R> {
         id: u32,
     ) -> Result<bool, RefusedAllocation>
         ensures booked { Books R.KEEPS seat.old seat.new (ReadsUp id seat.old.number result) }
-        ensures waits { IfOk result (λ over. over ≡ false → Waits self.new.booked.session id) }
-        ensures released { self.new.released.keys ≡ self.old.released.keys }
-        ensures halves { SpentAlike self.old.booked self.new.booked }
+        ensures waits { IfOk result (λ over. over ≡ false → Waits self.new.session id) }
+        ensures halves { SpentAlike self.old self.new }
+        ensures others { OthersStay id self.old.session self.new.session }
         ensures off { R.KEEPS ≡ false → IsOk result }
     {
         let mut buffer = [0; CHUNK];
         for _ in rt.forever() {
-            if self.booked.read_waits(id) {
-                return Ok(false);
-            }
-            match self.booked.read(seat, id, &mut buffer) {
+            match self.read(seat, id, &mut buffer) {
                 Ok(Got::Bytes(_) | Got::Wait) => {}
                 Ok(Got::End) => return Ok(true),
                 Err(HubFault::Memory(refused)) => return Err(refused),
                 Err(HubFault::Call(_)) => return Ok(true),
                 Err(HubFault::Seats(_)) => return Ok(true),
+                Err(HubFault::Releases(_)) => return Ok(true),
+            }
+            if self.read_waits(id) {
+                return Ok(false);
             }
         }
         unreachable!()
     }
 
-    /// Reads what has come of a released stream. Where nothing more can come its half is spent, and it is released no
-    /// more; else it waits.
-    #[tactic(auto, using(crate::proofs::Released::lack_tends, crate::proofs::Released::stop_tends, crate::proofs::Released::tends_end, crate::proofs::Released::stay_one, crate::proofs::Released::end_one, crate::proofs::Released::end_done))]
-    fn tend<W: Wait>(&mut self, rt: &W, seat: &mut Seat<R>, id: u32) -> Result<(), HubFault>
-        ensures booked { Books R.KEEPS seat.old seat.new (Tends id seat.old.number) }
-        ensures done { IfOk result (λ _. (Waits self.new.booked.session id × (self.new.released.keys ≡ self.old.released.keys)) ⊎ (Books R.KEEPS seat.old seat.new (ReadsOut id seat.old.number) × Leaves (id ∷ []) self.old.released.keys self.new.released.keys self.old.booked self.new.booked)) }
-        ensures left { LeavesOne id self.old.released.keys self.new.released.keys self.old.booked self.new.booked }
-        ensures off { R.KEEPS ≡ false → IsNotMemory result }
+    /// Reads what has come of a released stream, unless a read of it waits. Where nothing more can come its reading half is
+    /// spent.
+    #[tactic(auto, using(crate::proofs::Released::looks_none, crate::proofs::Released::looks_wait, crate::proofs::Released::looks_lack, crate::proofs::Released::looks_spent, crate::proofs::Released::alike_none, crate::proofs::Released::spent_on, crate::proofs::Released::stay_none, crate::proofs::Released::stay_on, crate::proofs::Released::stay_closed, crate::proofs::Released::no_release))]
+    fn look<W: Wait>(&mut self, rt: &W, seat: &mut Seat<R>, id: u32) -> Look
+        ensures booked { Books R.KEEPS seat.old seat.new (Looks id seat.old.number result) }
+        ensures waits { result ≡ Look.Waits → Waits self.new.session id }
+        ensures still { Waits self.old.session id → result ≡ Look.Waits }
+        ensures halves { SpentAlike (spent_by result id self.old) self.new }
+        ensures others { OthersStay id self.old.session self.new.session }
+        ensures named { result ≡ Look.Spent (Err (HubFault.Releases refused_release)) → ⊥ }
+        ensures off { R.KEEPS ≡ false → spares_memory result }
     {
-        let is_over = match self.read_up(rt, seat, id) {
-            Ok(is_over) => is_over,
-            Err(refused) => return Err(HubFault::Memory(refused)),
-        };
-        if !is_over {
-            return Ok(());
+        if self.read_waits(id) {
+            return Look::Waits;
         }
-        self.released.swap_remove(&id);
-        self.booked.close_half(seat, id)
+        match self.read_up(rt, seat, id) {
+            Ok(false) => Look::Waits,
+            Ok(true) => Look::Spent(self.close_half(seat, id)),
+            Err(refused) => Look::Lacks(refused),
+        }
     }
+}
 
+impl<R: Recorder> Shared<R> {
     /// Releases a stream: what has come of it is read and dropped, and it is looked at until nothing more can come; so long its
-    /// reading half stays unspent. `TooMany`, and nothing is done, where there is no room for it.
-    #[tactic(auto, using(crate::proofs::Released::tends_none, crate::proofs::Released::release_done))]
+    /// reading half stays unspent. `Releases`, and nothing is done, where there is no room for it.
+    #[tactic(auto, using(crate::proofs::Released::releases_wait, crate::proofs::Released::releases_lack, crate::proofs::Released::releases_spent, crate::proofs::Released::releases_none, crate::proofs::Released::release_done))]
     fn release<W: Wait>(&mut self, rt: &W, seat: &mut Seat<R>, id: u32) -> Result<(), HubFault>
-        ensures booked { Books R.KEEPS seat.old seat.new (Tends id seat.old.number) }
-        ensures done { IfOk result (λ _. (Waits self.new.booked.session id × IsAmong self.new.released.keys id) ⊎ Books R.KEEPS seat.old seat.new (ReadsOut id seat.old.number)) }
+        ensures booked { Books R.KEEPS seat.old seat.new (Releases id seat.old.number result) }
+        ensures refused { result ≡ Err (HubFault.Releases refused_release) → most_records ≤ length self.old.released }
+        ensures done { IfOk result (λ _. (Waits self.new.booked.session id × Contains self.new.released id) ⊎ Books R.KEEPS seat.old seat.new (ReadsOut id seat.old.number (Ok tt))) }
+        ensures listed { ReleasesOne id result self.old.released self.new.released self.old.booked self.new.booked }
+        ensures rest { self.new ≡ record self.old { booked = self.new.booked; released = self.new.released } }
         ensures off { R.KEEPS ≡ false → IsNotMemory result }
     {
-        if self.released.len() >= MOST_RECORDS || self.released.insert(id).is_err() {
-            return Err(HubFault::Call(CallFault::TooMany));
+        self.released.has_room()?;
+        match self.booked.look(rt, seat, id) {
+            Look::Waits => {
+                self.released.add(id);
+                Ok(())
+            }
+            Look::Lacks(refused) => {
+                self.released.add(id);
+                Err(HubFault::Memory(refused))
+            }
+            Look::Spent(answer) => answer,
         }
-        self.tend(rt, seat, id)
     }
 
-    /// Looks at all released streams, one after another, and at no other.
-    #[tactic(auto, using(crate::proofs::Released::among_none, crate::proofs::Released::among_on, crate::proofs::Released::some_none, crate::proofs::Released::some_one))]
-    fn tend_all<W: Wait>(&mut self, rt: &W, seat: &mut Seat<R>) -> Result<(), RefusedAllocation>
-        ensures booked { Books R.KEEPS seat.old seat.new (SettlesAmong self.old.released.keys seat.old.number) }
-        ensures left { LeavesSome self.old.released.keys self.new.released.keys self.old.booked self.new.booked }
+    /// Looks at the released stream at a place. It is released no more where its half is spent.
+    #[tactic(auto, using(crate::proofs::Released::looks_among, crate::proofs::Released::leaves_none, crate::proofs::Released::leaves_one, crate::proofs::Released::wait_on, crate::proofs::Released::wait_gone))]
+    fn settle_at<W: Wait>(
+        &mut self,
+        rt: &W,
+        seat: &mut Seat<R>,
+        place: usize,
+    ) -> Result<(), RefusedAllocation>
+        requires { place < length self.old.released }
+        ensures booked { Books R.KEEPS seat.old seat.new (LooksAmong self.old.released seat.old.number) }
+        ensures wait { IfOk result (λ _. WaitFrom self.old.booked.session self.old.released (place + 1) → WaitFrom self.new.booked.session self.new.released place) }
+        ensures left { LeavesSome self.old.released self.new.released self.old.booked self.new.booked }
+        ensures within { place ≤ length self.new.released }
+        ensures rest { self.new ≡ record self.old { booked = self.new.booked; released = self.new.released } }
         ensures off { R.KEEPS ≡ false → IsOk result }
     {
-        let mut at = 0;
-        for _ in 0..MOST_RECORDS {
-            let Some(id) = self.released.get_index(at) else {
-                return Ok(());
-            };
-            let id = *id;
-            if let Err(HubFault::Memory(refused)) = self.tend(rt, seat, id) {
-                return Err(refused);
-            }
-            if self.released.contains(&id) {
-                at = at.saturating_add(1);
+        let id = self.released.at(place);
+        match self.booked.look(rt, seat, id) {
+            Look::Waits => Ok(()),
+            Look::Lacks(refused) => Err(refused),
+            Look::Spent(answer) => {
+                self.released.remove(place);
+                unless_lacking(answer)
             }
         }
-        Ok(())
     }
 
-    /// Looks at the released streams until each of them waits, and at no other.
+    /// Looks at all released streams, each once and at no other, so that each that is left waits. Without memory for an entry those
+    /// that are left are looked at by the next call.
     #[tactic(auto, using(crate::proofs::Released::among_none, crate::proofs::Released::among_more, crate::proofs::Released::some_none, crate::proofs::Released::some_more))]
     pub(crate) fn settle<W: Wait>(
         &mut self,
         rt: &W,
         seat: &mut Seat<R>,
     ) -> Result<Settled, RefusedAllocation>
-        ensures booked { Books R.KEEPS seat.old seat.new (SettlesAmong self.old.released.keys seat.old.number) }
-        ensures wait { IfOk result (λ _. AllWait self.new.booked.session self.new.released.keys) }
-        ensures left { LeavesSome self.old.released.keys self.new.released.keys self.old.booked self.new.booked }
+        ensures booked { Books R.KEEPS seat.old seat.new (SettlesAmong self.old.released seat.old.number) }
+        ensures wait { IfOk result (λ _. AllWait self.new.booked.session self.new.released) }
+        ensures left { LeavesSome self.old.released self.new.released self.old.booked self.new.booked }
+        ensures rest { self.new ≡ record self.old { booked = self.new.booked; released = self.new.released } }
         ensures off { R.KEEPS ≡ false → IsOk result }
     {
-        for _ in rt.forever() {
-            if let Some(settled) = Settled::of(self) {
-                return Ok(settled);
-            }
-            self.tend_all(rt, seat)?;
+        // From the last place on, so that who comes into the place of another was looked at.
+        let count = self.released.len();
+        for done in 0..count {
+            self.settle_at(rt, seat, count - 1 - done)?;
         }
-        unreachable!()
+        Ok(Settled::of(self))
+    }
+}
+
+/// The want of memory for an entry, if that is the answer: any other refusal stands in the entry.
+fn unless_lacking(answer: Result<(), HubFault>) -> Result<(), RefusedAllocation>
+    ensures lacks { OnErr result (answer ≡ Err (HubFault.Memory evidence)) }
+    ensures spares { IsNotMemory answer → IsOk result }
+{
+    match answer {
+        Err(HubFault::Memory(refused)) => Err(refused),
+        _ => Ok(()),
     }
 }
 
@@ -142,7 +187,7 @@ impl<R: Recorder> Hub<R> {
         id: u32,
         other: &mut Seat<R>,
     ) -> Result<(), HubFault>
-        ensures booked { BooksShown R.KEEPS seat.old seat.new (Tends id seat.old.number) }
+        ensures booked { BooksShown R.KEEPS seat.old seat.new (Releases id seat.old.number result) }
         ensures dropped { IfOk result (λ _. IsDropped R.KEEPS R.WITNESSED R.role R.config id seat.old seat.new) }
         ensures other { IsShown other.old other.new }
         ensures same { other.new.seen ≡ seat.new.seen }

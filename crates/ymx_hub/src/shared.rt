@@ -9,8 +9,8 @@ ghost use Rattle.ymx_hub.specs.Books.{Books, Asks, Does, to_write, to_read};
 
 use crate::booked::Booked;
 use crate::faults::HubFault;
+use crate::released_ids::Released;
 use crate::wakeups::Waiters;
-use indexmap::IndexSet;
 use ymx_memory::RefusedAllocation;
 use ymx_model::{Fed, Got, Wrote};
 use ymx_seats::{Recorder, Seat};
@@ -24,7 +24,7 @@ pub(crate) struct Shared<R: Recorder> {
     /// What the last feed touched.
     pub(crate) touched: Touched,
     /// The streams that were released, whose reading halves are unspent.
-    pub(crate) released: IndexSet<u32>,
+    pub(crate) released: Released,
     /// A feed stopped at 1,024 unsent answers, and nothing was emitted since.
     pub(crate) is_full: bool,
     /// A write pump has given up, so that nothing goes out any more.
@@ -35,7 +35,7 @@ pub(crate) struct Shared<R: Recorder> {
 
 impl<R: Recorder> Shared<R> {
     /// Nobody waits, nothing was touched, and these are released.
-    pub(crate) fn new(booked: Booked<R>, touched: Touched, released: IndexSet<u32>) -> Shared<R> {
+    pub(crate) fn new(booked: Booked<R>, touched: Touched, released: Released) -> Shared<R> {
         Shared {
             booked,
             waiters: Waiters::none(),

@@ -14,7 +14,7 @@ use Rattle.ymx_tunnel.specs.Copies.{CopiesIn, CopiesOut, EndsWell, StopsAt, Stop
 use Rattle.ymx_memory.specs.declared.refused.RefusedAllocation.{RefusedAllocation}
 use Rattle.ymx_machine.specs.declared.types.CallFault.TheVariants as refusal
 use Rattle.ymx_hub.specs.declared.faults.HubFault.{HubFault}
-use Rattle.ymx_hub.specs.declared.faults.HubFault.TheVariants.{Call, Memory, Seats}
+use Rattle.ymx_hub.specs.declared.faults.HubFault.TheVariants.{Call, Memory, Seats, Releases}
 
 -- a call that fails is counted
 pub counted : (first old new : ℕ) → new ≡ min (old + 1) most_failures → old ≡ first → IsTrue (has_failed first new)
@@ -153,6 +153,7 @@ own_case (Call refusal.Lost) own f e = cc
 own_case (Call _) own f e = f e
 own_case (Memory _) own f e = f e
 own_case (Seats _) own f e = f e
+own_case (Releases _) own f e = f e
 
 pub no_end : (fault : HubFault) (why own : CopyWhy) → why ≡ copy_reason fault own → (own ≡ End → ⊥) → why ≡ End → ⊥
 no_end fault why own e f w = own_case fault own f (sym e ∙ w)

@@ -56,7 +56,7 @@ pub(crate) fn why_of_fault(fault: HubFault, own: CopyWhy) -> (CopyWhy, Option<Re
         HubFault::Call(CallFault::Reset) => (CopyWhy::Reset, None),
         HubFault::Call(CallFault::Lost) => (CopyWhy::Lost, None),
         HubFault::Memory(refused) => (own, Some(refused)),
-        HubFault::Call(_) | HubFault::Seats(_) => (own, None),
+        HubFault::Call(_) | HubFault::Seats(_) | HubFault::Releases(_) => (own, None),
     }
 }
 

@@ -1,10 +1,13 @@
+use Rattle.std.proofs.Common.{◌≡◌, ◌≤◌, ◌-◌, length}
 use Rattle.ymx_hub.specs.Books.{Books}
-use Rattle.ymx_hub.specs.Releasing.{SettlesAmong, LeavesSome}
+use Rattle.ymx_hub.specs.Releasing.{SettlesAmong, LeavesSome, WaitFrom}
 use Rattle.ymx_hub.proofs.shared.Shared.settle.Given as goal
 
-abbrev pub invariant-loop : goal.invariant-loop
-invariant-loop g l = record {
-  next : (goal.iterator-loop g).can_next l.iterator' × (goal.iterator-loop g).is_finite l.iterator';
-  settles : Books g.R.Recorder.KEEPS l.initial.seat l.seat (SettlesAmong l.initial.self.released.keys l.initial.seat.number);
-  left : LeavesSome l.initial.self.released.keys l.self.released.keys l.initial.self.booked l.self.booked;
+abbrev pub invariant-loop-done : goal.invariant-loop-done
+invariant-loop-done g l = record {
+  settles : Books g.R.Recorder.KEEPS l.initial.seat l.seat (SettlesAmong l.initial.self.released l.initial.seat.number);
+  left : LeavesSome l.initial.self.released l.self.released l.initial.self.booked l.self.booked;
+  within : l.count - l.done ≤ length l.self.released;
+  waits : WaitFrom l.self.booked.session l.self.released (l.count - l.done);
+  rest : l.self ≡ record l.initial.self { booked = l.self.booked; released = l.self.released };
 }
