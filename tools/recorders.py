@@ -55,6 +55,15 @@ KNOWN = {
         ("ymx_hub/src/booked.rt", "requires keeps { R.KEEPS ≡ true }"),
         ("ymx_hub/src/hub.rt", "requires { R.KEEPS ≡ true }"),
     ],
+    "a stream is written by the caller of its writing half, where there is a journal that knows who that is": [
+        ("ymx_hub/src/book.rt", "requires may { R.WITNESSED ≡ true → MayDo"),
+        ("ymx_hub/src/halves.rt", "requires { R.WITNESSED ≡ true → MayWrite"),
+        ("ymx_hub/src/halves.rt", "ghost invariant = { λ half. R.WITNESSED ≡ true → MayWrite half.seat.right half.id };"),
+        ("ymx_hub/src/hub.rt", "requires may { R.WITNESSED ≡ true → MayWrite"),
+        ("ymx_hub/src/shared.rt", "requires may { R.WITNESSED ≡ true → MayWrite"),
+        ("ymx_hub/src/stream_calls.rt", "requires may { R.WITNESSED ≡ true → MayWrite"),
+        ("ymx_hub/src/waiting_calls.rt", "requires may { R.WITNESSED ≡ true → MayWrite"),
+    ],
     "what a half tells of its bytes and its end, where entries are kept: the body is one for all recorders": [
         ("ymx_tunnel/src/halves.rt", text)
         for text in (

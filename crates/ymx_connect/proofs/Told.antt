@@ -13,7 +13,10 @@ use Rattle.ymx_hub.specs.declared.faults.HubFault.{HubFault}
 use Rattle.ymx_hub.specs.Books.{Books, Grows, Extends, Spends, to_finish}
 use Rattle.ymx_hub.specs.Halves.{HalfView, OpensHalves}
 use Rattle.ymx_hub.specs.Releasing.{Releases, IsDropped}
+use Rattle.ymx_seats.specs.declared.plays.Right.{Right}
+use Rattle.ymx_hub.specs.Rights.{MayWrite, SaysSole, WritesAlone}
 use Rattle.ymx_hub.specs.Shown.{HasGrown, IsShown, BooksShown}
+use Rattle.ymx_hub.proofs.Rights.{writes_alone}
 use Rattle.ymx_hub.specs.Turns.{WriteTurns}
 use Rattle.ymx_connect.specs.declared.connect_fault.ConnectFault.{ConnectFault}
 use Rattle.ymx_connect.specs.declared.connect_fault.ConnectFault.TheVariants.{Session, Memory, NoThread}
@@ -80,6 +83,11 @@ module _ (old new half : SeatView) (Such : List Entry → Type 0) (sees : SeesLa
 -- the caller meets the seat of a half behind its last call
 pub sees_last : (old new half last shown : SeatView) (Such : List Entry → Type 0) → Books false half last Such → IsShown last shown → IsShown old new → new.seen ≡ shown.seen → SeesLast old new half Such
 sees_last old new half last shown Such booked met mine same = record { last = shown; booked = record { between = last; booked = booked; shown = met }; shown = mine; seen = same }
+
+-- nobody else has called the writing half of a stream, whose caller was shown the history behind its last call
+pub last_alone : (role : Role) (config : Config) (id number n : ℕ) (right last : Right) (seen met : Option (List Entry)) → MayWrite right id → last ≡ right → n ≡ number → SaysSole last n met → seen ≡ met → IsWitnessed true role config seen → WritesAlone id number seen
+last_alone role config id number n right last seen met may same by sole is history =
+    writes_alone role config id number right seen may (subst (λ (x : Right × ℕ × Option (List Entry)). SaysSole x.0 x.1 x.2) (λ i. (same i, by i, sym is i)) sole) history
 
 -- the half that is released is shown the history with its caller
 pub sees_release : (role : Role) (config : Config) (old new last : SeatView) (reader : HalfView) (answer : Result (Unit {0}) HubFault) → BooksShown false reader.seat last (Releases reader.id reader.seat.number answer) → IfOk answer (λ u. IsDropped false true role config reader.id reader.seat last) → IsShown old new → new.seen ≡ last.seen → SeesRelease role config old new reader answer

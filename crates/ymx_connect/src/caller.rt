@@ -8,6 +8,7 @@ ghost use Rattle.ymx_seats.specs.Views.{IsWitnessed};
 ghost use Rattle.ymx_hub.specs.Answers.{IsNotMemory};
 ghost use Rattle.ymx_hub.specs.Books.{Books, Asks, to_go_away, to_close};
 ghost use Rattle.ymx_hub.specs.WholeHistories.{IsHistoryOf};
+ghost use Rattle.ymx_hub.specs.Rights.{SaysSole, WritesAlone};
 ghost use Rattle.ymx_hub.specs.Shown.{IsShown};
 ghost use Rattle.ymx_hub.specs.Halves.{OpensHalves, OpensHalvesWith, AcceptsHalves};
 ghost use Rattle.ymx_hub.specs.Turns.{PingTurns};
@@ -80,19 +81,24 @@ impl<J: Naming> Caller<J> {
     pub fn meet<W: Wait>(&mut self, rt: &W, other: &mut Seat<Witnessed<J>>)
         ensures mine { IsShown self.old self.new }
         ensures theirs { IsShown other.old other.new }
+        ensures sole { SaysSole other.old.right other.old.number other.new.seen }
         ensures same { self.new.seen ≡ other.new.seen }
     {
         self.handle.hub.meet(rt, &mut self.seat, other);
     }
 
     /// `meet`, with a writing half: what was written so far stands in the history that the caller has then seen.
+    #[tactic(auto, using(ymx_hub::proofs::Rights::writes_alone))]
     pub fn meet_writer<W: Wait>(&mut self, rt: &W, writer: &mut Writer<J>)
         ensures same { writer.new.id ≡ writer.old.id }
         ensures mine { IsShown self.old self.new }
         ensures theirs { IsShown writer.old.seat writer.new.seat }
+        // Nobody else has written, finished or reset its stream in this history.
+        ensures alone { WritesAlone writer.old.id writer.old.seat.number self.new.seen }
         ensures seen { self.new.seen ≡ writer.new.seat.seen }
     {
         writer.half.meet(rt, &mut self.seat);
+        self.seat.history();
     }
 
     /// `meet`, with a reading half: what was read so far stands in the history that the caller has then seen.

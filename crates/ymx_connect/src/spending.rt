@@ -3,6 +3,7 @@
 ghost use Rattle.std.specs.Prelude.{◌≡◌};
 ghost use Rattle.ymx_hub.specs.Answers.{IsNotMemory};
 ghost use Rattle.ymx_hub.specs.Books.{Spends, Closes, to_finish, to_reset};
+ghost use Rattle.ymx_hub.specs.Rights.{WritesAlone};
 ghost use Rattle.ymx_connect.specs.Told.{SeesLast, SeesRelease, ClosesStream};
 
 use crate::caller::Caller;
@@ -19,10 +20,13 @@ impl<J: Naming> Caller<J> {
     #[tactic(auto, using(crate::proofs::Told::sees_last))]
     pub fn finish<W: Wait>(&mut self, rt: &W, writer: Writer<J>) -> Result<(), StreamFault>
         ensures booked { SeesLast self.old self.new writer.seat (Spends (to_finish writer.id) writer.id writer.seat.number result) }
+        // Nobody else has written, finished or reset the stream in the history that the caller has then seen.
+        ensures alone { WritesAlone writer.id writer.seat.number self.new.seen }
         ensures spares { IsNotMemory result }
     {
         let (mut last, finished) = writer.into_half().finish(rt);
         self.meet(rt, &mut last);
+        self.history();
         discard(last);
         finished
     }
@@ -34,10 +38,13 @@ impl<J: Naming> Caller<J> {
     #[tactic(auto, using(crate::proofs::Told::sees_last))]
     pub fn reset<W: Wait>(&mut self, rt: &W, writer: Writer<J>) -> Result<(), StreamFault>
         ensures booked { SeesLast self.old self.new writer.seat (Spends (to_reset writer.id) writer.id writer.seat.number result) }
+        // Nobody else has written, finished or reset the stream in the history that the caller has then seen.
+        ensures alone { WritesAlone writer.id writer.seat.number self.new.seen }
         ensures spares { IsNotMemory result }
     {
         let (mut last, was_reset) = writer.into_half().reset(rt);
         self.meet(rt, &mut last);
+        self.history();
         discard(last);
         was_reset
     }

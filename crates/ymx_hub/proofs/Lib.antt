@@ -15,3 +15,4 @@ pub mod Accepts
 pub mod Shown
 pub mod Carried
 pub mod Released
+pub mod Rights

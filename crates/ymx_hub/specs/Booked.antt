@@ -1,5 +1,5 @@
 -- What is under the lock of a hub (this project's own).
-use Rattle.std.specs.Prelude.{◌≡◌, ℕ, ◌==◌, ◌-◌, ◌++◌, ◌∷◌, List, [], position, swap_remove, nat_eq, Bool, true, false, Option, Some, None, if◌then◌else◌}
+use Rattle.std.specs.Prelude.{◌≡◌, ℕ, ◌==◌, ◌-◌, ◌++◌, ◌∷◌, List, [], length, position, swap_remove, nat_eq, Bool, true, false, Option, Some, None, if◌then◌else◌}
 use Rattle.std.specs.List.{list_any}
 use Rattle.std.specs.Option.{option_map_or}
 use Rattle.ymx_model.specs.declared.types.Role.{Role}
@@ -8,6 +8,7 @@ use Rattle.ymx_model.specs.declared.types.Entry.{Entry}
 use Rattle.ymx_model.specs.session.Sessions.{Session}
 use Rattle.ymx_seats.specs.Journals.{JournalView}
 use Rattle.ymx_seats.specs.Transcripts.{IsHistory}
+use Rattle.ymx_hub.specs.Rights.{AreRightful}
 
 -- The session, with the role and config with which it was made; the entries so far; the journal, where the recorder
 -- witnesses; how many seats were given; how many
@@ -47,12 +48,12 @@ Kept true true role config entries s = Unit {0}
 Kept false ended role config entries s = (entries ≡ []) × (ended ≡ false)
 
 -- A recorder that witnesses has a journal, whose whole history is that of the session. The session was made with the role
--- and config that the recorder names, and the journal has numbered as many callers as seats were given. Another recorder
--- has no journal.
+-- and config that the recorder names, the journal has numbered as many callers as seats were given, and each entry is one that its
+-- caller may make. Another recorder has no journal.
 abbrev pub IsJournaled : (witnessed : Bool) (named : Role) (with : Config) → Role → Config → Option JournalView → Session → (given : ℕ) → Type 0
 IsJournaled true named with role config None s given = ⊥
 IsJournaled true named with role config (Some j) s given =
-    (role ≡ named) × (config ≡ with) × IsHistory role config j.whole s × (j.made ≡ given)
+    (role ≡ named) × (config ≡ with) × IsHistory role config j.whole s × (length j.rights ≡ given) × AreRightful j.rights j.whole
 IsJournaled false named with role config None s given = Unit {0}
 IsJournaled false named with role config (Some j) s given = ⊥
 
@@ -77,6 +78,6 @@ fresh s journal = record {
 -- a journal that nothing stands in, of such a session as the recorder names, where it witnesses
 abbrev pub IsUnused : (witnessed : Bool) (named : Role) (with : Config) → Session → Option JournalView → Type 0
 IsUnused true named with s None = ⊥
-IsUnused true named with s (Some j) = (s.role ≡ named) × (config_of s ≡ with) × (j.whole ≡ []) × (j.made ≡ 0)
+IsUnused true named with s (Some j) = (s.role ≡ named) × (config_of s ≡ with) × (j.whole ≡ []) × (j.rights ≡ [])
 IsUnused false named with s None = Unit {0}
 IsUnused false named with s (Some j) = ⊥

@@ -11,3 +11,4 @@ pub mod Pumped
 pub mod Shown
 pub mod Carried
 pub mod Releasing
+pub mod Rights

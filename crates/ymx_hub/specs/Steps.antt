@@ -10,12 +10,13 @@ use Rattle.ymx_model.specs.declared.types.Entry.{Entry}
 use Rattle.ymx_model.specs.session.Emissions.{in_turn}
 use Rattle.ymx_model.specs.session.Histories.{Gives}
 use Rattle.ymx_session.specs.Replies.{done_or}
-use Rattle.ymx_seats.specs.Views.{SeatView, kept_entries, entry, journal_after, with_caller, whole_of, IsNewcomer}
+use Rattle.ymx_seats.specs.Views.{SeatView, kept_entries, entry, journal_after, whole_of, IsNewcomer}
 use Rattle.ymx_hub.specs.declared.faults.HubFault.{HubFault}
 use Rattle.ymx_hub.specs.declared.faults.HubFault.TheVariants.{Memory, Seats}
 use Rattle.ymx_hub.specs.Answers.{hub_fault_of, hub_answer, refused_seat}
 use Rattle.ymx_hub.specs.Books.{TellsStream, to_open, to_open_with, to_accept, to_forget}
 use Rattle.ymx_hub.specs.Booked.{BookedView, is_half_spent, spent}
+use Rattle.ymx_hub.specs.Rights.{handed_out}
 
 -- ---- one event
 
@@ -57,12 +58,12 @@ IsNext number entries history seat =
     (seat.number ≡ number) × (seat.start ≡ length entries) × (seat.entries ≡ []) × (seat.seen ≡ history) × IsNewcomer number seat.seen
 
 -- one event that gave a stream, for whose halves two seats more are given
-pub record HandsOut (keeps : Bool) (seat : ℕ) (event : Event) (told : Reply) (one other : SeatView) (old new : BookedView) : Type 0 where
+pub record HandsOut (keeps : Bool) (seat id : ℕ) (event : Event) (told : Reply) (one other : SeatView) (old new : BookedView) : Type 0 where
   pub gives : Gives in_turn old.session event told new.session
   pub rest : new ≡ record old {
     session = new.session;
     entries = entries_after keeps seat event told old.entries;
-    journal = with_caller (with_caller (journal_after seat event told old.journal));
+    journal = handed_out id (journal_after seat event told old.journal);
     given = old.given + 2;
     unspent = old.unspent + 1;
   }
@@ -77,23 +78,23 @@ HandsNone keeps seat event fault old new =
 
 -- the stream that was given, or that none is offered yet
 abbrev pub StepsGiven : Event → (keeps : Bool) (seat : ℕ) → Result (Option (ℕ × ℕ × SeatView × SeatView)) HubFault → (old new : BookedView) → Type 0
-StepsGiven event keeps seat (Ok (Some made)) old new = (told : Reply) × TellsStream event made.0 made.1 told × HandsOut keeps seat event told made.2 made.3 old new
+StepsGiven event keeps seat (Ok (Some made)) old new = (told : Reply) × TellsStream event made.0 made.1 told × HandsOut keeps seat made.0 event told made.2 made.3 old new
 StepsGiven event keeps seat (Ok None) old new = Steps keeps seat event (reply.Accepted None) old new
 StepsGiven event keeps seat (Err fault) old new = HandsNone keeps seat event fault old new
 
 -- the stream that was opened
 abbrev pub StepsOpened : (keeps : Bool) (seat : ℕ) → Result (ℕ × SeatView × SeatView) HubFault → (old new : BookedView) → Type 0
-StepsOpened keeps seat (Ok made) old new = HandsOut keeps seat to_open (reply.Opened made.0) made.1 made.2 old new
+StepsOpened keeps seat (Ok made) old new = HandsOut keeps seat made.0 to_open (reply.Opened made.0) made.1 made.2 old new
 StepsOpened keeps seat (Err fault) old new = HandsNone keeps seat to_open fault old new
 
 -- the stream that was opened with these bytes, and how many of them were taken
 abbrev pub StepsOpenedWith : List ℕ → (keeps : Bool) (seat : ℕ) → Result (ℕ × ℕ × SeatView × SeatView) HubFault → (old new : BookedView) → Type 0
-StepsOpenedWith bytes keeps seat (Ok made) old new = HandsOut keeps seat (to_open_with bytes) (reply.OpenedWith made.0 made.1) made.2 made.3 old new
+StepsOpenedWith bytes keeps seat (Ok made) old new = HandsOut keeps seat made.0 (to_open_with bytes) (reply.OpenedWith made.0 made.1) made.2 made.3 old new
 StepsOpenedWith bytes keeps seat (Err fault) old new = HandsNone keeps seat (to_open_with bytes) fault old new
 
 -- the stream that was accepted, or that none is offered yet
 abbrev pub StepsAccepted : (keeps : Bool) (seat : ℕ) → Result (Option (ℕ × SeatView × SeatView)) HubFault → (old new : BookedView) → Type 0
-StepsAccepted keeps seat (Ok (Some made)) old new = HandsOut keeps seat to_accept (reply.Accepted (Some made.0)) made.1 made.2 old new
+StepsAccepted keeps seat (Ok (Some made)) old new = HandsOut keeps seat made.0 to_accept (reply.Accepted (Some made.0)) made.1 made.2 old new
 StepsAccepted keeps seat (Ok None) old new = Steps keeps seat to_accept (reply.Accepted None) old new
 StepsAccepted keeps seat (Err fault) old new = HandsNone keeps seat to_accept fault old new
 

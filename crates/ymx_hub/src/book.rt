@@ -7,10 +7,11 @@ ghost use Rattle.ymx_model.specs.session.Emissions.{in_turn};
 ghost use Rattle.ymx_model.specs.session.Histories.{Gives};
 ghost use Rattle.ymx_session.specs.Applied.{IsSizeOf, IsSizeOfCall, IsReplyTo, IsDoneBy, in_buffer, counted};
 ghost use Rattle.ymx_seats.specs.EntryRooms.{IsReady};
-ghost use Rattle.ymx_seats.specs.Views.{kept_entries, entry, journal_after, whole_of, IsBehind};
+ghost use Rattle.ymx_seats.specs.Views.{kept_entries, entry, journal_after, whole_of, HasRight, IsBehind};
 ghost use Rattle.ymx_hub.specs.Answers.{IsNotMemory, TakesNone};
 ghost use Rattle.ymx_hub.specs.Books.{Books, Asks, Does, told_or};
 ghost use Rattle.ymx_hub.specs.Gained.{GainedAlike};
+ghost use Rattle.ymx_hub.specs.Rights.{MayDo};
 ghost use Rattle.ymx_hub.specs.WholeHistories.{IsHistoryOf};
 ghost use Rattle.ymx_hub.specs.Steps.{StepsAsked, StepsTold, entries_after};
 
@@ -32,7 +33,9 @@ impl<R: Recorder> Booked<R> {
         event: &Event<Lent<'_>>,
         buffer: &mut [u8],
     ) -> Result<Reply<usize>, RefusedAllocation>
-        requires { IsSizeOf event.now (length buffer.old) }
+        requires size { IsSizeOf event.now (length buffer.old) }
+        requires may { R.WITNESSED ≡ true → MayDo seat.old.right event.now }
+        ensures right { seat.new.right ≡ seat.old.right }
         ensures booked { Books R.KEEPS seat.old seat.new (Does event.now (in_buffer buffer.new) seat.old.number result) }
         ensures steps { StepsTold R.KEEPS event.now (in_buffer buffer.new) seat.old.number result self.old self.new }
         ensures alike { GainedAlike self.old.entries self.new.entries seat.old.entries seat.new.entries }
@@ -53,7 +56,9 @@ impl<R: Recorder> Booked<R> {
         call: Call<Lent<'_>>,
         buffer: &mut [u8],
     ) -> Result<Reply<usize>, HubFault>
-        requires { IsSizeOfCall call (length buffer.old) }
+        requires size { IsSizeOfCall call (length buffer.old) }
+        requires may { R.WITNESSED ≡ true → MayDo seat.old.right (asked.Call call) }
+        ensures right { seat.new.right ≡ seat.old.right }
         ensures booked { Books R.KEEPS seat.old seat.new (Asks (asked.Call call.entry) (told_or buffer.new) seat.old.number result) }
         ensures steps { StepsAsked R.KEEPS (asked.Call call.entry) (told_or buffer.new) seat.old.number result self.old self.new }
         ensures alike { GainedAlike self.old.entries self.new.entries seat.old.entries seat.new.entries }
@@ -88,6 +93,7 @@ pub(crate) fn carry_out<R: Recorder>(
     ensures within { counted result ≤ length buffer.old }
     ensures rest { drop (counted result) buffer.new ≡ drop (counted result) buffer.old }
     ensures number { seat.new.number ≡ seat.old.number }
+    ensures right { seat.new.right ≡ seat.old.right }
     ensures start { seat.new.start ≡ seat.old.start }
     ensures entries { log.new.entries ≡ entries_after R.KEEPS seat.old.number event.now (in_buffer buffer.new result) log.old.entries }
     ensures seat_entries { seat.new.entries ≡ seat.old.entries ++ kept_entries R.KEEPS (entry (length log.old.entries) seat.old.number event.now (in_buffer buffer.new result)) }
@@ -95,6 +101,7 @@ pub(crate) fn carry_out<R: Recorder>(
     ensures journal { log.new.journal ≡ journal_after seat.old.number event.now (in_buffer buffer.new result) log.old.journal }
     ensures seen { seat.new.seen ≡ whole_of log.new.journal }
     ensures behind { IsBehind seat.old.number seat.old.seen log.old.journal }
+    ensures known { HasRight seat.old.number seat.old.right log.old.journal }
     ensures history { IsHistoryOf R.WITNESSED R.role R.config (whole_of log.new.journal) session.new }
 {
     let told = session.apply(event, buffer);

@@ -9,9 +9,11 @@ ghost use Rattle.ymx_model.specs.session.Emissions.{is_ready};
 ghost use Rattle.ymx_seats.specs.Tallies.{Tallies};
 ghost use Rattle.ymx_seats.specs.Transcripts.{IsNew};
 ghost use Rattle.ymx_seats.specs.Views.{SeatView, whole_of, with_caller, IsBehind};
+ghost use Rattle.ymx_seats.specs.declared.plays.Right.TheVariants.{Free};
 ghost use Rattle.ymx_hub.specs.Answers.{IsNotMemory, IsSeatFault, refused_seat};
 ghost use Rattle.ymx_hub.specs.Booked.{fresh, config_of, IsUnused};
 ghost use Rattle.ymx_hub.specs.WholeHistories.{IsHistoryOf};
+ghost use Rattle.ymx_hub.specs.Rights.{SaysSole};
 ghost use Rattle.ymx_hub.specs.Steps.{IsNext};
 ghost use Rattle.ymx_hub.specs.declared.end_fault.EndWhy.TheVariants.{SeatsOut, OutOfOrder};
 
@@ -22,7 +24,7 @@ use indexmap::IndexSet;
 use std::alloc::Global;
 use std::marker::Model;
 use ymx_model::{CallFault, Config, Role, Status};
-use ymx_seats::{Log, NewJournal, Recorder, Seat, Transcript, agree, discard};
+use ymx_seats::{Log, NewJournal, NoHalf, Recorder, Seat, Transcript, agree, discard};
 use ymx_session::Session;
 
 /// A session, with what it was made, the log of its events, how many seats were given, how many streams have both
@@ -83,7 +85,7 @@ impl<R: Recorder> Booked<R> {
         requires named { opened ≡ R.table }
         requires role { session.role ≡ R.role }
         requires config { config_of session ≡ R.config }
-        ensures { result ≡ fresh session (Some (record { whole = []; made = 0 })) }
+        ensures { result ≡ fresh session (Some (record { whole = []; rights = [] })) }
     {
         Booked::over(alloc, session, Log::witnessed(alloc, opened))
     }
@@ -120,7 +122,7 @@ impl<R: Recorder> Booked<R> {
     pub fn seat(&mut self) -> Result<Seat<R>, HubFault>
         ensures spares { IsNotMemory result }
         ensures new { IfOk result (IsNext self.old.given self.old.entries (whole_of self.old.journal)) }
-        ensures counted { MatchResult result (λ seat. self.new ≡ record self.old { given = self.old.given + 1; journal = with_caller self.old.journal }) (λ fault. self.new ≡ self.old) }
+        ensures counted { MatchResult result (λ seat. self.new ≡ record self.old { given = self.old.given + 1; journal = with_caller Free self.old.journal }) (λ fault. self.new ≡ self.old) }
         ensures goes_on { OnOk result ((self.old.ended ≡ false) × (self.old.given + 1 < 2 ^ 32)) }
         ensures why { IfErr result (IsSeatFault R.KEEPS) }
         ensures refused { IfErr result (λ fault. ((fault ≡ HubFault.Call CallFault.Closed) × (self.old.ended ≡ true)) ⊎ ((fault ≡ HubFault.Seats refused_seat) × (self.old.ended ≡ false) × (self.old.given + 1 ≡ 2 ^ 32))) }
@@ -129,19 +131,20 @@ impl<R: Recorder> Booked<R> {
             return Err(HubFault::Call(CallFault::Closed));
         }
         seats_left(self.given, 1)?;
-        let seat = self.log.seat(self.alloc, self.given);
+        let seat = self.log.seat::<NoHalf>(self.alloc, self.given);
         self.given += 1;
         Ok(seat)
     }
 
     /// Shows the whole history to a seat, where there is a journal: it is the history of the session as it stands now.
     /// Nothing else changes.
-    #[tactic(auto, using(crate::proofs::Journals::witnessed_now, crate::proofs::WholeHistories::history_now))]
+    #[tactic(auto, using(crate::proofs::Journals::witnessed_now, crate::proofs::Journals::sole_now, crate::proofs::WholeHistories::history_now))]
     pub fn show(&mut self, seat: &mut Seat<R>)
         ensures same { self.new ≡ self.old }
         ensures seat { seat.new ≡ record seat.old { seen = whole_of self.old.journal } }
         ensures history { IsHistoryOf R.WITNESSED R.role R.config seat.new.seen self.old.session }
         ensures behind { IsBehind seat.old.number seat.old.seen self.old.journal }
+        ensures sole { SaysSole seat.old.right seat.old.number seat.new.seen }
     {
         self.log.show(seat);
     }

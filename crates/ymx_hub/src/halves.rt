@@ -1,11 +1,12 @@
 //! The two halves of a stream.
 
-ghost use Rattle.std.specs.Prelude.{◌≡◌, ◌<◌, ◌≤◌, length, drop, false, IfOk, IfErr, MatchResult};
+ghost use Rattle.std.specs.Prelude.{◌≡◌, ◌<◌, ◌≤◌, length, drop, true, false, IfOk, IfErr, MatchResult};
 ghost use Rattle.ymx_machine.specs.declared.types.Reply.TheVariants as reply;
 ghost use Rattle.ymx_seats.specs.Views.{IsWitnessed};
 ghost use Rattle.ymx_hub.specs.Answers.{IsNotMemory};
 ghost use Rattle.ymx_hub.specs.Books.{Books, Spends, Closes, to_finish, to_reset};
 ghost use Rattle.ymx_hub.specs.Releasing.{Releases, IsDropped};
+ghost use Rattle.ymx_hub.specs.Rights.{MayWrite, SaysSole};
 ghost use Rattle.ymx_hub.specs.Shown.{BooksShown, IsShown};
 ghost use Rattle.ymx_hub.specs.Turns.{ReadTurns, EndsIn, WriteTurns};
 
@@ -37,6 +38,7 @@ pub(crate) fn both_halves<R: Recorder>(
     hubs: HubTwice<R>,
     given: (u32, Seat<R>, Seat<R>),
 ) -> (WriteHalf<R>, ReadHalf<R>)
+    requires { R.WITNESSED ≡ true → MayWrite given.1.right given.0 }
     ensures writer { (result.0.id ≡ given.0) × (result.0.seat ≡ given.1) }
     ensures reader { (result.1.id ≡ given.0) × (result.1.seat ≡ given.2) }
 {
@@ -65,11 +67,15 @@ pub struct ReadHalf<R: Recorder> {
 }
 
 impl<R: Recorder> Model for WriteHalf<R> {
+    ghost use Rattle.std.specs.Prelude.{◌≡◌, true};
+    ghost use Rattle.ymx_hub.specs.Rights.{MayWrite};
     ghost use Rattle.ymx_hub.specs.Halves.{HalfView};
 
     ghost Value = { HalfView };
 
     ghost view = { λ half. record { id = half.id; seat = half.seat } };
+
+    ghost invariant = { λ half. R.WITNESSED ≡ true → MayWrite half.seat.right half.id };
 }
 
 impl<R: Recorder> Model for ReadHalf<R> {
@@ -83,6 +89,7 @@ impl<R: Recorder> Model for ReadHalf<R> {
 impl<R: Recorder> WriteHalf<R> {
     /// The half of this stream.
     pub(crate) fn new(hub: Arc<Hub<R>, Global>, seat: Seat<R>, id: u32) -> WriteHalf<R>
+        requires { R.WITNESSED ≡ true → MayWrite seat.right id }
         ensures { (result.id ≡ id) × (result.seat ≡ seat) }
     {
         WriteHalf { hub, seat, id }
@@ -101,6 +108,9 @@ impl<R: Recorder> WriteHalf<R> {
         ensures same { self.new.id ≡ self.old.id }
         ensures mine { IsShown self.old.seat self.new.seat }
         ensures theirs { IsShown other.old other.new }
+        // Its caller may write the stream, and in the history that it has then seen nobody else has.
+        ensures may { R.WITNESSED ≡ true → MayWrite self.old.seat.right self.old.id }
+        ensures sole { SaysSole self.old.seat.right self.old.seat.number self.new.seat.seen }
         ensures seen { other.new.seen ≡ self.new.seat.seen }
     {
         self.hub.meet(rt, &mut self.seat, other);
@@ -128,6 +138,9 @@ impl<R: Recorder> WriteHalf<R> {
     pub fn finish<W: Wait>(self, rt: &W) -> (Seat<R>, Result<(), HubFault>)
         // The entries of this call stand in the list of its seat, with the answer.
         ensures booked { Books R.KEEPS self.seat result.0 (Spends (to_finish self.id) self.id self.seat.number result.1) }
+        // Its caller may write the stream, and may do so still.
+        ensures may { R.WITNESSED ≡ true → MayWrite self.seat.right self.id }
+        ensures right { result.0.right ≡ self.seat.right }
         // Where no entries are kept, it is not refused for want of memory.
         ensures off { R.KEEPS ≡ false → IsNotMemory result.1 }
     {
@@ -144,6 +157,9 @@ impl<R: Recorder> WriteHalf<R> {
     pub fn reset<W: Wait>(self, rt: &W) -> (Seat<R>, Result<(), HubFault>)
         // The entries of this call stand in the list of its seat, with the answer.
         ensures booked { Books R.KEEPS self.seat result.0 (Spends (to_reset self.id) self.id self.seat.number result.1) }
+        // Its caller may write the stream, and may do so still.
+        ensures may { R.WITNESSED ≡ true → MayWrite self.seat.right self.id }
+        ensures right { result.0.right ≡ self.seat.right }
         // Where no entries are kept, it is not refused for want of memory.
         ensures off { R.KEEPS ≡ false → IsNotMemory result.1 }
     {

@@ -7,6 +7,7 @@ ghost use Rattle.ymx_seats.specs.Tallies.{Tallies};
 ghost use Rattle.ymx_seats.specs.Transcripts.{IsNew};
 ghost use Rattle.ymx_seats.specs.Views.{SeatView, IsNewcomer};
 ghost use Rattle.ymx_hub.specs.Booked.{config_of};
+ghost use Rattle.ymx_hub.specs.Rights.{MayWrite, SaysSole};
 ghost use Rattle.ymx_hub.specs.Shown.{IsShown};
 ghost use Rattle.ymx_hub.specs.Answers.{IsNotMemory, IsSeatFault};
 ghost use Rattle.ymx_hub.specs.Books.{Books, Asks, Opens, OpensWith, Spends, Closes, to_finish, to_reset, to_go_away, to_close};
@@ -136,6 +137,9 @@ impl<R: Recorder> Hub<R> {
         // Each seat has seen all that it had seen before, and perhaps more; its list stays.
         ensures one { IsShown one.old one.new }
         ensures other { IsShown other.old other.new }
+        // Where one may write a stream, nobody else has.
+        ensures sole { SaysSole one.old.right one.old.number one.new.seen }
+        ensures sole_other { SaysSole other.old.right other.old.number other.new.seen }
         // Both have then seen the same.
         ensures same { one.new.seen ≡ other.new.seen }
     {
@@ -197,6 +201,7 @@ impl<R: Recorder> Hub<R> {
     ) -> Result<(u32, Seat<R>, Seat<R>), HubFault>
         ensures booked { Books R.KEEPS seat.old seat.new (Opens seat.old.number result) }
         ensures empty { IfOk result (λ made. (made.1.entries ≡ []) × (made.2.entries ≡ [])) }
+        ensures right { IfOk result (λ made. R.WITNESSED ≡ true → MayWrite made.1.right made.0) }
     {
         let mut shared = take_lock(rt, &self.shared);
         let was_due = shared.booked.due();
@@ -214,6 +219,7 @@ impl<R: Recorder> Hub<R> {
     ) -> Result<(u32, usize, Seat<R>, Seat<R>), HubFault>
         ensures booked { Books R.KEEPS seat.old seat.new (OpensWith bytes.now seat.old.number result) }
         ensures empty { IfOk result (λ made. (made.2.entries ≡ []) × (made.3.entries ≡ [])) }
+        ensures right { IfOk result (λ made. R.WITNESSED ≡ true → MayWrite made.2.right made.0) }
     {
         let mut shared = take_lock(rt, &self.shared);
         let was_due = shared.booked.due();
@@ -229,6 +235,8 @@ impl<R: Recorder> Hub<R> {
         seat: &mut Seat<R>,
         id: u32,
     ) -> Result<(), HubFault>
+        requires may { R.WITNESSED ≡ true → MayWrite seat.old.right id }
+        ensures right { seat.new.right ≡ seat.old.right }
         ensures booked { Books R.KEEPS seat.old seat.new (Spends (to_finish id) id seat.old.number result) }
         ensures off { R.KEEPS ≡ false → IsNotMemory result }
     {
@@ -241,6 +249,8 @@ impl<R: Recorder> Hub<R> {
 
     /// Resets a stream, gives it up if its other half was spent, and wakes who waits at it.
     pub(crate) fn reset<W: Wait>(&self, rt: &W, seat: &mut Seat<R>, id: u32) -> Result<(), HubFault>
+        requires may { R.WITNESSED ≡ true → MayWrite seat.old.right id }
+        ensures right { seat.new.right ≡ seat.old.right }
         ensures booked { Books R.KEEPS seat.old seat.new (Spends (to_reset id) id seat.old.number result) }
         ensures off { R.KEEPS ≡ false → IsNotMemory result }
     {

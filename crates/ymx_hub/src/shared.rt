@@ -1,11 +1,12 @@
 //! What stands under the lock.
 
-ghost use Rattle.std.specs.Prelude.{◌≡◌, ◌<◌, ◌≤◌, length, drop, false, IfOk, IsOk, MatchResult};
+ghost use Rattle.std.specs.Prelude.{◌≡◌, ◌<◌, ◌≤◌, length, drop, true, false, IfOk, IsOk, MatchResult};
 ghost use Rattle.ymx_model.specs.declared.types.Event.TheVariants as event;
 ghost use Rattle.ymx_machine.specs.declared.types.Reply.TheVariants as reply;
 ghost use Rattle.ymx_session.specs.Replies.{wrote_or, read_or, got_count};
 ghost use Rattle.ymx_hub.specs.Answers.{IsNotMemory, GivesSome, took_count};
 ghost use Rattle.ymx_hub.specs.Books.{Books, Asks, Does, to_write, to_read};
+ghost use Rattle.ymx_hub.specs.Rights.{MayWrite};
 
 use crate::booked::Booked;
 use crate::faults::HubFault;
@@ -97,6 +98,8 @@ impl<R: Recorder> Shared<R> {
         id: u32,
         bytes: &[u8],
     ) -> Result<Wrote, HubFault>
+        requires may { R.WITNESSED ≡ true → MayWrite seat.old.right id }
+        ensures right { seat.new.right ≡ seat.old.right }
         ensures booked { Books R.KEEPS seat.old seat.new (Asks (to_write id bytes.now) wrote_or seat.old.number result) }
         ensures within { IfOk result (λ wrote. took_count wrote ≤ length bytes.now) }
         ensures released { self.new.released ≡ self.old.released }

@@ -1,6 +1,6 @@
 //! Bytes of a stream, and its halves that are spent, with their entries.
 
-ghost use Rattle.std.specs.Prelude.{◌≡◌, ◌⊎◌, ℕ, ◌<◌, ◌≤◌, List, length, drop, false, IfOk, MatchResult};
+ghost use Rattle.std.specs.Prelude.{◌≡◌, ◌⊎◌, ℕ, ◌<◌, ◌≤◌, List, length, drop, true, false, IfOk, MatchResult};
 ghost use Rattle.ymx_machine.specs.declared.types.Reply.TheVariants as reply;
 ghost use Rattle.ymx_session.specs.Applied.{IsRefusal, in_buffer};
 ghost use Rattle.ymx_session.specs.Replies.{done_or, wrote_or, read_or, got_count};
@@ -8,6 +8,7 @@ ghost use Rattle.ymx_hub.specs.Answers.{IsNotMemory, GivesSome, took_count};
 ghost use Rattle.ymx_hub.specs.Books.{Books, Asks, Spends, Closes, to_write, to_read, to_finish, to_reset, to_end};
 ghost use Rattle.ymx_hub.specs.Booked.{is_half_spent, spent};
 ghost use Rattle.ymx_hub.specs.Gained.{GainedAlike};
+ghost use Rattle.ymx_hub.specs.Rights.{MayWrite};
 ghost use Rattle.ymx_hub.specs.Steps.{StepsAsked, StepsSpent, StepsClosed};
 
 use crate::book::carry_out;
@@ -19,6 +20,8 @@ use ymx_seats::{Recorder, Seat};
 impl<R: Recorder> Booked<R> {
     /// Writes the first of these bytes, as many as there is credit for, or says that there is none.
     pub fn write(&mut self, seat: &mut Seat<R>, id: u32, bytes: &[u8]) -> Result<Wrote, HubFault>
+        requires may { R.WITNESSED ≡ true → MayWrite seat.old.right id }
+        ensures right { seat.new.right ≡ seat.old.right }
         ensures booked { Books R.KEEPS seat.old seat.new (Asks (to_write id bytes.now) wrote_or seat.old.number result) }
         ensures steps { StepsAsked R.KEEPS (to_write id bytes.now) wrote_or seat.old.number result self.old self.new }
         ensures alike { GainedAlike self.old.entries self.new.entries seat.old.entries seat.new.entries }
@@ -70,6 +73,8 @@ impl<R: Recorder> Booked<R> {
     /// Half-closes a stream, and gives it up if its other half was spent. The half counts as spent even if there is
     /// no memory for the entries.
     pub fn finish(&mut self, seat: &mut Seat<R>, id: u32) -> Result<(), HubFault>
+        requires may { R.WITNESSED ≡ true → MayWrite seat.old.right id }
+        ensures right { seat.new.right ≡ seat.old.right }
         ensures booked { Books R.KEEPS seat.old seat.new (Spends (to_finish id) id seat.old.number result) }
         ensures steps { StepsSpent (to_finish id) R.KEEPS seat.old.number id result self.old self.new }
         ensures alike { GainedAlike self.old.entries self.new.entries seat.old.entries seat.new.entries }
@@ -81,6 +86,8 @@ impl<R: Recorder> Booked<R> {
     /// Resets a stream, and gives it up if its other half was spent. The half counts as spent even if there is no
     /// memory for the entries.
     pub fn reset(&mut self, seat: &mut Seat<R>, id: u32) -> Result<(), HubFault>
+        requires may { R.WITNESSED ≡ true → MayWrite seat.old.right id }
+        ensures right { seat.new.right ≡ seat.old.right }
         ensures booked { Books R.KEEPS seat.old seat.new (Spends (to_reset id) id seat.old.number result) }
         ensures steps { StepsSpent (to_reset id) R.KEEPS seat.old.number id result self.old self.new }
         ensures alike { GainedAlike self.old.entries self.new.entries seat.old.entries seat.new.entries }
@@ -92,6 +99,8 @@ impl<R: Recorder> Booked<R> {
     /// Ends a half of a stream by this call, and gives the stream up if its other half was spent.
     #[tactic(auto, using(crate::proofs::History::kept_after, crate::proofs::Journals::journaled_after, crate::proofs::Journals::witnessed_after))]
     fn end_half(&mut self, seat: &mut Seat<R>, id: u32, half_call: HalfCall) -> Result<(), HubFault>
+        requires may { R.WITNESSED ≡ true → MayWrite seat.old.right id }
+        ensures right { seat.new.right ≡ seat.old.right }
         ensures booked { Books R.KEEPS seat.old seat.new (Spends (to_end half_call id) id seat.old.number result) }
         ensures steps { StepsSpent (to_end half_call id) R.KEEPS seat.old.number id result self.old self.new }
         ensures alike { GainedAlike self.old.entries self.new.entries seat.old.entries seat.new.entries }

@@ -1,12 +1,13 @@
 //! Calls that wait. Each turn is one event, and so one entry.
 
-ghost use Rattle.std.specs.Prelude.{◌≡◌, ◌⊎◌, ◌<◌, ◌≤◌, length, drop, true, false, IfOk, IfErr, MatchResult};
+ghost use Rattle.std.specs.Prelude.{◌≡◌, ◌⊎◌, ◌<◌, ◌≤◌, length, drop, true, false, IfOk, IfErr, IfSome, MatchResult};
 ghost use Rattle.ymx_hub.specs.Answers.{IsNotMemory};
 ghost use Rattle.ymx_hub.specs.Books.{Books};
 ghost use Rattle.ymx_machine.specs.declared.types.Reply.TheVariants as reply;
 ghost use Rattle.ymx_model.specs.session.Sessions.{Session};
 ghost use Rattle.ymx_model.specs.session.Emissions.{is_ready};
 ghost use Rattle.ymx_hub.specs.WholeHistories.{IsHistoryOf};
+ghost use Rattle.ymx_hub.specs.Rights.{MayWrite};
 ghost use Rattle.ymx_hub.specs.Shown.{IsShown};
 ghost use Rattle.ymx_hub.specs.Turns.{AcceptsInTurns, ReadTurns, EndsIn, PingTurns, WriteTurns};
 
@@ -26,6 +27,7 @@ impl<R: Recorder> Hub<R> {
         rt: &W,
         seat: &mut Seat<R>,
     ) -> Result<Option<(u32, Seat<R>, Seat<R>)>, HubFault>
+        ensures right { IfOk result (λ given. IfSome given (λ made. R.WITNESSED ≡ true → MayWrite made.1.right made.0)) }
         ensures booked { Books R.KEEPS seat.old seat.new (AcceptsInTurns seat.old.number result) }
     {
         let mut was_woken = false;
@@ -104,6 +106,8 @@ impl<R: Recorder> Hub<R> {
         id: u32,
         bytes: &[u8],
     ) -> Result<(), WriteFault>
+        requires may { R.WITNESSED ≡ true → MayWrite seat.old.right id }
+        ensures right { seat.new.right ≡ seat.old.right }
         ensures booked { Books R.KEEPS seat.old seat.new (WriteTurns id bytes.now seat.old.number result) }
         ensures within { IfErr result (λ stop. stop.taken ≤ length bytes.now) }
     {

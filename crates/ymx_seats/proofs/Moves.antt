@@ -1,5 +1,9 @@
 -- Each step of a journal keeps its rule.
-use Rattle.std.proofs.Common.{◌≡◌, ◌≢◌, ℕ, zero, suc, ◌+◌, ◌<◌, ◌==◌, List, [], ◌∷◌, ◌++◌, length, set, Bool, true, false, true≢false, if◌then◌else◌, refl, sym, ap, ◌∙◌, subst, ⊎_elim, arith, append_assoc, append-nil}
+use Rattle.std.proofs.Common.{◌≡◌, ◌≢◌, ℕ, zero, suc, ◌<◌, ◌==◌, List, [], ◌∷◌, ◌++◌, length, set, Bool, true, false, true≢false, if◌then◌else◌, refl, sym, ap, ◌∙◌, subst, ⊎_elim, arith, append_assoc, append-nil}
+use Rattle.std.specs.Prelude.{slice_get, Some}
+use Rattle.std.proofs.Math.Seq.{get_or-append_seam}
+use Rattle.std.proofs.lemmas.List.{length-append, get_or_append_left}
+use Rattle.std.proofs.lemmas.Option.{slice_get_within, slice_get-get_or, get_or_from_slice_get}
 use Rattle.std.proofs.lemmas.Bool.Decides.{nat_tests}
 use mathlib.Core.Option.{some, some-ne-none, some-injective}
 use mathlib.Core.List.{IsPrefix}
@@ -9,6 +13,7 @@ use Rattle.atomic_table.specs.Table.{State, Allows, Splits, Joins}
 use Rattle.atomic_table.specs.Table.Act.{keeps}
 use Rattle.ymx_model.specs.declared.types.Entry.{Entry}
 use Rattle.ymx_seats.specs.declared.plays.Knowledge.{Knowledge}
+use Rattle.ymx_seats.specs.declared.plays.Right.{Right}
 use Rattle.ymx_seats.specs.Journals.{part, knower, caller, nobody, visited, visitor, shown, Fits, IsKept, IsBehind, HasAdded, HasShown, HasCounted}
 
 off : false ≡ true → ⊥
@@ -56,34 +61,34 @@ prefix_same xs ys e = ([], append-nil xs ∙ e)
 
 -- ---- the steps
 
-fits_nobody : (keeper : ℕ) (owner : ℕ → ℕ) (made : ℕ) (log : List Entry) (id : ℕ) → Fits keeper owner made log id nobody
-fits_nobody keeper owner made log id = record { keeps = λ k. absurd (off k); speaks = λ k. absurd (off k) }
+fits_nobody : (keeper : ℕ) (owner : ℕ → ℕ) (rights : List Right) (log : List Entry) (id : ℕ) → Fits keeper owner rights log id nobody
+fits_nobody keeper owner rights log id = record { keeps = λ k. absurd (off k); speaks = λ k. absurd (off k) }
 
-pub begins : IsKept (knower [] 0 ∷ [])
-begins = record { keeper = 0; owner = λ _. 0; made = 0; log = []; fits = one; unmade = λ n _. refl }
+pub begins : IsKept (knower [] [] ∷ [])
+begins = record { keeper = 0; owner = λ _. 0; rights = []; log = []; fits = one; unmade = λ n _. refl }
   where
-    one : (id : ℕ) (v : Knowledge) → get_elem? (knower [] 0 ∷ []) id ≡ some v → Fits 0 (λ _. 0) 0 [] id v
-    one zero v e = subst (Fits 0 (λ _. 0) 0 [] 0) (some-injective (knower [] 0) v e) (record { keeps = λ _. (refl, refl, refl); speaks = λ k. absurd (off k) })
+    one : (id : ℕ) (v : Knowledge) → get_elem? (knower [] [] ∷ []) id ≡ some v → Fits 0 (λ _. 0) [] [] id v
+    one zero v e = subst (Fits 0 (λ _. 0) [] [] 0) (some-injective (knower [] []) v e) (record { keeps = λ _. (refl, refl, refl); speaks = λ k. absurd (off k) })
     one (suc id) v e = absurd (some-ne-none v (sym e))
 
 -- the keeper with a caller
-abbrev with_caller : List Entry → ℕ → ℕ → List Entry → Knowledge
-with_caller whole made number seen = visited (knower whole made) (caller number seen)
+abbrev with_caller : List Entry → List Right → ℕ → Right → List Entry → Knowledge
+with_caller whole rights number right seen = visited (knower whole rights) (caller number right seen)
 
 -- what both of them know is so
-both_stand : (views : List Knowledge) (id : ℕ) (whole : List Entry) (made number : ℕ) (seen : List Entry) → (h : IsKept views) → get_elem? views id ≡ some (with_caller whole made number seen)
-    → ((id ≡ h.keeper) × (whole ≡ h.log) × (made ≡ h.made)) × ((h.owner number ≡ id) × (number < h.made) × IsPrefix seen h.log × (part number h.log ≡ part number seen))
-both_stand views id whole made number seen h at = let mine = h.fits id (with_caller whole made number seen) at in (mine.keeps refl, mine.speaks refl)
+both_stand : (views : List Knowledge) (id : ℕ) (whole : List Entry) (rights : List Right) (number : ℕ) (right : Right) (seen : List Entry) → (h : IsKept views) → get_elem? views id ≡ some (with_caller whole rights number right seen)
+    → ((id ≡ h.keeper) × (whole ≡ h.log) × (rights ≡ h.rights)) × ((h.owner number ≡ id) × (slice_get h.rights number ≡ Some right) × IsPrefix seen h.log × (part number h.log ≡ part number seen))
+both_stand views id whole rights number right seen h at = let mine = h.fits id (with_caller whole rights number right seen) at in (mine.keeps refl, mine.speaks refl)
 
-adds_to : (views : List Knowledge) (id : ℕ) (e : Entry) (whole : List Entry) (made number : ℕ) (seen : List Entry) → e.seat ≡ number → IsKept views → get_elem? views id ≡ some (with_caller whole made number seen)
-    → IsKept (set views id (shown (whole ++ e ∷ []) (with_caller whole made number seen)))
-adds_to views id e whole made number seen by h at =
-    let (k, s) = both_stand views id whole made number seen h at in record {
+adds_to : (views : List Knowledge) (id : ℕ) (e : Entry) (whole : List Entry) (rights : List Right) (number : ℕ) (right : Right) (seen : List Entry) → e.seat ≡ number → IsKept views → get_elem? views id ≡ some (with_caller whole rights number right seen)
+    → IsKept (set views id (shown (whole ++ e ∷ []) (with_caller whole rights number right seen)))
+adds_to views id e whole rights number right seen by h at =
+    let (k, s) = both_stand views id whole rights number right seen h at in record {
       keeper = h.keeper;
       owner = h.owner;
-      made = h.made;
+      rights = h.rights;
       log = h.log ++ e ∷ [];
-      fits = others_too (Fits h.keeper h.owner h.made (h.log ++ e ∷ [])) views id (shown (whole ++ e ∷ []) (with_caller whole made number seen))
+      fits = others_too (Fits h.keeper h.owner h.rights (h.log ++ e ∷ [])) views id (shown (whole ++ e ∷ []) (with_caller whole rights number right seen))
           (λ j u apart there. record {
             keeps = λ b. absurd (apart (((h.fits j u there).keeps b).0 ∙ sym k.0));
             speaks = λ b.
@@ -103,23 +108,23 @@ adds_to views id e whole made number seen by h at =
               ap (λ es. part number (es ++ e ∷ [])) (sym k.1),
             );
           });
-      unmade = λ n le. part_of_other n h.log e (λ same. omega (arith, le, s.1, same, by)) ∙ h.unmade n le;
+      unmade = λ n le. part_of_other n h.log e (λ same. let within = slice_get_within h.rights number right s.1 in omega (arith, le, within, same, by)) ∙ h.unmade n le;
     }
 
-behind : (views : List Knowledge) (id : ℕ) (whole : List Entry) (made number : ℕ) (seen : List Entry) → IsKept views → get_elem? views id ≡ some (with_caller whole made number seen) → IsBehind (with_caller whole made number seen)
-behind views id whole made number seen h at =
-    let (k, s) = both_stand views id whole made number seen h at in
-    (subst (λ es. IsPrefix seen es) (sym k.1) s.2, ap (λ es. part number es) k.1 ∙ s.3)
+behind : (views : List Knowledge) (id : ℕ) (whole : List Entry) (rights : List Right) (number : ℕ) (right : Right) (seen : List Entry) → IsKept views → get_elem? views id ≡ some (with_caller whole rights number right seen) → IsBehind (with_caller whole rights number right seen)
+behind views id whole rights number right seen h at =
+    let (k, s) = both_stand views id whole rights number right seen h at in
+    (subst (λ es. IsPrefix seen es) (sym k.1) s.2, ap (λ es. part number es) k.1 ∙ s.3, ap (λ (xs : List Right). slice_get xs number) k.2 ∙ s.1)
 
-shows_to : (views : List Knowledge) (id : ℕ) (whole : List Entry) (made number : ℕ) (seen : List Entry) → IsKept views → get_elem? views id ≡ some (with_caller whole made number seen)
-    → IsKept (set views id (shown whole (with_caller whole made number seen)))
-shows_to views id whole made number seen h at =
-    let (k, s) = both_stand views id whole made number seen h at in record {
+shows_to : (views : List Knowledge) (id : ℕ) (whole : List Entry) (rights : List Right) (number : ℕ) (right : Right) (seen : List Entry) → IsKept views → get_elem? views id ≡ some (with_caller whole rights number right seen)
+    → IsKept (set views id (shown whole (with_caller whole rights number right seen)))
+shows_to views id whole rights number right seen h at =
+    let (k, s) = both_stand views id whole rights number right seen h at in record {
       keeper = h.keeper;
       owner = h.owner;
-      made = h.made;
+      rights = h.rights;
       log = h.log;
-      fits = others_too (Fits h.keeper h.owner h.made h.log) views id (shown whole (with_caller whole made number seen))
+      fits = others_too (Fits h.keeper h.owner h.rights h.log) views id (shown whole (with_caller whole rights number right seen))
           (λ j u apart there. h.fits j u there)
           (record { keeps = λ _. k; speaks = λ _. (s.0, s.1, prefix_same whole h.log k.1, ap (λ es. part number es) (sym k.1)) });
       unmade = h.unmade;
@@ -137,21 +142,21 @@ passed_else : (owner : ℕ → ℕ) (n id m : ℕ) (b : Bool) → (m == n) ≡ b
 passed_else owner n id m true is apart = absurd (apart (grind (arith, nat_tests)))
 passed_else owner n id m false is apart = refl
 
-joins_in : (views : List Knowledge) (id other : ℕ) (whole : List Entry) (made number : ℕ) (seen : List Entry) → IsKept views → get_elem? views id ≡ some (knower whole made) → (other ≡ id → ⊥)
-    → get_elem? (set views id (with_caller whole made number seen)) other ≡ some (caller number seen) → IsKept (set (set views id (with_caller whole made number seen)) other nobody)
-joins_in views id other whole made number seen h at apart there =
-    let w = with_caller whole made number seen in
-    let k = (h.fits id (knower whole made) at).keeps refl in
-    let theirs = ⊎_elim (λ (t : (other ≡ id) × (w ≡ caller number seen)). absurd (apart t.0)) (λ (t : (other ≢ id) × (get_elem? views other ≡ some (caller number seen))). h.fits other (caller number seen) t.1) (at_set views id other w (caller number seen) there) in
+joins_in : (views : List Knowledge) (id other : ℕ) (whole : List Entry) (rights : List Right) (number : ℕ) (right : Right) (seen : List Entry) → IsKept views → get_elem? views id ≡ some (knower whole rights) → (other ≡ id → ⊥)
+    → get_elem? (set views id (with_caller whole rights number right seen)) other ≡ some (caller number right seen) → IsKept (set (set views id (with_caller whole rights number right seen)) other nobody)
+joins_in views id other whole rights number right seen h at apart there =
+    let w = with_caller whole rights number right seen in
+    let k = (h.fits id (knower whole rights) at).keeps refl in
+    let theirs = ⊎_elim (λ (t : (other ≡ id) × (w ≡ caller number right seen)). absurd (apart t.0)) (λ (t : (other ≢ id) × (get_elem? views other ≡ some (caller number right seen))). h.fits other (caller number right seen) t.1) (at_set views id other w (caller number right seen) there) in
     let s = theirs.speaks refl in
     let owner = passed h.owner number id in record {
       keeper = h.keeper;
       owner = owner;
-      made = h.made;
+      rights = h.rights;
       log = h.log;
-      fits = others_too (Fits h.keeper owner h.made h.log) (set views id w) other nobody
+      fits = others_too (Fits h.keeper owner h.rights h.log) (set views id w) other nobody
           (λ j u away was.
-          others_too (λ i x. i ≢ other → Fits h.keeper owner h.made h.log i x) views id w
+          others_too (λ i x. i ≢ other → Fits h.keeper owner h.rights h.log i x) views id w
           (λ i x alone here far. record {
             keeps = (h.fits i x here).keeps;
             speaks = λ b.
@@ -164,22 +169,22 @@ joins_in views id other whole made number seen h at apart there =
           })
           (λ _. record { keeps = λ _. k; speaks = λ _. (passed_here h.owner number id number (number == number) refl refl, s.1, s.2, s.3) })
           j u was away)
-          (fits_nobody h.keeper owner h.made h.log other);
+          (fits_nobody h.keeper owner h.rights h.log other);
       unmade = h.unmade;
     }
 
-splits_off : (views : List Knowledge) (id : ℕ) (whole : List Entry) (made number : ℕ) (seen : List Entry) → IsKept views → get_elem? views id ≡ some (with_caller whole made number seen)
-    → IsKept (set views id (knower whole made) ++ caller number seen ∷ [])
-splits_off views id whole made number seen h at =
-    let (k, s) = both_stand views id whole made number seen h at in
-    let left = set views id (knower whole made) in
+splits_off : (views : List Knowledge) (id : ℕ) (whole : List Entry) (rights : List Right) (number : ℕ) (right : Right) (seen : List Entry) → IsKept views → get_elem? views id ≡ some (with_caller whole rights number right seen)
+    → IsKept (set views id (knower whole rights) ++ caller number right seen ∷ [])
+splits_off views id whole rights number right seen h at =
+    let (k, s) = both_stand views id whole rights number right seen h at in
+    let left = set views id (knower whole rights) in
     let owner = passed h.owner number (length left) in record {
       keeper = h.keeper;
       owner = owner;
-      made = h.made;
+      rights = h.rights;
       log = h.log;
-      fits = behind_too (Fits h.keeper owner h.made h.log) left (caller number seen)
-          (others_too (Fits h.keeper owner h.made h.log) views id (knower whole made)
+      fits = behind_too (Fits h.keeper owner h.rights h.log) left (caller number right seen)
+          (others_too (Fits h.keeper owner h.rights h.log) views id (knower whole rights)
           (λ j u apart there. record {
             keeps = (h.fits j u there).keeps;
             speaks = λ b.
@@ -195,24 +200,38 @@ splits_off views id whole made number seen h at =
       unmade = h.unmade;
     }
 
-numbers_one : (views : List Knowledge) (id : ℕ) (whole : List Entry) (made : ℕ) → IsKept views → get_elem? views id ≡ some (knower whole made)
-    → IsKept (set views id (knower whole (made + 1)) ++ caller made whole ∷ [])
-numbers_one views id whole made h at =
-    let k = (h.fits id (knower whole made) at).keeps refl in
-    let left = set views id (knower whole (made + 1)) in
+-- what a caller may do stays as one more is numbered
+got_before : (xs : List Right) (y : Right) (n : ℕ) (r : Right) → slice_get xs n ≡ Some r → slice_get (xs ++ y ∷ []) n ≡ Some r
+got_before xs y n r e =
+    let within : n < length xs = slice_get_within xs n r e in
+    let long = length-append xs (y ∷ []) in
+    slice_get-get_or (xs ++ y ∷ []) n r (omega (arith, within, long)) ∙ ap (λ x. Some x) (get_or_append_left xs (y ∷ []) r n within ∙ get_or_from_slice_get xs n r r e)
+
+got_last : (xs : List Right) (y : Right) → slice_get (xs ++ y ∷ []) (length xs) ≡ Some y
+got_last xs y = let long = length-append xs (y ∷ []) in slice_get-get_or (xs ++ y ∷ []) (length xs) y (omega (arith, long)) ∙ ap (λ x. Some x) (get_or-append_seam xs y [] y)
+
+numbers_one : (views : List Knowledge) (id : ℕ) (whole : List Entry) (rights : List Right) (right : Right) → IsKept views → get_elem? views id ≡ some (knower whole rights)
+    → IsKept (set views id (knower whole (rights ++ right ∷ [])) ++ caller (length rights) right whole ∷ [])
+numbers_one views id whole rights right h at =
+    let k = (h.fits id (knower whole rights) at).keeps refl in
+    let made = length rights in
+    let next = rights ++ right ∷ [] in
+    let left = set views id (knower whole next) in
     let owner = passed h.owner made (length left) in record {
       keeper = h.keeper;
       owner = owner;
-      made = made + 1;
+      rights = next;
       log = h.log;
-      fits = behind_too (Fits h.keeper owner (made + 1) h.log) left (caller made whole)
-          (others_too (Fits h.keeper owner (made + 1) h.log) views id (knower whole (made + 1))
+      fits = behind_too (Fits h.keeper owner next h.log) left (caller made right whole)
+          (others_too (Fits h.keeper owner next h.log) views id (knower whole next)
           (λ j u apart there. record {
             keeps = λ b. absurd (apart (((h.fits j u there).keeps b).0 ∙ sym k.0));
             speaks = λ b.
-                let t = (h.fits j u there).speaks b in (
-                  passed_else h.owner made (length left) u.number (u.number == made) refl (λ same. omega (arith, same, t.1, k.2)) ∙ t.0,
-                  omega (arith, t.1, k.2),
+                let t = (h.fits j u there).speaks b in
+                let known : slice_get rights u.number ≡ Some u.right = ap (λ (xs : List Right). slice_get xs u.number) k.2 ∙ t.1 in
+                let within = slice_get_within rights u.number u.right known in (
+                  passed_else h.owner made (length left) u.number (u.number == made) refl (λ same. omega (arith, same, within)) ∙ t.0,
+                  got_before rights right u.number u.right known,
                   t.2,
                   t.3,
                 );
@@ -220,23 +239,24 @@ numbers_one views id whole made h at =
           (record { keeps = λ _. (k.0, k.1, refl); speaks = λ b. absurd (off b) }))
           (record {
             keeps = λ b. absurd (off b);
-            speaks = λ _. (passed_here h.owner made (length left) made (made == made) refl refl, omega arith, prefix_same whole h.log k.1, ap (λ es. part made es) (sym k.1));
+            speaks = λ _. (passed_here h.owner made (length left) made (made == made) refl refl, got_last rights right, prefix_same whole h.log k.1, ap (λ es. part made es) (sym k.1));
           });
-      unmade = λ n le. h.unmade n (omega (arith, le, k.2));
+      unmade = λ n le. let long = length-append rights (right ∷ []) in let same = ap (λ (xs : List Right). length xs) k.2 in h.unmade n (omega (arith, le, long, same));
     }
 
-counts_all : (views : List Knowledge) (id : ℕ) (whole : List Entry) (made : ℕ) → IsKept views → get_elem? views id ≡ some (knower whole made) → part made whole ≡ []
-counts_all views id whole made h at =
-    let k = (h.fits id (knower whole made) at).keeps refl in
-    ap (λ es. part made es) k.1 ∙ h.unmade made (omega (arith, k.2))
+counts_all : (views : List Knowledge) (id : ℕ) (whole : List Entry) (rights : List Right) → IsKept views → get_elem? views id ≡ some (knower whole rights) → part (length rights) whole ≡ []
+counts_all views id whole rights h at =
+    let k = (h.fits id (knower whole rights) at).keeps refl in
+    let same = ap (λ (xs : List Right). length xs) k.2 in
+    ap (λ es. part (length rights) es) k.1 ∙ h.unmade (length rights) (omega (arith, same))
 
 same_again : (views : List Knowledge) (id : ℕ) (v : Knowledge) → IsKept views → get_elem? views id ≡ some v → IsKept (set views id v)
 same_again views id v h at = record {
   keeper = h.keeper;
   owner = h.owner;
-  made = h.made;
+  rights = h.rights;
   log = h.log;
-  fits = others_too (Fits h.keeper h.owner h.made h.log) views id v (λ j u apart there. h.fits j u there) (h.fits id v at);
+  fits = others_too (Fits h.keeper h.owner h.rights h.log) views id v (λ j u apart there. h.fits j u there) (h.fits id v at);
   unmade = h.unmade;
 }
 
@@ -250,67 +270,67 @@ Rules s = IsKept s.views
 abbrev pub knows : Knowledge → Knowledge × List (ℕ × ℕ)
 knows v = (v, [])
 
-abbrev pub keeper_of : List Entry → ℕ → ℕ → List Entry → Knowledge
-keeper_of whole made number seen = visited (knower whole made) (caller number seen)
+abbrev pub keeper_of : List Entry → List Right → ℕ → Right → List Entry → Knowledge
+keeper_of whole rights number right seen = visited (knower whole rights) (caller number right seen)
 
-adds_at : (slots id : ℕ) (e : Entry) (whole : List Entry) (made number : ℕ) (seen : List Entry) → e.seat ≡ number
-    → Allows Rules slots id (knows (keeper_of whole made number seen)) 0 (λ n. n) (λ n w. HasAdded e (knows (keeper_of whole made number seen)) w)
-adds_at slots id e whole made number seen by s h homes at less = (
-  shown (whole ++ e ∷ []) (keeper_of whole made number seen),
+adds_at : (slots id : ℕ) (e : Entry) (whole : List Entry) (rights : List Right) (number : ℕ) (right : Right) (seen : List Entry) → e.seat ≡ number
+    → Allows Rules slots id (knows (keeper_of whole rights number right seen)) 0 (λ n. n) (λ n w. HasAdded e (knows (keeper_of whole rights number right seen)) w)
+adds_at slots id e whole rights number right seen by s h homes at less = (
+  shown (whole ++ e ∷ []) (keeper_of whole rights number right seen),
   keeps,
   tt,
-  adds_to s.views id e whole made number seen by h at,
-  (behind s.views id whole made number seen h at, refl),
+  adds_to s.views id e whole rights number right seen by h at,
+  (behind s.views id whole rights number right seen h at, refl),
 )
 
-pub adds : (slots id : ℕ) (e : Entry) (me : Knowledge × List (ℕ × ℕ)) (whole : List Entry) (made number : ℕ) (seen : List Entry) → me ≡ knows (keeper_of whole made number seen) → e.seat ≡ number
+pub adds : (slots id : ℕ) (e : Entry) (me : Knowledge × List (ℕ × ℕ)) (whole : List Entry) (rights : List Right) (number : ℕ) (right : Right) (seen : List Entry) → me ≡ knows (keeper_of whole rights number right seen) → e.seat ≡ number
     → Allows Rules slots id me 0 (λ n. n) (λ n w. HasAdded e me w)
-adds slots id e me whole made number seen is by =
-    subst (λ (m : Knowledge × List (ℕ × ℕ)). Allows Rules slots id m 0 (λ n. n) (λ n w. HasAdded e m w)) (sym is) (adds_at slots id e whole made number seen by)
+adds slots id e me whole rights number right seen is by =
+    subst (λ (m : Knowledge × List (ℕ × ℕ)). Allows Rules slots id m 0 (λ n. n) (λ n w. HasAdded e m w)) (sym is) (adds_at slots id e whole rights number right seen by)
 
-shows_at : (slots id : ℕ) (whole : List Entry) (made number : ℕ) (seen : List Entry)
-    → Allows Rules slots id (knows (keeper_of whole made number seen)) 0 (λ n. n) (λ n w. HasShown (knows (keeper_of whole made number seen)) w)
-shows_at slots id whole made number seen s h homes at less = (
-  shown whole (keeper_of whole made number seen),
+shows_at : (slots id : ℕ) (whole : List Entry) (rights : List Right) (number : ℕ) (right : Right) (seen : List Entry)
+    → Allows Rules slots id (knows (keeper_of whole rights number right seen)) 0 (λ n. n) (λ n w. HasShown (knows (keeper_of whole rights number right seen)) w)
+shows_at slots id whole rights number right seen s h homes at less = (
+  shown whole (keeper_of whole rights number right seen),
   keeps,
   tt,
-  shows_to s.views id whole made number seen h at,
-  (behind s.views id whole made number seen h at, refl),
+  shows_to s.views id whole rights number right seen h at,
+  (behind s.views id whole rights number right seen h at, refl),
 )
 
-pub shows : (slots id : ℕ) (me : Knowledge × List (ℕ × ℕ)) (whole : List Entry) (made number : ℕ) (seen : List Entry) → me ≡ knows (keeper_of whole made number seen)
+pub shows : (slots id : ℕ) (me : Knowledge × List (ℕ × ℕ)) (whole : List Entry) (rights : List Right) (number : ℕ) (right : Right) (seen : List Entry) → me ≡ knows (keeper_of whole rights number right seen)
     → Allows Rules slots id me 0 (λ n. n) (λ n w. HasShown me w)
-shows slots id me whole made number seen is =
-    subst (λ (m : Knowledge × List (ℕ × ℕ)). Allows Rules slots id m 0 (λ n. n) (λ n w. HasShown m w)) (sym is) (shows_at slots id whole made number seen)
+shows slots id me whole rights number right seen is =
+    subst (λ (m : Knowledge × List (ℕ × ℕ)). Allows Rules slots id m 0 (λ n. n) (λ n w. HasShown m w)) (sym is) (shows_at slots id whole rights number right seen)
 
-counts_at : (slots id : ℕ) (whole : List Entry) (made : ℕ) → Allows Rules slots id (knows (knower whole made)) 0 (λ n. n) (λ n w. HasCounted (knows (knower whole made)) w)
-counts_at slots id whole made s h homes at less =
-    (knower whole made, keeps, tt, same_again s.views id (knower whole made) h at, (counts_all s.views id whole made h at, refl))
+counts_at : (slots id : ℕ) (whole : List Entry) (rights : List Right) → Allows Rules slots id (knows (knower whole rights)) 0 (λ n. n) (λ n w. HasCounted (knows (knower whole rights)) w)
+counts_at slots id whole rights s h homes at less =
+    (knower whole rights, keeps, tt, same_again s.views id (knower whole rights) h at, (counts_all s.views id whole rights h at, refl))
 
-pub counts : (slots id : ℕ) (me : Knowledge × List (ℕ × ℕ)) (whole : List Entry) (made : ℕ) → me ≡ knows (knower whole made) → Allows Rules slots id me 0 (λ n. n) (λ n w. HasCounted me w)
-counts slots id me whole made is =
-    subst (λ (m : Knowledge × List (ℕ × ℕ)). Allows Rules slots id m 0 (λ n. n) (λ n w. HasCounted m w)) (sym is) (counts_at slots id whole made)
+pub counts : (slots id : ℕ) (me : Knowledge × List (ℕ × ℕ)) (whole : List Entry) (rights : List Right) → me ≡ knows (knower whole rights) → Allows Rules slots id me 0 (λ n. n) (λ n w. HasCounted me w)
+counts slots id me whole rights is =
+    subst (λ (m : Knowledge × List (ℕ × ℕ)). Allows Rules slots id m 0 (λ n. n) (λ n w. HasCounted m w)) (sym is) (counts_at slots id whole rights)
 
-joins_at : (id other : ℕ) (whole : List Entry) (made number : ℕ) (seen : List Entry) → Joins Rules id (knower whole made) other (caller number seen) (keeper_of whole made number seen) nobody
-joins_at id other whole made number seen s h at apart there = joins_in s.views id other whole made number seen h at apart there
+joins_at : (id other : ℕ) (whole : List Entry) (rights : List Right) (number : ℕ) (right : Right) (seen : List Entry) → Joins Rules id (knower whole rights) other (caller number right seen) (keeper_of whole rights number right seen) nobody
+joins_at id other whole rights number right seen s h at apart there = joins_in s.views id other whole rights number right seen h at apart there
 
-pub joins : (id other : ℕ) (v w : Knowledge) (whole : List Entry) (made number : ℕ) (seen : List Entry) → v ≡ knower whole made → w ≡ caller number seen → Joins Rules id v other w (visited v w) nobody
-joins id other v w whole made number seen is are =
-    subst (λ (x : Knowledge × Knowledge). Joins Rules id x.0 other x.1 (visited x.0 x.1) nobody) (λ i. (sym is i, sym are i)) (joins_at id other whole made number seen)
+pub joins : (id other : ℕ) (v w : Knowledge) (whole : List Entry) (rights : List Right) (number : ℕ) (right : Right) (seen : List Entry) → v ≡ knower whole rights → w ≡ caller number right seen → Joins Rules id v other w (visited v w) nobody
+joins id other v w whole rights number right seen is are =
+    subst (λ (x : Knowledge × Knowledge). Joins Rules id x.0 other x.1 (visited x.0 x.1) nobody) (λ i. (sym is i, sym are i)) (joins_at id other whole rights number right seen)
 
-splits_at : (id : ℕ) (whole : List Entry) (made number : ℕ) (seen : List Entry) → Splits Rules id (keeper_of whole made number seen) (knower whole made) (caller number seen)
-splits_at id whole made number seen s h at = splits_off s.views id whole made number seen h at
+splits_at : (id : ℕ) (whole : List Entry) (rights : List Right) (number : ℕ) (right : Right) (seen : List Entry) → Splits Rules id (keeper_of whole rights number right seen) (knower whole rights) (caller number right seen)
+splits_at id whole rights number right seen s h at = splits_off s.views id whole rights number right seen h at
 
-pub splits : (id : ℕ) (v : Knowledge) (whole : List Entry) (made number : ℕ) (seen : List Entry) → v ≡ keeper_of whole made number seen → Splits Rules id v (knower v.whole v.made) (visitor v)
-splits id v whole made number seen is =
-    subst (λ (u : Knowledge). Splits Rules id u (knower u.whole u.made) (visitor u)) (sym is) (splits_at id whole made number seen)
+pub splits : (id : ℕ) (v : Knowledge) (whole : List Entry) (rights : List Right) (number : ℕ) (right : Right) (seen : List Entry) → v ≡ keeper_of whole rights number right seen → Splits Rules id v (knower v.whole v.rights) (visitor v)
+splits id v whole rights number right seen is =
+    subst (λ (u : Knowledge). Splits Rules id u (knower u.whole u.rights) (visitor u)) (sym is) (splits_at id whole rights number right seen)
 
-numbers_at : (id : ℕ) (whole : List Entry) (made : ℕ) → Splits Rules id (knower whole made) (knower whole (made + 1)) (caller made whole)
-numbers_at id whole made s h at = numbers_one s.views id whole made h at
+numbers_at : (id : ℕ) (whole : List Entry) (rights : List Right) (right : Right) → Splits Rules id (knower whole rights) (knower whole (rights ++ right ∷ [])) (caller (length rights) right whole)
+numbers_at id whole rights right s h at = numbers_one s.views id whole rights right h at
 
-pub numbers : (id : ℕ) (v : Knowledge) (whole : List Entry) (made : ℕ) → v ≡ knower whole made → Splits Rules id v (knower v.whole (v.made + 1)) (caller v.made v.whole)
-numbers id v whole made is =
-    subst (λ (u : Knowledge). Splits Rules id u (knower u.whole (u.made + 1)) (caller u.made u.whole)) (sym is) (numbers_at id whole made)
+pub numbers : (id : ℕ) (v : Knowledge) (whole : List Entry) (rights : List Right) (right : Right) → v ≡ knower whole rights → Splits Rules id v (knower v.whole (v.rights ++ right ∷ [])) (caller (length v.rights) right v.whole)
+numbers id v whole rights right is =
+    subst (λ (u : Knowledge). Splits Rules id u (knower u.whole (u.rights ++ right ∷ [])) (caller (length u.rights) right u.whole)) (sym is) (numbers_at id whole rights right)
 
 pub alone : (x y : Knowledge) → x ∷ [] ≡ y ∷ [] → x ≡ y
 alone x y e = cc (e)

@@ -1,10 +1,12 @@
 //! The journal and its witnesses.
 
-ghost use Rattle.std.specs.Prelude.{◌≡◌, ◌+◌, ◌++◌, ◌∷◌, []};
+ghost use Rattle.std.specs.Prelude.{◌≡◌, ◌++◌, ◌∷◌, [], length, slice_get, Some};
 ghost use mathlib.Core.List.{IsPrefix};
 ghost use Rattle.ymx_seats.specs.Journals.{part};
 
-use crate::plays::{Adds, Counts, EntryName, Knowledge, Naming, Numbers, OneHistory, Shows, Visit};
+use crate::plays::{
+    Adds, Counts, EntryName, Knowledge, Naming, Numbers, OneHistory, RightName, Shows, Visit,
+};
 use atomic_table::{Badge, Seat, Table};
 use std::alloc::Global;
 use std::marker::{Model, PhantomData};
@@ -27,7 +29,7 @@ impl Model for NewJournal {
 
     ghost view = { λ o. o.table.shared.table_id };
 
-    ghost invariant = { λ o. (o.keeper.table_id ≡ o.table.shared.table_id) × (o.keeper.me ≡ (knower [] 0, [])) × (0 < o.table.shared.table_id.words) };
+    ghost invariant = { λ o. (o.keeper.table_id ≡ o.table.shared.table_id) × (o.keeper.me ≡ (knower [] [], [])) × (0 < o.table.shared.table_id.words) };
 }
 
 impl NewJournal {
@@ -41,7 +43,7 @@ impl NewJournal {
     pub fn named<J: Naming>(self) -> Journal<J>
         requires { self ≡ J.table }
         ensures whole { result.whole ≡ [] }
-        ensures made { result.made ≡ 0 }
+        ensures rights { result.rights ≡ [] }
     {
         let NewJournal { table, keeper } = self;
         Journal {
@@ -52,7 +54,7 @@ impl NewJournal {
     }
 }
 
-/// The whole history, and the right to add to it. A contract sees the entries, and how many callers were numbered.
+/// The whole history, and the right to add to it. A contract sees the entries, and what each caller may do that was numbered.
 #[derive(Drop)]
 pub struct Journal<J: Naming> {
     table: Table<u8, Knowledge, (), OneHistory, Global>,
@@ -66,13 +68,13 @@ impl<J: Naming> Model for Journal<J> {
 
     ghost Value = { JournalView };
 
-    ghost view = { λ j. record { whole = j.keeper.me.0.whole; made = j.keeper.me.0.made } };
+    ghost view = { λ j. record { whole = j.keeper.me.0.whole; rights = j.keeper.me.0.rights } };
 
-    ghost invariant = { λ j. (j.keeper.table_id ≡ J.table) × (j.table.shared.table_id ≡ J.table) × (j.keeper.me ≡ (knower j.keeper.me.0.whole j.keeper.me.0.made, [])) × (0 < j.table.shared.table_id.words) };
+    ghost invariant = { λ j. (j.keeper.table_id ≡ J.table) × (j.table.shared.table_id ≡ J.table) × (j.keeper.me ≡ (knower j.keeper.me.0.whole j.keeper.me.0.rights, [])) × (0 < j.table.shared.table_id.words) };
 }
 
-/// What a caller knows of the history. A contract sees its number, and the history as it was at its last event, in which
-/// all its entries stand.
+/// What a caller knows of the history. A contract sees its number, what it may do, and the history as it was at its last event,
+/// in which all its entries stand.
 #[derive(Drop)]
 pub struct Witness<J: Naming> {
     badge: Badge<Knowledge>,
@@ -87,23 +89,26 @@ impl<J: Naming> Model for Witness<J> {
 
     ghost view = { λ w. witnessed w.badge.views };
 
-    ghost invariant = { λ w. (w.badge.table_id ≡ J.table) × (w.badge.views ≡ caller (witnessed w.badge.views).number (witnessed w.badge.views).seen ∷ []) };
+    ghost invariant = { λ w. (w.badge.table_id ≡ J.table) × (w.badge.views ≡ caller (witnessed w.badge.views).number (witnessed w.badge.views).right (witnessed w.badge.views).seen ∷ []) };
 }
 
 impl<J: Naming> Journal<J> {
-    /// The witness of one more caller, which has seen the whole history. None of its entries are that caller's.
-    pub fn witness(&mut self) -> Witness<J>
-        ensures number { result.number ≡ self.old.made }
+    /// The witness of one more caller, which may do what this names, and has seen the whole history. None of its entries are
+    /// that caller's.
+    pub fn witness<D: RightName>(&mut self) -> Witness<J>
+        ensures number { result.number ≡ length self.old.rights }
+        ensures right { result.right ≡ D.right }
         ensures seen { result.seen ≡ self.old.whole }
-        ensures none { part self.old.made self.old.whole ≡ [] }
+        ensures none { part (length self.old.rights) self.old.whole ≡ [] }
         ensures whole { self.new.whole ≡ self.old.whole }
-        ensures made { self.new.made ≡ self.old.made + 1 }
+        ensures rights { self.new.rights ≡ self.old.rights ++ D.right ∷ [] }
     {
         let table = &self.table;
         let steps = &table.shared;
         steps.load::<Counts>(&mut self.keeper, 0);
+        let pass = steps.split_seat::<Numbers<D>>(&mut self.keeper);
         Witness {
-            badge: steps.split_seat::<Numbers>(&mut self.keeper).into_badge(),
+            badge: pass.into_badge(),
             of: PhantomData,
         }
     }
@@ -113,11 +118,13 @@ impl<J: Naming> Journal<J> {
     pub fn add<N: EntryName>(&mut self, me: &mut Witness<J>)
         requires { N.entry.seat ≡ me.old.number }
         ensures added { self.new.whole ≡ self.old.whole ++ N.entry ∷ [] }
-        ensures made { self.new.made ≡ self.old.made }
+        ensures rights { self.new.rights ≡ self.old.rights }
         ensures number { me.new.number ≡ me.old.number }
+        ensures right { me.new.right ≡ me.old.right }
         ensures seen { me.new.seen ≡ self.new.whole }
         ensures before { IsPrefix me.old.seen self.old.whole }
         ensures mine { part me.old.number self.old.whole ≡ part me.old.number me.old.seen }
+        ensures known { slice_get self.old.rights me.old.number ≡ Some me.old.right }
     {
         let table = &self.table;
         let steps = &table.shared;
@@ -131,9 +138,11 @@ impl<J: Naming> Journal<J> {
     pub fn show(&mut self, me: &mut Witness<J>)
         ensures same { self.new ≡ self.old }
         ensures number { me.new.number ≡ me.old.number }
+        ensures right { me.new.right ≡ me.old.right }
         ensures seen { me.new.seen ≡ self.old.whole }
         ensures before { IsPrefix me.old.seen self.old.whole }
         ensures mine { part me.old.number self.old.whole ≡ part me.old.number me.old.seen }
+        ensures known { slice_get self.old.rights me.old.number ≡ Some me.old.right }
     {
         let table = &self.table;
         let steps = &table.shared;

@@ -1,6 +1,6 @@
 //! The entries so far, as they are kept under the lock.
 
-ghost use Rattle.std.specs.Prelude.{◌≡◌, ◌-◌, ◌+◌, ◌<◌, ◌≤◌, ◌++◌, ◌∷◌, [], true, false, Some, None, vec_capacity, vec_len, length, IsOk, IfOk, OnOk};
+ghost use Rattle.std.specs.Prelude.{◌≡◌, ◌-◌, ◌+◌, ◌<◌, ◌≤◌, ◌++◌, ◌∷◌, [], true, false, Some, None, vec_capacity, vec_len, length, slice_get, IsOk, IfOk, OnOk};
 ghost use mathlib.Core.List.{IsPrefix};
 ghost use Rattle.ymx_memory.specs.Bounds.{most_entries};
 ghost use Rattle.ymx_seats.specs.Journals.{part};
@@ -8,7 +8,7 @@ ghost use Rattle.ymx_seats.specs.Views.{entry};
 
 use crate::entry_room::{Copies, EntryRoom, copies_of, kept_reply};
 use crate::journal::{Journal, NewJournal, Witness};
-use crate::plays::EntryName;
+use crate::plays::{EntryName, RightName};
 use crate::recorder::{Recorder, RecorderKey};
 use crate::seat::Seat;
 use std::alloc::Global;
@@ -40,7 +40,7 @@ impl<R: Recorder> Model for Log<R> {
 
 impl<R: Recorder> Log<R> {
     ghost use Rattle.ymx_seats.specs.Tallies.{RisesFrom};
-    ghost use Rattle.ymx_seats.specs.Views.{kept_entries, entry, journal_after, with_caller, whole_of, HasNumbered, IsBehind, IsWitnessed, IsNewcomer};
+    ghost use Rattle.ymx_seats.specs.Views.{kept_entries, entry, journal_after, with_caller, whole_of, HasNumbered, HasRight, IsBehind, IsWitnessed, IsNewcomer};
     ghost use Rattle.ymx_seats.specs.EntryRooms.{IsReady};
     ghost use Rattle.ymx_machine.specs.shared.Replies.{bytes_told};
 
@@ -62,7 +62,7 @@ impl<R: Recorder> Log<R> {
         requires witnessed { R.WITNESSED ≡ true }
         requires named { opened ≡ R.table }
         ensures entries { result.entries ≡ [] }
-        ensures journal { result.journal ≡ Some (record { whole = []; made = 0 }) }
+        ensures journal { result.journal ≡ Some (record { whole = []; rights = [] }) }
     {
         Log {
             entries: Vec::new(alloc),
@@ -71,21 +71,22 @@ impl<R: Recorder> Log<R> {
         }
     }
 
-    /// A new seat of this number, which is how many were given where there is a journal. Its entries come behind those that
+    /// A new seat of this number, which is how many were given where there is a journal, and then may do what this names. Its entries come behind those that
     /// are there, and it has seen the whole history, of which no entry is its own. Takes no memory.
-    pub fn seat(&mut self, alloc: Global, number: u32) -> Seat<R>
+    pub fn seat<D: RightName>(&mut self, alloc: Global, number: u32) -> Seat<R>
         requires next { HasNumbered number self.old.journal }
         requires history { IsWitnessed R.WITNESSED R.role R.config (whole_of self.old.journal) }
         ensures number { result.number ≡ number }
+        ensures right { R.WITNESSED ≡ true → result.right ≡ D.right }
         ensures start { result.start ≡ length self.old.entries }
         ensures empty { result.entries ≡ [] }
         ensures seen { result.seen ≡ whole_of self.old.journal }
         ensures newcomer { IsNewcomer number result.seen }
-        ensures counted { self.new ≡ record self.old { journal = with_caller self.old.journal } }
+        ensures counted { self.new ≡ record self.old { journal = with_caller D.right self.old.journal } }
     {
         let start = self.next_position();
         let witness = match &mut self.journal {
-            Some(journal) => Some(journal.witness()),
+            Some(journal) => Some(journal.witness::<D>()),
             None => None,
         };
         Seat::with_witness(alloc, number, start, witness)
@@ -113,6 +114,7 @@ impl<R: Recorder> Log<R> {
         ensures entries { self.new.entries ≡ self.old.entries }
         ensures journal { self.new.journal ≡ self.old.journal }
         ensures number { seat.new.number ≡ seat.old.number }
+        ensures right { seat.new.right ≡ seat.old.right }
         ensures start { seat.new.start ≡ seat.old.start }
         ensures seat_entries { seat.new.entries ≡ seat.old.entries }
         ensures seen { seat.new.seen ≡ seat.old.seen }
@@ -145,6 +147,7 @@ impl<R: Recorder> Log<R> {
         requires room { R.KEEPS ≡ true → (0 < self.old.room) × (0 < seat.old.room) }
         requires history { IsWitnessed R.WITNESSED R.role R.config (whole_of (journal_after seat.old.number event.now reply self.old.journal)) }
         ensures number { seat.new.number ≡ seat.old.number }
+        ensures right { seat.new.right ≡ seat.old.right }
         ensures start { seat.new.start ≡ seat.old.start }
         ensures entries { self.new.entries ≡ self.old.entries ++ kept_entries R.KEEPS (entry (length self.old.entries) seat.old.number event.now reply.entry) }
         ensures seat_entries { seat.new.entries ≡ seat.old.entries ++ kept_entries R.KEEPS (entry (length self.old.entries) seat.old.number event.now reply.entry) }
@@ -152,6 +155,7 @@ impl<R: Recorder> Log<R> {
         ensures journal { self.new.journal ≡ journal_after seat.old.number event.now reply.entry self.old.journal }
         ensures seen { seat.new.seen ≡ whole_of self.new.journal }
         ensures behind { IsBehind seat.old.number seat.old.seen self.old.journal }
+        ensures known { HasRight seat.old.number seat.old.right self.old.journal }
     {
         self.attest(seat, event, &reply);
         let Some(copies) = room.copies else {
@@ -185,6 +189,7 @@ impl<R: Recorder> Log<R> {
         ensures log { self.new ≡ record self.old { journal = journal_after seat.old.number event.now reply.now self.old.journal } }
         ensures seat { seat.new ≡ record seat.old { seen = whole_of self.new.journal } }
         ensures behind { IsBehind seat.old.number seat.old.seen self.old.journal }
+        ensures known { HasRight seat.old.number seat.old.right self.old.journal }
     {
         if let (Some(journal), Some(witness)) = (&mut self.journal, &mut seat.witness) {
             note::<R, Brand>(journal, witness, event, reply);
@@ -197,6 +202,7 @@ impl<R: Recorder> Log<R> {
         ensures same { self.new ≡ self.old }
         ensures seat { seat.new ≡ record seat.old { seen = whole_of self.old.journal } }
         ensures behind { IsBehind seat.old.number seat.old.seen self.old.journal }
+        ensures known { HasRight seat.old.number seat.old.right self.old.journal }
     {
         if let (Some(journal), Some(witness)) = (&mut self.journal, &mut seat.witness) {
             journal.show(witness);
@@ -230,9 +236,10 @@ fn note<R: Recorder, N: EntryName>(
 )
     requires { N.entry ≡ entry (length journal.old.whole) witness.old.number event.now reply.now }
     ensures added { journal.new ≡ record journal.old { whole = journal.old.whole ++ entry (length journal.old.whole) witness.old.number event.now reply.now ∷ [] } }
-    ensures witness { witness.new ≡ record { number = witness.old.number; seen = journal.new.whole } }
+    ensures witness { witness.new ≡ record { number = witness.old.number; right = witness.old.right; seen = journal.new.whole } }
     ensures before { IsPrefix witness.old.seen journal.old.whole }
     ensures mine { part witness.old.number journal.old.whole ≡ part witness.old.number witness.old.seen }
+    ensures known { slice_get journal.old.rights witness.old.number ≡ Some witness.old.right }
 {
     journal.add::<N>(witness);
 }

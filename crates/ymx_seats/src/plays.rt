@@ -43,19 +43,51 @@ impl EntryName for Brand {
     ghost entry = { no_entry };
 }
 
-/// What a pass knows. The keeper's knows the whole history, and how many callers were numbered; that of a caller knows
-/// its number, and the history as it was seen. No value of it is made.
+/// What a caller may do to streams. No value of it is made.
+pub enum Right {
+    /// What is no call of a writing half.
+    Free,
+    /// The calls of the writing half of this stream too, which the entry at this position gave.
+    Writes(u32, u64),
+}
+
+/// Names what one caller may do. The keeper picks it where it numbers the caller.
+pub trait RightName {
+    ghost use Rattle.ymx_seats.specs.declared.plays.Right.{Right};
+
+    ghost right: { Right };
+}
+
+impl RightName for Brand {
+    ghost use Rattle.ymx_seats.specs.declared.plays.Right.TheVariants.{Free};
+
+    ghost right = { Free };
+}
+
+/// The right of a caller that is of no half.
+pub struct NoHalf;
+
+impl RightName for NoHalf {
+    ghost use Rattle.ymx_seats.specs.declared.plays.Right.TheVariants.{Free};
+
+    ghost right = { Free };
+}
+
+/// What a pass knows. The keeper's knows the whole history, and what each caller may do that was numbered; that of a caller
+/// knows its number, what it may do, and the history as it was seen. No value of it is made.
 pub struct Knowledge {
     /// It is the keeper's.
     pub keeps: bool,
-    /// How many callers were numbered.
-    pub made: u64,
+    /// What each caller may do, by its number.
+    pub rights: LinkedList<Right>,
     /// The whole history.
     pub whole: LinkedList<Entry>,
     /// It has the number of a caller.
     pub speaks: bool,
     /// That number.
     pub number: u64,
+    /// What that caller may do.
+    pub right: Right,
     /// The history as that caller has seen it.
     pub seen: LinkedList<Entry>,
 }
@@ -69,7 +101,7 @@ impl TableRule<u8, Knowledge, ()> for OneHistory {
 
     ghost holds = { λ _ s. IsKept s.views };
 
-    ghost first = { λ _. knower [] 0 };
+    ghost first = { λ _. knower [] [] };
 }
 
 /// The keeper, who holds a caller's number, adds the entry that this names.
@@ -115,19 +147,21 @@ impl Join<Knowledge> for Visit {
 impl Split<Knowledge> for Visit {
     ghost use Rattle.ymx_seats.specs.Journals.{knower, visitor};
 
-    ghost left = { λ v. knower v.whole v.made };
+    ghost left = { λ v. knower v.whole v.rights };
 
     ghost right = { visitor };
 }
 
-/// The next caller is numbered.
-pub(crate) struct Numbers;
+/// The next caller is numbered, and may do what this names.
+pub(crate) struct Numbers<D: RightName> {
+    of: PhantomData<D>,
+}
 
-impl Split<Knowledge> for Numbers {
-    ghost use Rattle.std.specs.Prelude.{◌+◌};
+impl<D: RightName> Split<Knowledge> for Numbers<D> {
+    ghost use Rattle.std.specs.Prelude.{◌++◌, ◌∷◌, [], length};
     ghost use Rattle.ymx_seats.specs.Journals.{knower, caller};
 
-    ghost left = { λ v. knower v.whole (v.made + 1) };
+    ghost left = { λ v. knower v.whole (v.rights ++ D.right ∷ []) };
 
-    ghost right = { λ v. caller v.made v.whole };
+    ghost right = { λ v. caller (length v.rights) D.right v.whole };
 }

@@ -11,7 +11,7 @@ use ymx_memory::RefusedAllocation;
 use ymx_model::Entry;
 
 /// A caller, with the entries of its events. It must be handed in at the end: it cannot be dropped.
-/// A contract sees its number, the first position that its entries may have, the entries, for how many more there is
+/// A contract sees its number, what it may do, the first position that its entries may have, the entries, for how many more there is
 /// memory, and the history as it has seen it, if there is a journal: that is the history of a session.
 pub struct Seat<R: Recorder> {
     number: u32,
@@ -23,11 +23,11 @@ pub struct Seat<R: Recorder> {
 
 impl<R: Recorder> Model for Seat<R> {
     ghost use Rattle.std.specs.Prelude.{◌-◌, vec_capacity, vec_len};
-    ghost use Rattle.ymx_seats.specs.Views.{SeatView, seen_by, IsOf, IsWitnessed};
+    ghost use Rattle.ymx_seats.specs.Views.{SeatView, right_by, seen_by, IsOf, IsWitnessed};
 
     ghost Value = { SeatView };
 
-    ghost view = { λ s. record { number = s.number; start = s.start; entries = s.entries.items; room = vec_capacity s.entries - vec_len s.entries; seen = seen_by s.witness } };
+    ghost view = { λ s. record { number = s.number; right = right_by s.witness; start = s.start; entries = s.entries.items; room = vec_capacity s.entries - vec_len s.entries; seen = seen_by s.witness } };
 
     ghost invariant = { λ s. IsOf s.number s.witness × IsWitnessed R.WITNESSED R.role R.config (seen_by s.witness) };
 }
@@ -43,11 +43,11 @@ pub struct Sight<R: Recorder> {
 
 impl<R: Recorder> Model for Sight<R> {
     ghost use Rattle.std.specs.Prelude.{[]};
-    ghost use Rattle.ymx_seats.specs.Views.{SeatView, seen_by, IsOf, IsWitnessed};
+    ghost use Rattle.ymx_seats.specs.Views.{SeatView, right_by, seen_by, IsOf, IsWitnessed};
 
     ghost Value = { SeatView };
 
-    ghost view = { λ s. record { number = s.number; start = s.start; entries = []; room = 0; seen = seen_by s.witness } };
+    ghost view = { λ s. record { number = s.number; right = right_by s.witness; start = s.start; entries = []; room = 0; seen = seen_by s.witness } };
 
     ghost invariant = { λ s. IsOf s.number s.witness × IsWitnessed R.WITNESSED R.role R.config (seen_by s.witness) };
 }
@@ -67,7 +67,7 @@ impl<R: Recorder> Sight<R> {
 }
 
 impl<R: Recorder> Seat<R> {
-    ghost use Rattle.ymx_seats.specs.Views.{IsWitnessed, IsOf, seen_by};
+    ghost use Rattle.ymx_seats.specs.Views.{IsWitnessed, IsOf, right_by, seen_by};
 
     /// A seat with no entries, whose entries will have positions from `start` on, with this witness. Takes no memory.
     pub(crate) fn with_witness(
@@ -79,6 +79,7 @@ impl<R: Recorder> Seat<R> {
         requires of { IsOf number witness }
         requires witnessed { IsWitnessed R.WITNESSED R.role R.config (seen_by witness) }
         ensures number { result.number ≡ number }
+        ensures right { result.right ≡ right_by witness }
         ensures start { result.start ≡ start }
         ensures empty { result.entries ≡ [] }
         ensures room { result.room ≡ 0 }
@@ -131,6 +132,7 @@ impl<R: Recorder> Seat<R> {
     pub fn make_room(&mut self, count: usize) -> Result<(), RefusedAllocation>
         requires at_most { count ≤ most_entries }
         ensures number { self.new.number ≡ self.old.number }
+        ensures right { self.new.right ≡ self.old.right }
         ensures start { self.new.start ≡ self.old.start }
         ensures entries { self.new.entries ≡ self.old.entries }
         ensures seen { self.new.seen ≡ self.old.seen }
@@ -144,6 +146,7 @@ impl<R: Recorder> Seat<R> {
     pub fn add(&mut self, entry: Entry)
         requires { 0 < self.old.room }
         ensures number { self.new.number ≡ self.old.number }
+        ensures right { self.new.right ≡ self.old.right }
         ensures start { self.new.start ≡ self.old.start }
         ensures entries { self.new.entries ≡ self.old.entries ++ entry ∷ [] }
         ensures seen { self.new.seen ≡ self.old.seen }

@@ -1,19 +1,20 @@
-use Rattle.std.proofs.Common.{ℕ, ◌≡◌, ◌⊎◌, ◌∙◌, length, refl, ap, subst, arith, rules}
+use Rattle.std.proofs.Common.{ℕ, ◌≡◌, ◌⊎◌, ◌∙◌, length, refl, sym, ap, subst, Option, arith, rules}
 use Rattle.ymx_machine.specs.declared.types.Reply.{Reply as ReplyOf}
 use Rattle.ymx_machine.specs.declared.types.Reply.TheVariants as reply
 use Rattle.ymx_model.specs.session.Events.{Event}
 use Rattle.ymx_session.specs.Applied.{in_buffer, IsReplyTo, IsRefusal}
 use Rattle.ymx_session.specs.Replies.{done_or}
+use Rattle.ymx_seats.specs.Journals.{JournalView}
 use Rattle.ymx_seats.specs.Views.{whole_of}
 use Rattle.ymx_hub.specs.declared.stream_calls.HalfCall.{HalfCall}
 use Rattle.ymx_hub.specs.declared.stream_calls.HalfCall.TheVariants as half
 use Rattle.ymx_hub.specs.Books.{to_end, to_forget}
-use Rattle.ymx_hub.specs.Booked.{BookedView, spent}
-use Rattle.ymx_hub.proofs.History.{kept_twice}
+use Rattle.ymx_hub.specs.Booked.{BookedView, spent, Kept, IsJournaled}
+use Rattle.ymx_hub.proofs.History.{kept_after, kept_twice}
 use Rattle.ymx_hub.proofs.Books.{spends_one, spends_two, books_none}
 use Rattle.ymx_hub.proofs.Gained.{gained_none, gained_one, spent_adds_none}
 use Rattle.ymx_hub.proofs.Extends.{behind_at, journal_at, entries_at, after_at}
-use Rattle.ymx_hub.proofs.Journals.{journaled_twice}
+use Rattle.ymx_hub.proofs.Journals.{journaled_after, journaled_twice, half_known, may_end}
 use Rattle.ymx_hub.proofs.Spares.{half_spares}
 use Rattle.ymx_hub.proofs.Steps.{gives_at, spends_first, spends_second, steps_of}
 use Rattle.ymx_hub.proofs.booked.Booked.end_half.Goals as goal
@@ -36,8 +37,25 @@ invariant_of-self-2 g c = (
   c.self.invariant.2,
   c.self.invariant.3,
   journaled_twice g.R.Recorder.WITNESSED g.R.Naming.role g.R.Naming.config c.self.inside.role c.self.inside.config c.self.inside.log.journal c.carry_out-told.new.log.journal c.carry_out.new.log.journal c.self.inside.session c.carry_out-told.new.session c.carry_out.new.session c.self.inside.given
-      c.args.seat.now.number (to_end c.args.half_call c.args.id) (done_or c.done-ended.result) c.carry_out-told.new.seat.number (to_forget c.args.id) (in_buffer c.carry_out.new.buffer c.carry_out.result) c.self.invariant.4
-      (gives_at _ _ _ _ _ _ c.event-event.ensures (c.done-ended.ensures c.carry_out-told.new.buffer) c.carry_out-told.ensures.event) (journal_at _ c.args.seat.now.number _ (to_end c.args.half_call c.args.id) _ (done_or c.done-ended.result) _ c.self.inside.log.journal _ c.carry_out-told.ensures.journal (c.prepare-2.ensures.number ∙ c.prepare.ensures.number) c.event-event.ensures (c.done-ended.ensures c.carry_out-told.new.buffer) (c.prepare-2.ensures.journal ∙ c.prepare.ensures.journal)) c.carry_out.ensures.event (journal_at _ _ _ (to_forget c.args.id) _ (in_buffer c.carry_out.new.buffer c.carry_out.result) _ _ _ c.carry_out.ensures.journal refl refl refl refl),
+      c.args.seat.now.number (to_end c.args.half_call c.args.id) (done_or c.done-ended.result) c.carry_out-told.new.seat.number (to_forget c.args.id) (in_buffer c.carry_out.new.buffer c.carry_out.result) c.args.seat.now.right c.carry_out-told.new.seat.right c.self.invariant.4
+      (gives_at _ _ _ _ _ _ c.event-event.ensures (c.done-ended.ensures c.carry_out-told.new.buffer) c.carry_out-told.ensures.event) (journal_at _ c.args.seat.now.number _ (to_end c.args.half_call c.args.id) _ (done_or c.done-ended.result) _ c.self.inside.log.journal _ c.carry_out-told.ensures.journal (c.prepare-2.ensures.number ∙ c.prepare.ensures.number) c.event-event.ensures (c.done-ended.ensures c.carry_out-told.new.buffer) (c.prepare-2.ensures.journal ∙ c.prepare.ensures.journal)) c.carry_out.ensures.event (journal_at _ _ _ (to_forget c.args.id) _ (in_buffer c.carry_out.new.buffer c.carry_out.result) _ _ _ c.carry_out.ensures.journal refl refl refl refl)
+      (half_known c.args.seat.now.number _ c.args.seat.now.right _ c.self.inside.log.journal _ (c.prepare-2.ensures.number ∙ c.prepare.ensures.number) (c.prepare-2.ensures.right ∙ c.prepare.ensures.right) (c.prepare-2.ensures.journal ∙ c.prepare.ensures.journal) c.carry_out-told.ensures.known) (λ w. may_end c.args.half_call c.args.id c.args.seat.now.right (c.requires.may w)) c.carry_out.ensures.known (λ w. tt),
+)
+
+pub invariant_of-self-then-not-second : goal.invariant_of-self-then-not-second
+invariant_of-self-then-not-second g c = (
+  subst (λ es. Kept g.R.Recorder.KEEPS c.self.inside.ended c.self.inside.role c.self.inside.config es c.carry_out-told.new.session)
+      (sym (after_at g.R.Recorder.KEEPS _ c.args.seat.now.number _ (to_end c.args.half_call c.args.id) _ (done_or c.done-ended.result) _ c.self.inside.log.entries _ c.carry_out-told.ensures.entries (c.prepare-2.ensures.number ∙ c.prepare.ensures.number) c.event-event.ensures (c.done-ended.ensures c.carry_out-told.new.buffer) (c.prepare-2.ensures.entries ∙ c.prepare.ensures.entries)))
+      (kept_after g.R.Recorder.KEEPS c.self.inside.ended c.self.inside.role c.self.inside.config c.self.inside.log.entries c.self.inside.session c.carry_out-told.new.session c.args.seat.now.number (to_end c.args.half_call c.args.id) (done_or c.done-ended.result) c.self.invariant.0
+      (gives_at _ _ _ _ _ _ c.event-event.ensures (c.done-ended.ensures c.carry_out-told.new.buffer) c.carry_out-told.ensures.event)),
+  c.self.invariant.1,
+  c.self.invariant.2,
+  c.self.invariant.3,
+  subst (λ (j : Option JournalView). IsJournaled g.R.Recorder.WITNESSED g.R.Naming.role g.R.Naming.config c.self.inside.role c.self.inside.config j c.carry_out-told.new.session c.self.inside.given)
+      (sym (journal_at _ c.args.seat.now.number _ (to_end c.args.half_call c.args.id) _ (done_or c.done-ended.result) _ c.self.inside.log.journal _ c.carry_out-told.ensures.journal (c.prepare-2.ensures.number ∙ c.prepare.ensures.number) c.event-event.ensures (c.done-ended.ensures c.carry_out-told.new.buffer) (c.prepare-2.ensures.journal ∙ c.prepare.ensures.journal)))
+      (journaled_after g.R.Recorder.WITNESSED g.R.Naming.role g.R.Naming.config c.self.inside.role c.self.inside.config c.self.inside.log.journal c.self.inside.session c.carry_out-told.new.session c.self.inside.given c.args.seat.now.number (to_end c.args.half_call c.args.id) (done_or c.done-ended.result) c.args.seat.now.right c.self.invariant.4
+      (gives_at _ _ _ _ _ _ c.event-event.ensures (c.done-ended.ensures c.carry_out-told.new.buffer) c.carry_out-told.ensures.event)
+      (half_known c.args.seat.now.number _ c.args.seat.now.right _ c.self.inside.log.journal _ (c.prepare-2.ensures.number ∙ c.prepare.ensures.number) (c.prepare-2.ensures.right ∙ c.prepare.ensures.right) (c.prepare-2.ensures.journal ∙ c.prepare.ensures.journal) c.carry_out-told.ensures.known) (λ w. may_end c.args.half_call c.args.id c.args.seat.now.right (c.requires.may w))),
 )
 
 pub returns-then-not-second-clause-booked : goal.returns-then-not-second-clause-booked

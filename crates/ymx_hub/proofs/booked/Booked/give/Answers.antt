@@ -3,12 +3,14 @@ use Rattle.ymx_session.specs.Applied.{in_buffer}
 use Rattle.ymx_hub.specs.Books.{GivesStream}
 use Rattle.ymx_machine.specs.declared.types.Reply.TheVariants as reply
 use Rattle.ymx_seats.specs.Journals.{JournalView}
-use Rattle.ymx_seats.specs.Views.{whole_of, with_caller}
+use Rattle.ymx_seats.specs.Views.{whole_of}
 use Rattle.ymx_hub.specs.Booked.{Kept, IsJournaled}
 use Rattle.ymx_hub.proofs.History.{kept_after}
 use Rattle.ymx_hub.proofs.Books.{books_one, given_one, refused_one}
 use Rattle.ymx_hub.proofs.Extends.{behind_at, journal_at, entries_at, after_at, kept_longer}
-use Rattle.ymx_hub.proofs.Journals.{journaled_after, journaled_seats}
+use Rattle.ymx_hub.specs.Rights.{handed_out}
+use Rattle.ymx_hub.proofs.Journals.{journaled_given, half_known}
+use Rattle.ymx_hub.proofs.Rights.{asks_freely}
 use Rattle.ymx_hub.proofs.WholeHistories.{witnessed_of}
 use Rattle.ymx_hub.proofs.booked.Booked.give.Goals as goal
 
@@ -23,8 +25,10 @@ invariant_of-self-in-Ok-Some g c = (
   search rules,
   search rules,
   subst (λ (n : ℕ). IsJournaled g.R.Recorder.WITNESSED g.R.Naming.role g.R.Naming.config c.self.inside.role c.self.inside.config c.hand_out-first.new.log.journal c.carry_out-told.new.session n) (sym c.hand_out-first.ensures.counted.0)
-      (subst (λ (j : Option JournalView). IsJournaled g.R.Recorder.WITNESSED g.R.Naming.role g.R.Naming.config c.self.inside.role c.self.inside.config j c.carry_out-told.new.session (c.self.inside.given + 2)) (sym (ap (λ l. l.journal) c.hand_out-first.ensures.log ∙ ap (λ j. with_caller (with_caller j)) (journal_at _ c.args.seat.now.number _ c.args.event.now _ (in_buffer c.carry_out-told.new.buffer c.carry_out-told.result) _ c.self.inside.log.journal _ c.carry_out-told.ensures.journal c.prepare.ensures.number refl refl c.prepare.ensures.journal)))
-      (journaled_seats g.R.Recorder.WITNESSED g.R.Naming.role g.R.Naming.config c.self.inside.role c.self.inside.config _ c.carry_out-told.new.session c.self.inside.given (journaled_after g.R.Recorder.WITNESSED g.R.Naming.role g.R.Naming.config c.self.inside.role c.self.inside.config c.self.inside.log.journal c.self.inside.session c.carry_out-told.new.session c.self.inside.given c.args.seat.now.number c.args.event.now (in_buffer c.carry_out-told.new.buffer c.carry_out-told.result) c.self.invariant.4 c.carry_out-told.ensures.event))),
+      (subst (λ (j : Option JournalView). IsJournaled g.R.Recorder.WITNESSED g.R.Naming.role g.R.Naming.config c.self.inside.role c.self.inside.config j c.carry_out-told.new.session (c.self.inside.given + 2)) (sym (ap (λ l. l.journal) c.hand_out-first.ensures.log ∙ ap (handed_out c.in-Ok-Some.id) (journal_at _ c.args.seat.now.number _ c.args.event.now _ (in_buffer c.carry_out-told.new.buffer c.carry_out-told.result) _ c.self.inside.log.journal _ c.carry_out-told.ensures.journal c.prepare.ensures.number refl refl c.prepare.ensures.journal)))
+      (journaled_given g.R.Recorder.WITNESSED g.R.Naming.role g.R.Naming.config c.self.inside.role c.self.inside.config c.self.inside.log.journal c.self.inside.session c.carry_out-told.new.session c.self.inside.given c.args.seat.now.number c.in-Ok-Some.id c.in-Ok-Some.taken c.args.event.now (in_buffer c.carry_out-told.new.buffer c.carry_out-told.result) c.args.seat.now.right c.self.invariant.4 c.carry_out-told.ensures.event
+      (half_known c.args.seat.now.number _ c.args.seat.now.right _ c.self.inside.log.journal _ c.prepare.ensures.number c.prepare.ensures.right c.prepare.ensures.journal c.carry_out-told.ensures.known) (λ w. asks_freely c.args.seat.now.right c.args.event.now c.requires)
+      ((rw c.in-Ok-Some.field-0-is at c.in-Ok-Some.ensures) c.carry_out-told.new.buffer))),
 )
 
 pub returns-in-Ok-Some-clause-booked : goal.returns-in-Ok-Some-clause-booked

@@ -1,4 +1,4 @@
-use Rattle.std.proofs.Common.{ℕ, Option, None, Ok, subst}
+use Rattle.std.proofs.Common.{ℕ, Option, None, Ok, subst, rules}
 use Rattle.ymx_machine.specs.declared.types.Reply.TheVariants.{Accepted}
 use Rattle.ymx_seats.specs.Views.{SeatView}
 use Rattle.ymx_hub.specs.Books.{Books, AcceptsOnce, to_accept}
@@ -13,9 +13,10 @@ loop-preserved g c = record {
 }
 
 pub returns-in-Err : goal.returns-in-Err
-returns-in-Err g c = record { booked = accept_refused g.R.Recorder.KEEPS _ _ _ c.in-Err.fault c.none_or-refused.result c.none_or-refused.ensures c.loop.invariant.waits c.in-Err.ensures.booked }
+returns-in-Err g c = record { right = search rules; booked = accept_refused g.R.Recorder.KEEPS _ _ _ c.in-Err.fault c.none_or-refused.result c.none_or-refused.ensures c.loop.invariant.waits c.in-Err.ensures.booked }
 
 pub returns-in-Ok-Some : goal.returns-in-Ok-Some
 returns-in-Ok-Some g c = record {
+  right = rw c.in-Ok-Some.field-0-is at c.in-Ok-Some.ensures.right;
   booked = accept_given g.R.Recorder.KEEPS _ _ _ c.in-Ok-Some.offer c.loop.invariant.waits (subst (λ (o : Option (ℕ × SeatView × SeatView)). Books g.R.Recorder.KEEPS c.loop.seat c.accept.new.seat (AcceptsOnce c.loop.seat.number (Ok o))) c.in-Ok-Some.field-0-is c.in-Ok-Some.ensures.booked);
 }

@@ -1,4 +1,4 @@
-use Rattle.std.proofs.Common.{refl, arith, rules}
+use Rattle.std.proofs.Common.{◌∙◌, refl, arith, rules}
 use Rattle.std.proofs.lemmas.List.{take_rest}
 use Rattle.ymx_machine.specs.declared.types.Wrote.TheVariants.{Took, Wait}
 use Rattle.ymx_hub.proofs.Written.{written_more, write_done, write_stopped}
@@ -11,6 +11,7 @@ returns-then-taken-bytes-clause-booked g c =
 pub loop-preserved-in-Ok-Took : goal.loop-preserved-in-Ok-Took
 loop-preserved-in-Ok-Took g c = record {
   next = (tt, tt);
+  right = c.write.ensures.right ∙ c.loop.invariant.right;
   within = search rules;
   written = written_more g.R.Recorder.KEEPS _ _ _ _ _ _ c.args.bytes.now _ (Took c.in-Ok-Took.count) c.loop.invariant.written (take_rest c.args.bytes.now c.loop.taken) refl (rw c.in-Ok-Took.field-0-is at c.in-Ok-Took.ensures.booked);
 }
@@ -18,6 +19,7 @@ loop-preserved-in-Ok-Took g c = record {
 pub loop-preserved : goal.loop-preserved
 loop-preserved g c = record {
   next = (tt, tt);
+  right = c.write.ensures.right ∙ c.loop.invariant.right;
   within = search rules;
   written = written_more g.R.Recorder.KEEPS _ _ _ _ _ _ c.args.bytes.now _ Wait c.loop.invariant.written (take_rest c.args.bytes.now c.loop.taken) (omega arith) (rw c.in-Ok-Wait.field-0-is at c.in-Ok-Wait.ensures.booked);
 }

@@ -7,8 +7,8 @@ load-requires g c =
     let i = c.self.invariant in
     (i.0 ∙ sym i.1, i.3, counts _ _ _ _ _ i.2)
 
-pub split_seat-requires : goal.split_seat-requires
-split_seat-requires g c =
+pub split_seat-pass-requires : goal.split_seat-pass-requires
+split_seat-pass-requires g c =
     let i = c.self.invariant in
     let l = c.load.ensures in
-    (l.0 ∙ (i.0 ∙ sym i.1), i.3, numbers _ _ _ _ (ap (λ x. x.0) (l.2.1 ∙ i.2)))
+    (l.0 ∙ (i.0 ∙ sym i.1), i.3, numbers _ _ _ _ _ (ap (λ x. x.0) (l.2.1 ∙ i.2)))

@@ -1,0 +1,17 @@
+-- Nobody else has called the writing half.
+use Rattle.std.proofs.Common.{◌≡◌, ◌∙◌, true, refl, ap, subst, rules}
+use Rattle.ymx_seats.specs.Views.{IsWitnessed}
+use Rattle.ymx_hub.specs.Halves.{HalfView}
+use Rattle.ymx_hub.specs.Rights.{MayWrite}
+use Rattle.ymx_connect.proofs.Told.{last_alone}
+use Rattle.ymx_connect.proofs.caller.Caller.reset.Goals as goal
+
+pub returns-clause-alone : goal.returns-clause-alone
+returns-clause-alone g c =
+    let half : c.into_half.result ≡ c.args.writer = search rules in
+    let may : MayWrite c.args.writer.seat.right c.args.writer.id = subst (λ (v : HalfView). MayWrite v.seat.right v.id) half (c.reset-last.ensures.may refl) in
+    let right : c.reset-last.result.0.right ≡ c.args.writer.seat.right = c.reset-last.ensures.right ∙ ap (λ (v : HalfView). v.seat.right) half in
+    let number : c.reset-last.result.0.number ≡ c.args.writer.seat.number = c.reset-last.ensures.booked.number ∙ ap (λ (v : HalfView). v.seat.number) half in
+    let history : IsWitnessed true g.J.Naming.role g.J.Naming.config c.meet.new.self.seen = search rules in
+    last_alone g.J.Naming.role g.J.Naming.config c.args.writer.id c.args.writer.seat.number c.reset-last.result.0.number c.args.writer.seat.right c.reset-last.result.0.right c.meet.new.self.seen c.meet.new.other.seen
+    may right number c.meet.ensures.sole c.meet.ensures.same history
