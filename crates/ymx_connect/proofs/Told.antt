@@ -103,24 +103,27 @@ closes_stream role config old between new writer reader finished released answer
 -- half behind the reads.
 pub exchanges : (text bytes : List ℕ) (caller opened met last : SeatView) (made : HalfView × HalfView) (wrote read : SeatView) (u : Unit {0}) (First Next : List Entry → Type 0) →
     Books false caller opened (OpensHalves caller.number (Ok made)) → Books false made.0.seat wrote (WriteTurns made.0.id text made.0.seat.number (Ok u)) →
-    SeesLast opened met wrote First →
+    SeesLast opened met wrote First → WritesAlone made.0.id made.0.seat.number met.seen →
     Books false made.1.seat read (ReadsUpTo reply.ReadEnd made.1.id made.1.seat.number bytes) →
     SeesLast met last read Next →
     Exchanges text bytes last.seen
-exchanges text bytes caller opened met last made wrote read u First Next opens writes first reads next =
+exchanges text bytes caller opened met last made wrote read u First Next opens writes first alone reads next =
     let on : StandsIn met.seen last.seen = caller_stands met last read Next next in record {
       caller = caller;
       opened = opened;
       writer = made.0;
       reader = made.1;
       wrote = wrote;
+      spent = met;
       read = read;
       opens = opens;
       writes = writes;
       reads = reads;
+      alone = alone;
       within = (
         stands_on opened.seen met.seen last.seen (caller_stands opened met wrote First first) on,
-        stands_on wrote.seen met.seen last.seen (half_stands opened met wrote First first) on,
+        half_stands opened met wrote First first,
+        on,
         half_stands met last read Next next,
       );
     }

@@ -9,6 +9,7 @@ use Rattle.ymx_model.specs.declared.types.Entry.{Entry}
 use Rattle.ymx_seats.specs.Views.{SeatView, IsWitnessed}
 use Rattle.ymx_hub.specs.Books.{Books, Spends, to_finish}
 use Rattle.ymx_hub.specs.Releasing.{Releases, IsDropped}
+use Rattle.ymx_hub.specs.Rights.{WritesAlone}
 use Rattle.ymx_hub.specs.Shown.{IsShown, BooksShown}
 use Rattle.ymx_hub.specs.declared.faults.HubFault.{HubFault}
 use Rattle.ymx_hub.specs.Halves.{HalfView, OpensHalves}
@@ -57,15 +58,18 @@ StandsIn None None = Unit {0}
 StandsIn (Some seen) (Some later) = IsPrefix seen later
 StandsIn _ _ = ⊥
 
--- In this history a caller opened a stream, the text was written to it, and reads of it gave these bytes, up to the end.
+-- In this history a caller opened a stream, the text was written to it, and reads of it gave these bytes, up to the end. Nobody else
+-- had written to it as its writing half was spent.
 pub record Exchanges (text bytes : List ℕ) (seen : Option (List Entry)) : Type 0 where
   pub caller : SeatView
   pub opened : SeatView
   pub writer : HalfView
   pub reader : HalfView
   pub wrote : SeatView
+  pub spent : SeatView
   pub read : SeatView
   pub opens : Books false caller opened (OpensHalves caller.number (Ok (writer, reader)))
   pub writes : Books false writer.seat wrote (WriteTurns writer.id text writer.seat.number (Ok tt))
   pub reads : Books false reader.seat read (ReadsUpTo reply.ReadEnd reader.id reader.seat.number bytes)
-  pub within : StandsIn opened.seen seen × StandsIn wrote.seen seen × StandsIn read.seen seen
+  pub alone : WritesAlone writer.id writer.seat.number spent.seen
+  pub within : StandsIn opened.seen seen × StandsIn wrote.seen spent.seen × StandsIn spent.seen seen × StandsIn read.seen seen
