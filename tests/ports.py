@@ -22,19 +22,28 @@ def outside(first, last):
     return largest if len(largest) >= 1_000 else range(FIRST, LAST + 1)
 
 
+# What this process has given out: who has one may not have bound it yet.
+GIVEN = set()
+
+
 def free_ports(count):
-    """So many ports. Each is held until all are found."""
+    """So many ports, which no earlier call of this process gave. Each is held until all are found."""
     with open("/proc/sys/net/ipv4/ip_local_port_range") as text:
         ports = outside(*map(int, text.read().split()))
     held = []
     try:
         while len(held) < count:
+            port = random.choice(ports)
             one = socket.socket()
             held.append(one)
             try:
-                one.bind((HOST, random.choice(ports)))
+                one.bind((HOST, port))
             except OSError:
                 held.pop().close()
+                continue
+            if port in GIVEN:
+                held.pop().close()
+            GIVEN.add(port)
         return [one.getsockname()[1] for one in held]
     finally:
         for one in held:

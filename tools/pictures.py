@@ -24,7 +24,7 @@ sys.path.append(str(ROOT / "tests"))
 from ports import free_ports
 
 YMX = os.environ.get("YMX", str(ROOT / "ymx"))
-SECONDS = 20
+SECONDS = 120
 INK, LINE, PAPER = "#1f2d3a", "#33475b", "#c8d2dc"
 
 

@@ -1,7 +1,11 @@
-"""Takes one connection at the address of the guide's server, and says how many bytes came before its end."""
-import socket
+"""Takes one connection at this port, as the guide's server, and says how many bytes came before its end.
 
-with socket.create_server(("127.0.0.1", 47100)) as listener:
+usage: peer.py PORT
+"""
+import socket
+import sys
+
+with socket.create_server(("127.0.0.1", int(sys.argv[1]))) as listener:
     listener.settimeout(60)
     print("listening", flush=True)
     connection, _ = listener.accept()

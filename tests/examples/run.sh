@@ -11,6 +11,10 @@ here=$(cd "$(dirname "$0")" && pwd)
 . "$here/../over.sh"
 
 is_from_gate=${YMX_FROM_GATE-no}
+# The examples name two ports from which a caller of another test may have one: they run at others.
+free_ports 2 > "$scratch/ports"
+port=$(sed -n 1p "$scratch/ports")
+echo_port=$(sed -n 2p "$scratch/ports")
 mkdir "$scratch/crates"
 cp "$root/crates.txt" "$root/HANDLES" "$scratch"
 if [ "$is_from_gate" = no ]; then
@@ -30,7 +34,8 @@ prove() {
     crate=$(crate_of "$source")
     shift
     mkdir -p "$scratch/crates/$crate/src"
-    cp "$root/examples/$source.rattle" "$scratch/crates/$crate/src/main.rt"
+    sed "s/127\.0\.0\.1:47100/127.0.0.1:$port/; s/127\.0\.0\.1:47101/127.0.0.1:$echo_port/" \
+        "$root/examples/$source.rattle" > "$scratch/crates/$crate/src/main.rt"
     check=$scratch/check_of_$crate
     if [ "$is_from_gate" = yes ]; then
         "$root/tools/kit.py" program "$scratch/crates/$crate" "$crate" "$@" anyhow > "$check" 2>&1 || fail "examples/$source.rattle isn't proved" "$check"
@@ -94,7 +99,7 @@ same_came_back() {
 without_thread() {
     # what an earlier peer has said must not be taken for this one's word
     rm -f "$scratch/failed" "$scratch/peer.out"
-    python3 "$here/peer.py" > "$scratch/peer.out" 2>&1 &
+    python3 "$here/peer.py" "$port" > "$scratch/peer.out" 2>&1 &
     jobs=$!
     until grep -q listening "$scratch/peer.out" 2> /dev/null; do
         kill -0 "$jobs" 2> /dev/null || fail 'the peer failed' "$scratch/peer.out"

@@ -506,7 +506,7 @@ def main(tests):
         signal.alarm(SECONDS)
         try:
             test(*words)
-        except (AssertionError, OSError, struct.error) as fault:
+        except (AssertionError, OSError, ValueError, struct.error) as fault:
             failed += 1
             print(f"FAIL  {name}: {fault!r}", flush=True)
             if isinstance(fault, TimeoutError):

@@ -305,8 +305,9 @@ for workers in 1 1024; do
 done
 
 # a peer whose first header has version 1, and from where it comes
-port=$(free_ports 1)
-from=$(free_ports 1)
+free_ports 2 > ports
+port=$(sed -n 1p ports)
+from=$(sed -n 2p ports)
 python3 - "$port" "$from" << 'END' &
 import socket, sys, time
 while True:

@@ -16,8 +16,9 @@ import sys
 import time
 
 import raw
-from raw import (ANY, AWAY, DATA, SYN, Program, accept, call, frame, free_place, free_places, has_ended, is_cut_at, leave,
+from raw import (ANY, AWAY, DATA, PING, SYN, Program, accept, call, frame, free_place, free_places, has_ended, is_cut_at, leave,
                  listen, next_frame, take)
+from standard import await_listener, listens
 
 # How many bytes of a request are read at most.
 REQUEST = 8_192
@@ -96,7 +97,7 @@ class Tunnel:
         self.far, self.near, bound = free_places(3)
         self.remote = Program("remote", "--bind", bound, "--target", address, "--status", self.far, *remote)
         wait_for(self.far)
-        wait_for(bound) if "--keep" in remote else time.sleep(0.2)
+        wait_for(bound) if "--keep" in remote else await_listener(bound)
         self.local = Program("local", "-v", "--listen", ANY, "--peer", bound, "--status", self.near, *words)
         self.users = self.local.place()
 
@@ -315,6 +316,9 @@ def restarts():
     for number in range(200):
         if number == 100:
             drain(page)
+            # The page answers before the users' listener is closed.
+            while listens(place):
+                time.sleep(0.01)
             second = Program(*words, second_page)
             wait_for(second_page)
         user = call_when_there(place)
@@ -508,8 +512,10 @@ def users_wait_behind_go_away():
     first.sendall(b"one")
     peer = accept(peers)
     assert next_frame(peer)[1] == SYN
-    peer.sendall(frame(AWAY, 0, 0, 0))
-    time.sleep(0.5)
+    # What answers the ping has heard the Go Away before it.
+    peer.sendall(frame(AWAY, 0, 0, 0) + frame(PING, SYN, 0, 7))
+    while next_frame(peer)[0] != PING:
+        pass
     second = call(users)
     second.sendall(b"two")
     time.sleep(0.5)

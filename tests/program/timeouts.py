@@ -177,9 +177,8 @@ def a_remote(limit, *words):
     program = Program("remote", "-v", "--keep", "--peer", silent.place, "--target", ANY, *words)
     says(program, timed_out(silent.place), unreached(silent.place))
     passed(began, limit)
-    began = time.monotonic()
     says(program, timed_out(silent.place))
-    passed(began, limit + 1)
+    passed(began, 2 * limit + 1)
 
 
 LOCAL = ("local", "--listen", ANY)
