@@ -466,7 +466,8 @@ def remote_restarts(words=()):
     wait_for(near)
     began = [begin(place, target) for _ in range(100)]
     drain(page)
-    time.sleep(1)
+    # `local` hears of it, which nothing shows from outside.
+    time.sleep(3)
     waiting = [call_when_there(place) for _ in range(100)]
     for user in waiting:
         user.sendall(bytes(1_000))

@@ -94,7 +94,7 @@ def of_local(*words):
 def silent_ones():
     """As many as there are places hold them for twice the seconds of --ping, and no longer. One more is closed at once. None
     is told to have come."""
-    program = Program("remote", "-v", "--keep", "--ping", "1", "--bind", ANY, "--target", ANY)
+    program = Program("remote", "-v", "--keep", "--ping", "3", "--bind", ANY, "--target", ANY)
     place = program.place()
     silent = [call(place) for _ in range(PLACES)]
     further = call(place)

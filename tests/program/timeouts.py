@@ -90,25 +90,25 @@ def a_user(limit, *words):
 def many_users():
     """Five who come together are answered by one call, and closed together."""
     silent = Silent()
-    program, place = kept(silent, "--timeout", "2")
+    program, place = kept(silent, "--timeout", "5")
     began = time.monotonic()
     users = [call(place) for _ in range(5)]
     for user in users:
         assert is_cut(user)
-    passed(began, 2)
+    passed(began, 5)
     says(program, timed_out(silent.place), *(connection(number, "no stream: Lost") for number in range(1, 6)))
     # One who comes later has a call of his own.
     time.sleep(ANSWER)
     began = time.monotonic()
     assert is_cut_at(place)
-    passed(began, 2)
+    passed(began, 5)
     says(program, timed_out(silent.place), connection(6, "no stream: Lost"))
 
 
 def the_last_of_a_count():
     """Users that are closed so are counted too, and none beyond the count."""
     silent = Silent()
-    program, place = kept(silent, "--timeout", "1", "--count", "2")
+    program, place = kept(silent, "--timeout", "5", "--count", "2")
     users = [call(place) for _ in range(2)]
     for user in users:
         assert is_cut(user)
