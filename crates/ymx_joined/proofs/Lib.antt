@@ -18,3 +18,5 @@ pub mod Quiet
 pub mod Serving
 pub mod Ending
 pub mod Resting
+pub mod Traces
+pub mod Callers

@@ -3,3 +3,4 @@ pub mod Certified
 pub mod Tunnels
 pub mod Carried
 pub mod Quiet
+pub mod Callers
