@@ -19,4 +19,6 @@ pub mod Serving
 pub mod Ending
 pub mod Resting
 pub mod Traces
+pub mod Mirrored
+pub mod Lasting
 pub mod Callers
