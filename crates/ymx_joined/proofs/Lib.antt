@@ -21,4 +21,6 @@ pub mod Resting
 pub mod Traces
 pub mod Mirrored
 pub mod Lasting
+pub mod Behind
+pub mod Given
 pub mod Callers

@@ -208,7 +208,7 @@ got_is : (side at : Side) (id : ℕ) (c : Call) (g : Answer) → got_by side id 
 got_is side at id (call.Read from room) (answer.Read bytes) = both_ways (is_same_side side at) (from == id) bytes
 got_is side at id c g = sym (either_none (is_same_side side at))
 
-ends_is : (side at : Side) (id : ℕ) (c : Call) (g : Answer) → ended_by side id (step.At at c) g ≡ if_own side at (ends_by id c g) false
+pub ends_is : (side at : Side) (id : ℕ) (c : Call) (g : Answer) → ended_by side id (step.At at c) g ≡ if_own side at (ends_by id c g) false
 ends_is side at id (call.Read from room) answer.ReadEnd = and_then (is_same_side side at) (from == id)
 ends_is side at id c g = sym (either_no (is_same_side side at))
 
