@@ -23,4 +23,6 @@ pub mod Mirrored
 pub mod Lasting
 pub mod Behind
 pub mod Given
+pub mod Shut
+pub mod ReadOut
 pub mod Callers
