@@ -26,20 +26,23 @@ use Rattle.ymx_headline.proofs.machine.order.Maps.{look-change, look-add}
 use Rattle.ymx_headline.proofs.machine.order.Cores.{core, finish-me, rule-you, move-you, Sound, offered-front, offered-stream}
 use Rattle.ymx_headline.proofs.machine.order.Openers.{Numbered, free}
 use Rattle.ymx_engine.specs.Events.{is_refusal}
-use Rattle.ymx_joined.specs.Callers.{opened_at, AreGivenOnce}
-use Rattle.ymx_joined.proofs.Traces.{call_of, calls_in, opens_by, opened_is}
+use Rattle.ymx_joined.specs.Callers.{gives_stream, AreGivenOnce}
+use Rattle.ymx_joined.proofs.Traces.{call_of, calls_in, gives_stream_by, gives_stream_is}
 use Rattle.ymx_joined.proofs.Lasting.{BothKeep, HasAt, step_keeps, releases_keep}
 use Rattle.ymx_joined.proofs.Behind.{Law, AllQuiet, Played, marked, behind}
 
 -- ---- a stream that was given
 
+-- its end at this side was opened or accepted
 abbrev pub IsGiven : Stream → Type 0
 IsGiven s = is_early s.me ≡ false
 
+-- its end at the other side was
 abbrev pub IsGivenThere : Stream → Type 0
 IsGivenThere s = is_early s.you ≡ false
 
-pub rule_given : (lost : Bool) (c : StreamCall) (s t : Stream) (r : Reply) → StreamRule lost c s r t → IsGiven s → IsGiven t
+-- a call keeps it
+rule_given : (lost : Bool) (c : StreamCall) (s t : Stream) (r : Reply) → StreamRule lost c s r t → IsGiven s → IsGiven t
 rule_given lost (Writes bytes) s t r (inl h) g = subst IsGiven (sym h.1) g
 rule_given lost (Writes bytes) s t r (inr h) g = subst IsGiven (sym h.2) g
 rule_given lost (Reads max) s t r h g = subst IsGiven (sym h.1) g
@@ -59,6 +62,7 @@ rule_given lost Forgets s t r h g = elim (when (is_done r)) [
 struck_given : (p : Phase) → is_early p ≡ false → is_early (struck p) ≡ false
 struck_given p g = grind arith
 
+-- and what arrives does
 pub move_given : (v : Move) (s : Stream) → Allowed v s → IsGiven s → IsGiven (after_move v s)
 move_given (Arrive n) s a g = g
 move_given EndArrives s a g = g
@@ -86,6 +90,7 @@ given_kept = record {
 
 -- ---- a call that isn't refused
 
+-- it goes by the rule of an open side
 pub open_side : (c : Call) (m : Machine) (r : Reply) (n : Machine) → Rule c m r n → is_refusal r ≡ false → OpenSideRule c m r n
 open_side c m r n h e = elim (when (m.me.closed && not (is_close c))) [
   | inl b ↦ (let no : true ≡ false = sym (ap is_refusal (if-so_true _ _ _ b h).0) ∙ e in absurd cc)
@@ -112,7 +117,8 @@ pub data Gives (id : ℕ) (m n : Machine) : Type 0 where
   Opens : (bytes : List ℕ) → m.me.next ≡ id → n ≡ machine_opened bytes m → Gives id m n
   Accepts : (rest : List ℕ) → m.me.offered ≡ id ∷ rest → n ≡ accepted id rest m → Gives id m n
 
-pub gives : (id : ℕ) (c : Call) (m : Machine) (r : Reply) (n : Machine) → Rule c m r n → opens_by id c (answer_of r) ≡ true → Gives id m n
+-- it does one of these
+pub gives : (id : ℕ) (c : Call) (m : Machine) (r : Reply) (n : Machine) → Rule c m r n → gives_stream_by id c (answer_of r) ≡ true → Gives id m n
 gives id call.Open m (reply.Opened new) n h e =
     let o = opened (open_refusal m) (reply.Opened m.me.next) [] m (reply.Opened new) n (open_side call.Open m (reply.Opened new) n h refl) refl in
     let same = o.0 in
@@ -147,55 +153,56 @@ not_given mine yours id m n so nu (Accepts rest front e) (s, there, g) =
     let same : s ≡ o.0 = one_some s o.0 (sym there ∙ o.1) in
     let no : true ≡ false = sym (ap is_early (ap (λ (v : Stream). v.me) same ∙ o.2)) ∙ g in cc
 
-pub given_law : (mine yours id : ℕ) → Law mine yours id (opens_by id) (λ m. HasAt IsGiven id m.streams) (λ c g. opens_by id c g ≡ false)
+-- A call that gives a stream is the last one that does.
+given_law : (mine yours id : ℕ) → Law mine yours id (gives_stream_by id) (λ m. HasAt IsGiven id m.streams) (λ c g. gives_stream_by id c g ≡ false)
 given_law mine yours id = record {
   marks = λ c g m n s h e. releases_keep IsGiven given_kept.here id h.2 h.1 n h.5
-      (now_given mine yours id m h.1 s.2.sound s.2.numbered (gives id c m h.0 h.1 h.4 (ap (opens_by id c) (sym h.3) ∙ e)));
+      (now_given mine yours id m h.1 s.2.sound s.2.numbered (gives id c m h.0 h.1 h.4 (ap (gives_stream_by id c) (sym h.3) ∙ e)));
   keeps = λ st g m n s h l. step_keeps IsGiven IsGivenThere given_kept mine yours id st g m n s.2.sound h l;
-  quiet = λ c g m n s h l. elim (when (opens_by id c g)) [
-    | inl e ↦ absurd (not_given mine yours id m h.1 s.2.sound s.2.numbered (gives id c m h.0 h.1 h.4 (ap (opens_by id c) (sym h.3) ∙ e)) l)
+  quiet = λ c g m n s h l. elim (when (gives_stream_by id c g)) [
+    | inl e ↦ absurd (not_given mine yours id m h.1 s.2.sound s.2.numbered (gives id c m h.0 h.1 h.4 (ap (gives_stream_by id c) (sym h.3) ∙ e)) l)
     | inr e ↦ e
   ];
 }
 
 -- ---- in a history
 
-opened_marked : (id : ℕ) (e : Event) (told : Reply) → opened_at id e told ≡ marked (opens_by id) e told
-opened_marked id (event.Call c) told = opened_is id c told
-opened_marked id e told = refl
+gives_stream_marked : (id : ℕ) (e : Event) (told : Reply) → gives_stream id e told ≡ marked (gives_stream_by id) e told
+gives_stream_marked id (event.Call c) told = gives_stream_is id c told
+gives_stream_marked id e told = refl
 
-not_in_event : (id : ℕ) (e : Event) (told : Reply) (cs : List (Call × Answer)) → AllQuiet (λ c g. opens_by id c g ≡ false) (call_of e told ++ cs) → opened_at id e told ≡ true → ⊥
-not_in_event id (event.Call c) told cs q k = let no : true ≡ false = sym k ∙ opened_is id c told ∙ q.0 in cc
+not_in_event : (id : ℕ) (e : Event) (told : Reply) (cs : List (Call × Answer)) → AllQuiet (λ c g. gives_stream_by id c g ≡ false) (call_of e told ++ cs) → gives_stream id e told ≡ true → ⊥
+not_in_event id (event.Call c) told cs q k = let no : true ≡ false = sym k ∙ gives_stream_is id c told ∙ q.0 in cc
 not_in_event id (event.Emit n) told cs q k = cc
 not_in_event id (event.Feed bytes) told cs q k = cc
 not_in_event id event.FeedEnd told cs q k = cc
 
-quiet_behind : (id : ℕ) (e : Event) (told : Reply) (cs : List (Call × Answer)) → AllQuiet (λ c g. opens_by id c g ≡ false) (call_of e told ++ cs) → AllQuiet (λ c g. opens_by id c g ≡ false) cs
+quiet_behind : (id : ℕ) (e : Event) (told : Reply) (cs : List (Call × Answer)) → AllQuiet (λ c g. gives_stream_by id c g ≡ false) (call_of e told ++ cs) → AllQuiet (λ c g. gives_stream_by id c g ≡ false) cs
 quiet_behind id (event.Call c) told cs q = q.1
 quiet_behind id (event.Emit n) told cs q = q
 quiet_behind id (event.Feed bytes) told cs q = q
 quiet_behind id event.FeedEnd told cs q = q
 
-none_at : (id : ℕ) (xs : List Entry) (p : ℕ) (x : Entry) → AllQuiet (λ c g. opens_by id c g ≡ false) (calls_in xs) → slice_get xs p ≡ Some x → opened_at id x.event x.reply ≡ true → ⊥
+none_at : (id : ℕ) (xs : List Entry) (p : ℕ) (x : Entry) → AllQuiet (λ c g. gives_stream_by id c g ≡ false) (calls_in xs) → slice_get xs p ≡ Some x → gives_stream id x.event x.reply ≡ true → ⊥
 none_at id [] p x q e k = cc
 none_at id (y ∷ ys) zero x q e k =
-    not_in_event id y.event y.reply (calls_in ys) q (subst (λ (v : Entry). opened_at id v.event v.reply ≡ true) (sym (one_some y x e)) k)
+    not_in_event id y.event y.reply (calls_in ys) q (subst (λ (v : Entry). gives_stream id v.event v.reply ≡ true) (sym (one_some y x e)) k)
 none_at id (y ∷ ys) (suc p) x q e k = none_at id ys p x (quiet_behind id y.event y.reply (calls_in ys) q) e k
 
 -- the part of a history that begins with an entry of this place
 places_are_one : (id : ℕ) (xs : List Entry) →
-    ((before after : List Entry) (x : Entry) → xs ≡ before ++ x ∷ after → opened_at id x.event x.reply ≡ true → AllQuiet (λ c g. opens_by id c g ≡ false) (calls_in after)) →
-    (p q : ℕ) (x y : Entry) → slice_get xs p ≡ Some x → opened_at id x.event x.reply ≡ true → slice_get xs q ≡ Some y → opened_at id y.event y.reply ≡ true → p ≡ q
+    ((before after : List Entry) (x : Entry) → xs ≡ before ++ x ∷ after → gives_stream id x.event x.reply ≡ true → AllQuiet (λ c g. gives_stream_by id c g ≡ false) (calls_in after)) →
+    (p q : ℕ) (x y : Entry) → slice_get xs p ≡ Some x → gives_stream id x.event x.reply ≡ true → slice_get xs q ≡ Some y → gives_stream id y.event y.reply ≡ true → p ≡ q
 places_are_one id [] once p q x y e k f l = let no : ⊥ = cc in absurd no
 places_are_one id (z ∷ zs) once zero zero x y e k f l = refl
 places_are_one id (z ∷ zs) once zero (suc q) x y e k f l =
-    absurd (none_at id zs q y (once [] zs z refl (subst (λ (v : Entry). opened_at id v.event v.reply ≡ true) (sym (one_some z x e)) k)) f l)
+    absurd (none_at id zs q y (once [] zs z refl (subst (λ (v : Entry). gives_stream id v.event v.reply ≡ true) (sym (one_some z x e)) k)) f l)
 places_are_one id (z ∷ zs) once (suc p) zero x y e k f l =
-    absurd (none_at id zs p x (once [] zs z refl (subst (λ (v : Entry). opened_at id v.event v.reply ≡ true) (sym (one_some z y f)) l)) e k)
+    absurd (none_at id zs p x (once [] zs z refl (subst (λ (v : Entry). gives_stream id v.event v.reply ≡ true) (sym (one_some z y f)) l)) e k)
 places_are_one id (z ∷ zs) once (suc p) (suc q) x y e k f l =
     ap suc (places_are_one id zs (λ before after w is o. once (z ∷ before) after w (ap (λ (v : List Entry). z ∷ v) is) o) p q x y e k f l)
 
 -- In a history that was played no stream is given at two places.
 pub once_given : (mine yours : ℕ) (xs : List Entry) → Played mine yours xs → AreGivenOnce xs
 once_given mine yours xs p id i j x y e k f l =
-    places_are_one id xs (λ before after z is o. behind (given_law mine yours id) xs p before after z is (sym (opened_marked id z.event z.reply) ∙ o)) i j x y e k f l
+    places_are_one id xs (λ before after z is o. behind (given_law mine yours id) xs p before after z is (sym (gives_stream_marked id z.event z.reply) ∙ o)) i j x y e k f l

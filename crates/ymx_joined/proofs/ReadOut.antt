@@ -66,6 +66,7 @@ gives_none mine yours id (call.Read from max) m (reply.Read bytes) n out h = if_
     none_on mine yours id max m bytes n (look id m.streams) out refl (subst (λ (v : ℕ). OnStream v (Reads max) (look v m.streams) m (reply.Read bytes) n) (agrees from id d) o))
 gives_none mine yours id c m r n out h = refl
 
+-- Behind a read that was answered with the end each call gets nothing of the stream.
 read_out_law : (mine yours id : ℕ) → first_credit ≤ mine → first_credit ≤ yours → Law mine yours id (ends_by id) (IsReadOut mine yours id) (λ c g. gave_by id c g ≡ [])
 read_out_law mine yours id w v = record {
   marks = λ c g m n s h e. read_out_then mine yours id w v (step.At A c) g m n h s.0 s.1 s.2 (ap (λ (b : Bool). s.1.ended || b) (ends_is A A id c g ∙ e) ∙ or_true s.1.ended);

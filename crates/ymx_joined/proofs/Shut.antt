@@ -149,6 +149,7 @@ unreset : (m : Phase) (b : Bool) → m ≡ Live → (b ≡ false → is_up m ≡
 unreset m true live h = refl
 unreset m false live h = sym (h refl) ∙ live-up m live
 
+-- what has happened to a stream that is there
 pub faces_of : (mine yours id : ℕ) (m : Machine) (s : Stream) (po pi : Past) → Faced mine yours id po pi (core m) → look id m.streams ≡ Some s → HasFaces mine yours s po pi
 faces_of mine yours id m s po pi k e = subst (FaceAt mine yours po pi) e k.face
 
@@ -204,6 +205,7 @@ writes_none mine yours id (call.OpenWith bytes) m (reply.OpenedWith new k) n st 
 ]
 writes_none mine yours id c m r n st h has = refl
 
+-- Behind a finish that was done each call writes nothing to the stream.
 shut_law : (mine yours id : ℕ) → Law mine yours id (finishes_by id) (λ m. HasAt IsShut id m.streams) (λ c g. wrote_by id c g ≡ [])
 shut_law mine yours id = record {
   marks = λ c g m n s h e. releases_keep IsShut shut_kept.here id h.2 h.1 n h.5 (finish_shuts mine yours id c g m h.0 h.1 s h.4 h.3 e);

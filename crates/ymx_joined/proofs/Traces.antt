@@ -19,7 +19,7 @@ use Rattle.ymx_model.specs.world.Worlds.{Pipe}
 use Rattle.ymx_headline.specs.audit.Joints.{world_steps, Gets, sent_into, IsJoint}
 use Rattle.ymx_headline.specs.audit.Told.{answers_of, is_ended_behind, told_from}
 use Rattle.ymx_headline.proofs.audit.Events.{gets-ended, put-ended}
-use Rattle.ymx_joined.specs.Callers.{took_at, all_taken, gave_at, all_given, ended_at, was_ended, finished_at, was_finished, opened_at}
+use Rattle.ymx_joined.specs.Callers.{took_at, all_taken, gave_at, all_given, ended_at, was_ended, finished_at, was_finished, gives_stream}
 
 -- the call of a step at this side, with its answer
 abbrev pub call_by : Side → Step → Answer → List (Call × Answer)
@@ -144,11 +144,11 @@ abbrev pub finishes_by : ℕ → Call → Answer → Bool
 finishes_by id (call.Finish to) answer.Done = to == id
 finishes_by id _ _ = false
 
-abbrev pub opens_by : ℕ → Call → Answer → Bool
-opens_by id call.Open (answer.Opened new) = new == id
-opens_by id (call.OpenWith bytes) (answer.OpenedWith new n) = new == id
-opens_by id call.Accept (answer.Accepted (Some new)) = new == id
-opens_by id _ _ = false
+abbrev pub gives_stream_by : ℕ → Call → Answer → Bool
+gives_stream_by id call.Open (answer.Opened new) = new == id
+gives_stream_by id (call.OpenWith bytes) (answer.OpenedWith new n) = new == id
+gives_stream_by id call.Accept (answer.Accepted (Some new)) = new == id
+gives_stream_by id _ _ = false
 
 -- so the reply says in the history
 
@@ -169,11 +169,11 @@ pub finished_is : (id : ℕ) (c : Call) (told : Reply) → finished_at id (event
 finished_is id (call.Finish to) reply.Done = refl
 finished_is id c told = refl
 
-pub opened_is : (id : ℕ) (c : Call) (told : Reply) → opened_at id (event.Call c) told ≡ opens_by id c (answer_of told)
-opened_is id call.Open (reply.Opened new) = refl
-opened_is id (call.OpenWith bytes) (reply.OpenedWith new n) = refl
-opened_is id call.Accept (reply.Accepted (Some new)) = refl
-opened_is id c told = refl
+pub gives_stream_is : (id : ℕ) (c : Call) (told : Reply) → gives_stream id (event.Call c) told ≡ gives_stream_by id c (answer_of told)
+gives_stream_is id call.Open (reply.Opened new) = refl
+gives_stream_is id (call.OpenWith bytes) (reply.OpenedWith new n) = refl
+gives_stream_is id call.Accept (reply.Accepted (Some new)) = refl
+gives_stream_is id c told = refl
 
 -- and the answer in the run
 

@@ -46,11 +46,11 @@ was_finished id [] = false
 was_finished id (x ∷ xs) = finished_at id x.event x.reply || was_finished id xs
 
 -- the caller was given it: by opening it or by accepting it
-abbrev pub opened_at : ℕ → Event → Reply → Bool
-opened_at id (event.Call call.Open) (reply.Opened new) = new == id
-opened_at id (event.Call (call.OpenWith bytes)) (reply.OpenedWith new n) = new == id
-opened_at id (event.Call call.Accept) (reply.Accepted (Some new)) = new == id
-opened_at id _ _ = false
+abbrev pub gives_stream : ℕ → Event → Reply → Bool
+gives_stream id (event.Call call.Open) (reply.Opened new) = new == id
+gives_stream id (event.Call (call.OpenWith bytes)) (reply.OpenedWith new n) = new == id
+gives_stream id (event.Call call.Accept) (reply.Accepted (Some new)) = new == id
+gives_stream id _ _ = false
 
 -- ---- what holds of them
 
@@ -68,7 +68,7 @@ CarryAll xs ys = (id : ℕ) → CarriesBytes id xs ys × CarriesBytes id ys xs
 -- no stream is given at two places
 abbrev pub AreGivenOnce : List Entry → Type 0
 AreGivenOnce xs =
-    (id p q : ℕ) (x y : Entry) → slice_get xs p ≡ Some x → opened_at id x.event x.reply ≡ true → slice_get xs q ≡ Some y → opened_at id y.event y.reply ≡ true → p ≡ q
+    (id p q : ℕ) (x y : Entry) → slice_get xs p ≡ Some x → gives_stream id x.event x.reply ≡ true → slice_get xs q ≡ Some y → gives_stream id y.event y.reply ≡ true → p ≡ q
 
 -- behind its finish a stream takes nothing
 abbrev pub TakeNoneBehindFinish : List Entry → Type 0
