@@ -9,7 +9,7 @@ use Rattle.ymx_seats.specs.Journals.{JournalView}
 use Rattle.ymx_seats.specs.Views.{SeatView, kept_entries, entry, journal_after, whole_of, IsBehind, HasIf}
 use Rattle.ymx_hub.specs.Answers.{hub_answer, hub_fault_of}
 use Rattle.ymx_session.specs.Replies.{done_or}
-use Rattle.ymx_hub.specs.Books.{Gains, Extends, Books, One, Does, StartsAfter, StartsBehind, IsGiven, IsRefused, Spends, Forgets, to_forget}
+use Rattle.ymx_hub.specs.Books.{Gains, Extends, Books, One, Does, StartsAfter, StartsBehind, IsFresh, IsGiven, IsRefused, Spends, Forgets, to_forget}
 use Rattle.ymx_hub.specs.declared.faults.HubFault.{HubFault}
 use Rattle.ymx_hub.proofs.Extends.{extends_none, extends_one, extends_on, extends_weaker}
 
@@ -76,7 +76,7 @@ there None h e = h
 there (Some x) h e = cc
 
 pub given_one : (keeps : Bool) (old new one other : SeatView) (event : Event) (told : Reply) (position : ℕ) (log : Option JournalView) (Such : List Entry → Type 0) → ((es : List Entry) → IsGiven event told old.number one other es → Such es) → new.number ≡ old.number → new.start ≡ old.start → new.entries ≡ old.entries ++ kept_entries keeps (entry position old.number event told) → new.seen ≡ whole_of (journal_after old.number event told log) → IsBehind old.number old.seen log
-    → one.seen ≡ whole_of (journal_after old.number event told log) → other.seen ≡ whole_of (journal_after old.number event told log) → (keeps ≡ true → position < one.start) → (keeps ≡ true → position < other.start) → one.entries ≡ [] → other.entries ≡ [] → Books keeps old new Such
+    → one.seen ≡ whole_of (journal_after old.number event told log) → other.seen ≡ whole_of (journal_after old.number event told log) → (keeps ≡ true → position < one.start) → (keeps ≡ true → position < other.start) → IsFresh one → IsFresh other → Books keeps old new Such
 given_one keeps old new one other event told position log Such f n s e w b v u k l a c =
     books_one keeps old new event told position log Such n s e w b
     (λ is. f (entry position old.number event told ∷ []) (position, refl, starts_after old.number event told log one position v (λ _. k is), starts_after old.number event told log other position u (λ _. l is), a, c))

@@ -31,6 +31,8 @@ use Rattle.ymx_law_session.specs.Refusals.{OthersSame, OnlyRecord}
 use Rattle.ymx_law_session.proofs.nothing_else.Others.{read-others, forget-others}
 use Rattle.ymx_law_session.proofs.nothing_else.Alone.{read-one, forget-one}
 use Rattle.ymx_session.specs.Replies.{read_or, done_or}
+use Rattle.ymx_seats.specs.Journals.{JournalView}
+use Rattle.ymx_seats.specs.declared.plays.Right.{Right}
 use Rattle.ymx_seats.specs.Views.{SeatView}
 use Rattle.ymx_hub.specs.declared.faults.HubFault.{HubFault}
 use Rattle.ymx_hub.specs.declared.faults.HubFault.TheVariants as fault
@@ -261,6 +263,21 @@ leaves_one ids after place id old new within e r a =
 pub some_none : (ids : List ℕ) (old : BookedView) → LeavesSome ids ids old old
 some_none ids old = leaves_none ids old old (refl, refl)
 
+-- a stream is released no more
+pub alike_same : (h k now : BookedView) → now ≡ record k { released = now.released } → SpentAlike h k → SpentAlike h now
+alike_same h k now e a = (ap (λ (v : BookedView). v.unspent) e ∙ a.0, ap (λ (v : BookedView). v.half_spent) e ∙ a.1)
+
+-- one stream more is released
+pub alike_listed : (h k now : BookedView) (ids : List ℕ) (j : Option JournalView) → now ≡ record k { released = ids; journal = j } → SpentAlike h k → SpentAlike h now
+alike_listed h k now ids j e a = (ap (λ (v : BookedView). v.unspent) e ∙ a.0, ap (λ (v : BookedView). v.half_spent) e ∙ a.1)
+
+pub waits_listed : (id : ℕ) (k now : BookedView) (ids : List ℕ) (j : Option JournalView) → now ≡ record k { released = ids; journal = j } → Waits k.session id → Waits now.session id
+waits_listed id k now ids j e w = subst (λ (s : Session). Waits s id) (sym (ap (λ (v : BookedView). v.session) e)) w
+
+pub books_right : (keeps : Bool) (old mid new : SeatView) (id : ℕ) (answer : Result (Unit {0}) HubFault) {right : Right} → new ≡ record mid { right = right } → Books keeps old mid (Releases id old.number answer) → Books keeps old new (Releases id old.number answer)
+books_right keeps old mid new id answer {right} e b =
+    subst (λ (s : SeatView). Books keeps old s (Releases id old.number answer)) (sym e) (record { number = b.number; start = b.start; gains = b.gains; extends = b.extends })
+
 -- some, and then others
 pub some_more : (before between after : List ℕ) (old mid new : BookedView) → LeavesSome before between old mid → LeavesSome between after mid new → LeavesSome before after old new
 some_more before between after old mid new s t = (
@@ -454,5 +471,5 @@ if_ok (Ok u) P p = p
 if_ok (Err refused) P p = tt
 
 -- nothing else changes, twice
-pub rest_on : {R : Type 0} (one two three : Shared R) → two ≡ record one { booked = two.booked; released = two.released } → three ≡ record two { booked = three.booked; released = three.released } → three ≡ record one { booked = three.booked; released = three.released }
-rest_on {R} one two three e f = f ∙ ap {A = Shared R} (λ v. record v { booked = three.booked; released = three.released }) e
+pub rest_on : {R : Type 0} (one two three : Shared R) → two ≡ record one { booked = two.booked } → three ≡ record two { booked = three.booked } → three ≡ record one { booked = three.booked }
+rest_on {R} one two three e f = f ∙ ap {A = Shared R} (λ v. record v { booked = three.booked }) e

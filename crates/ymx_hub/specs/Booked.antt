@@ -11,8 +11,8 @@ use Rattle.ymx_seats.specs.Transcripts.{IsHistory}
 use Rattle.ymx_hub.specs.Rights.{AreRightful}
 
 -- The session, with the role and config with which it was made; the entries so far; the journal, where the recorder
--- witnesses; how many seats were given; how many
--- streams that were handed out have both halves unspent; those with one half spent; whether the transcript was handed out.
+-- witnesses; how many seats were given; how many streams that were handed out have both halves unspent; those with one half spent;
+-- those that were released, whose reading halves are unspent; whether the transcript was handed out.
 pub record BookedView : Type 0 where
   pub role : Role
   pub config : Config
@@ -22,6 +22,7 @@ pub record BookedView : Type 0 where
   pub given : ℕ
   pub unspent : ℕ
   pub half_spent : List ℕ
+  pub released : List ℕ
   pub ended : Bool
 
 -- one half of this stream is spent
@@ -72,6 +73,7 @@ fresh s journal = record {
   given = 0;
   unspent = 0;
   half_spent = [];
+  released = [];
   ended = false;
 }
 

@@ -13,7 +13,7 @@ use Rattle.ymx_session.specs.Replies.{done_or}
 use Rattle.ymx_session.specs.Applied.{in_buffer}
 use Rattle.ymx_machine.specs.declared.types.Reply.{Reply as ReplyOf}
 use Rattle.ymx_seats.specs.Journals.{part}
-use Rattle.ymx_seats.specs.Views.{SeatView, entry}
+use Rattle.ymx_seats.specs.Views.{SeatView, IsNewcomer, entry}
 use Rattle.ymx_hub.specs.declared.faults.HubFault.{HubFault}
 use Rattle.ymx_hub.specs.declared.stream_calls.HalfCall.{HalfCall}
 use Rattle.ymx_hub.specs.declared.stream_calls.HalfCall.TheVariants as half
@@ -131,11 +131,15 @@ StartsBehind e start (Some seen) = (before : List Entry) × (position : ℕ) × 
 abbrev pub StartsAfter : Entry → SeatView → Type 0
 StartsAfter e seat = StartsBehind e seat.start seat.seen
 
--- one entry, which gave a stream; the seats of both its halves start after it, with no entry
+-- a seat that has made no call
+abbrev pub IsFresh : SeatView → Type 0
+IsFresh seat = (seat.entries ≡ []) × IsNewcomer seat.number seat.seen
+
+-- one entry, which gave a stream; the seats of both its halves start after it, and have made no call
 abbrev pub IsGiven : Event → Reply → ℕ → SeatView → SeatView → List Entry → Type 0
 IsGiven event told seat one other added =
     (position : ℕ) × (added ≡ entry position seat event told ∷ []) × StartsAfter (entry position seat event told) one
-    × StartsAfter (entry position seat event told) other × (one.entries ≡ []) × (other.entries ≡ [])
+    × StartsAfter (entry position seat event told) other × IsFresh one × IsFresh other
 
 -- the event asks for a stream
 abbrev pub AsksStream : Event → Type 0

@@ -1,6 +1,6 @@
 //! The one door to the session: an event is done, and its entry kept.
 
-ghost use Rattle.std.specs.Prelude.{◌≡◌, ◌+◌, ◌<◌, ◌≤◌, ◌++◌, length, drop, true, false, IfOk, IsOk, MatchResult};
+ghost use Rattle.std.specs.Prelude.{◌≡◌, ◌+◌, ◌<◌, ◌≤◌, ◌++◌, length, drop, Contains, true, false, IfOk, IsOk, MatchResult};
 ghost use Rattle.ymx_machine.specs.shared.Replies.{bytes_told};
 ghost use Rattle.ymx_model.specs.declared.types.Event.TheVariants as asked;
 ghost use Rattle.ymx_model.specs.session.Emissions.{in_turn};
@@ -26,7 +26,7 @@ impl<R: Recorder> Booked<R> {
     /// Does an event with its entry, and returns the reply, which counts its bytes: they stand at the front of the buffer,
     /// which has the size that the event names. `RefusedAllocation`, and nothing is done, where there is no memory for the
     /// entry.
-    #[tactic(auto, using(crate::proofs::History::kept_after, crate::proofs::Journals::journaled_after, crate::proofs::Journals::witnessed_after, crate::proofs::Books::books_one))]
+    #[tactic(auto, using(crate::proofs::History::kept_after, crate::proofs::Journals::journaled_after, crate::proofs::Journals::all_after, crate::proofs::Journals::witnessed_after, crate::proofs::Books::books_one))]
     pub(crate) fn book(
         &mut self,
         seat: &mut Seat<R>,
@@ -34,8 +34,9 @@ impl<R: Recorder> Booked<R> {
         buffer: &mut [u8],
     ) -> Result<Reply<usize>, RefusedAllocation>
         requires size { IsSizeOf event.now (length buffer.old) }
-        requires may { R.WITNESSED ≡ true → MayDo seat.old.right event.now }
+        requires may { R.WITNESSED ≡ true → MayDo (Contains self.old.released) seat.old.right event.now }
         ensures right { seat.new.right ≡ seat.old.right }
+        ensures released { self.new.released ≡ self.old.released }
         ensures booked { Books R.KEEPS seat.old seat.new (Does event.now (in_buffer buffer.new) seat.old.number result) }
         ensures steps { StepsTold R.KEEPS event.now (in_buffer buffer.new) seat.old.number result self.old self.new }
         ensures alike { GainedAlike self.old.entries self.new.entries seat.old.entries seat.new.entries }
@@ -57,8 +58,9 @@ impl<R: Recorder> Booked<R> {
         buffer: &mut [u8],
     ) -> Result<Reply<usize>, HubFault>
         requires size { IsSizeOfCall call (length buffer.old) }
-        requires may { R.WITNESSED ≡ true → MayDo seat.old.right (asked.Call call) }
+        requires may { R.WITNESSED ≡ true → MayDo (Contains self.old.released) seat.old.right (asked.Call call) }
         ensures right { seat.new.right ≡ seat.old.right }
+        ensures released { self.new.released ≡ self.old.released }
         ensures booked { Books R.KEEPS seat.old seat.new (Asks (asked.Call call.entry) (told_or buffer.new) seat.old.number result) }
         ensures steps { StepsAsked R.KEEPS (asked.Call call.entry) (told_or buffer.new) seat.old.number result self.old self.new }
         ensures alike { GainedAlike self.old.entries self.new.entries seat.old.entries seat.new.entries }

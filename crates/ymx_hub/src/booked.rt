@@ -20,15 +20,17 @@ ghost use Rattle.ymx_hub.specs.declared.end_fault.EndWhy.TheVariants.{SeatsOut, 
 use crate::end_fault::{EndFault, EndWhy};
 use crate::faults::HubFault;
 use crate::refused_seat::seats_left;
+use crate::released_ids::Released;
 use indexmap::IndexSet;
 use std::alloc::Global;
 use std::marker::Model;
+use ymx_memory::RefusedAllocation;
 use ymx_model::{CallFault, Config, Role, Status};
 use ymx_seats::{Log, NewJournal, NoHalf, Recorder, Seat, Transcript, agree, discard};
 use ymx_session::Session;
 
 /// A session, with what it was made, the log of its events, how many seats were given, how many streams have both
-/// halves unspent, and the ids of those with one half spent. A contract sees all of these, and whether the transcript
+/// halves unspent, the ids of those with one half spent, and of those that are released. A contract sees all of these, and whether the transcript
 /// was handed out. Until then the log is the history of the session, from the one of this role and config that has done
 /// nothing; and where the recorder witnesses, its journal always is.
 #[derive(Drop)]
@@ -41,6 +43,7 @@ pub struct Booked<R: Recorder> {
     pub(crate) given: u32,
     pub(crate) unspent: usize,
     pub(crate) half_spent: IndexSet<u32>,
+    pub(crate) released: Released,
     pub(crate) ended: bool,
 }
 
@@ -49,6 +52,7 @@ impl<R: Recorder> Model for Booked<R> {
     ghost use Rattle.indexmap.specs.IndexSet.{spare};
     ghost use Rattle.ymx_seats.specs.Transcripts.{IsGood};
     ghost use Rattle.ymx_hub.specs.Booked.{BookedView, Kept, IsJournaled};
+    ghost use Rattle.ymx_hub.specs.Rights.{AllReleased};
 
     ghost Value = { BookedView };
 
@@ -61,40 +65,51 @@ impl<R: Recorder> Model for Booked<R> {
       given = s.given;
       unspent = s.unspent;
       half_spent = s.half_spent.keys;
+      released = s.released;
       ended = s.ended;
     } };
 
-    ghost invariant = { λ s. Kept R.KEEPS s.ended s.role s.config s.log.entries s.session × (s.unspent ≤ spare s.half_spent) × (s.unspent ≤ s.given) × IsGood s.role s.config × IsJournaled R.WITNESSED R.role R.config s.role s.config s.log.journal s.session s.given };
+    ghost invariant = { λ s. Kept R.KEEPS s.ended s.role s.config s.log.entries s.session × (s.unspent ≤ spare s.half_spent) × (s.unspent ≤ s.given) × IsGood s.role s.config × IsJournaled R.WITNESSED R.role R.config s.role s.config s.log.journal s.session s.given × AllReleased s.released s.log.journal };
 }
 
 impl<R: Recorder> Booked<R> {
-    /// Holds a session that has done nothing, with no entries, no journal and no seats. Takes no memory.
-    pub fn new(alloc: Global, session: Session) -> Booked<R>
+    /// Holds a session that has done nothing, with no entries, no journal and no seats. `RefusedAllocation` where there is no memory
+    /// for 1,024 streams that are released.
+    pub fn new(alloc: Global, session: Session) -> Result<Booked<R>, RefusedAllocation>
         requires new { IsNew session }
         requires unwitnessed { R.WITNESSED ≡ false }
-        ensures { result ≡ fresh session None }
+        ensures { IfOk result (λ booked. booked ≡ fresh session None) }
     {
-        Booked::over(alloc, session, Log::new(alloc))
+        let released = Released::new(alloc)?;
+        Ok(Booked::over(alloc, session, Log::new(alloc), released))
     }
 
     /// Holds a session that has done nothing, with no entries and no seats, and the journal that this opens. The recorder
-    /// names the journal, and the session's role and config. Takes no memory.
-    pub fn witnessed(alloc: Global, session: Session, opened: NewJournal) -> Booked<R>
+    /// names the journal, and the session's role and config. `RefusedAllocation` where there is no memory for 1,024 streams that are
+    /// released.
+    pub fn witnessed(
+        alloc: Global,
+        session: Session,
+        opened: NewJournal,
+    ) -> Result<Booked<R>, RefusedAllocation>
         requires new { IsNew session }
         requires witnessed { R.WITNESSED ≡ true }
         requires named { opened ≡ R.table }
         requires role { session.role ≡ R.role }
         requires config { config_of session ≡ R.config }
-        ensures { result ≡ fresh session (Some (record { whole = []; rights = [] })) }
+        ensures { IfOk result (λ booked. booked ≡ fresh session (Some (record { whole = []; rights = [] }))) }
     {
-        Booked::over(alloc, session, Log::witnessed(alloc, opened))
+        let released = Released::new(alloc)?;
+        Ok(Booked::over(alloc, session, Log::witnessed(alloc, opened), released))
     }
 
-    /// Holds a session that has done nothing, with this log, in which nothing is.
-    #[tactic(auto, using(crate::proofs::Journals::journaled_new))]
-    fn over(alloc: Global, session: Session, log: Log<R>) -> Booked<R>
+    /// Holds a session that has done nothing, with this log, in which nothing is, and this list of the streams that are released, in
+    /// which none is.
+    #[tactic(auto, using(crate::proofs::Journals::journaled_new, crate::proofs::Journals::all_none))]
+    fn over(alloc: Global, session: Session, log: Log<R>, released: Released) -> Booked<R>
         requires new { IsNew session }
         requires none { log.entries ≡ [] }
+        requires free { released ≡ [] }
         requires journal { IsUnused R.WITNESSED R.role R.config session log.journal }
         ensures { result ≡ fresh session log.journal }
     {
@@ -111,6 +126,7 @@ impl<R: Recorder> Booked<R> {
             given: 0,
             unspent: 0,
             half_spent: IndexSet::new(alloc),
+            released,
             ended: false,
         }
     }
@@ -118,7 +134,7 @@ impl<R: Recorder> Booked<R> {
     /// A new seat, whose entries come after those that are there, and which has seen the whole history, where there is a
     /// journal. `Closed` once the transcript was handed out, which is only where entries are kept, and `Seats` after
     /// 4,294,967,295 of them: nothing is changed then. Takes no memory.
-    #[tactic(auto, using(crate::proofs::History::no_seat, crate::proofs::Journals::journaled_seat, crate::proofs::Journals::witnessed_now, crate::proofs::Journals::numbered_now))]
+    #[tactic(auto, using(crate::proofs::History::no_seat, crate::proofs::Journals::journaled_seat, crate::proofs::Journals::all_caller, crate::proofs::Journals::witnessed_now, crate::proofs::Journals::numbered_now))]
     pub fn seat(&mut self) -> Result<Seat<R>, HubFault>
         ensures spares { IsNotMemory result }
         ensures new { IfOk result (IsNext self.old.given self.old.entries (whole_of self.old.journal)) }

@@ -6,7 +6,7 @@ ghost use Rattle.ymx_seats.specs.Views.{IsWitnessed};
 ghost use Rattle.ymx_hub.specs.Answers.{IsNotMemory};
 ghost use Rattle.ymx_hub.specs.Books.{Books, Spends, Closes, to_finish, to_reset};
 ghost use Rattle.ymx_hub.specs.Releasing.{Releases, IsDropped};
-ghost use Rattle.ymx_hub.specs.Rights.{MayWrite, SaysSole};
+ghost use Rattle.ymx_hub.specs.Rights.{MayWrite, MayRead, HaveHalves, SaysSole};
 ghost use Rattle.ymx_hub.specs.Shown.{BooksShown, IsShown};
 ghost use Rattle.ymx_hub.specs.Turns.{ReadTurns, EndsIn, WriteTurns};
 
@@ -38,7 +38,7 @@ pub(crate) fn both_halves<R: Recorder>(
     hubs: HubTwice<R>,
     given: (u32, Seat<R>, Seat<R>),
 ) -> (WriteHalf<R>, ReadHalf<R>)
-    requires { R.WITNESSED ≡ true → MayWrite given.1.right given.0 }
+    requires { R.WITNESSED ≡ true → HaveHalves given.0 given.1 given.2 }
     ensures writer { (result.0.id ≡ given.0) × (result.0.seat ≡ given.1) }
     ensures reader { (result.1.id ≡ given.0) × (result.1.seat ≡ given.2) }
 {
@@ -79,11 +79,15 @@ impl<R: Recorder> Model for WriteHalf<R> {
 }
 
 impl<R: Recorder> Model for ReadHalf<R> {
+    ghost use Rattle.std.specs.Prelude.{◌≡◌, true};
+    ghost use Rattle.ymx_hub.specs.Rights.{MayRead};
     ghost use Rattle.ymx_hub.specs.Halves.{HalfView};
 
     ghost Value = { HalfView };
 
     ghost view = { λ half. record { id = half.id; seat = half.seat } };
+
+    ghost invariant = { λ half. R.WITNESSED ≡ true → MayRead half.seat.right half.id };
 }
 
 impl<R: Recorder> WriteHalf<R> {
@@ -172,6 +176,7 @@ impl<R: Recorder> WriteHalf<R> {
 impl<R: Recorder> ReadHalf<R> {
     /// The half of this stream.
     pub(crate) fn new(hub: Arc<Hub<R>, Global>, seat: Seat<R>, id: u32) -> ReadHalf<R>
+        requires { R.WITNESSED ≡ true → MayRead seat.right id }
         ensures { (result.id ≡ id) × (result.seat ≡ seat) }
     {
         ReadHalf { hub, seat, id }
@@ -190,6 +195,9 @@ impl<R: Recorder> ReadHalf<R> {
         ensures same { self.new.id ≡ self.old.id }
         ensures mine { IsShown self.old.seat self.new.seat }
         ensures theirs { IsShown other.old other.new }
+        // Its caller may read the stream, and in the history that it has then seen nobody else has.
+        ensures may { R.WITNESSED ≡ true → MayRead self.old.seat.right self.old.id }
+        ensures sole { SaysSole self.old.seat.right self.old.seat.number self.new.seat.seen }
         ensures seen { other.new.seen ≡ self.new.seat.seen }
     {
         self.hub.meet(rt, &mut self.seat, other);
@@ -224,6 +232,9 @@ impl<R: Recorder> ReadHalf<R> {
     pub fn close<W: Wait>(self, rt: &W) -> (Seat<R>, Result<(), HubFault>)
         // The entry of the stream that is given up stands in the list of its seat, with the answer; none where it is not given up.
         ensures booked { Books R.KEEPS self.seat result.0 (Closes self.id self.seat.number result.1) }
+        // Its caller may read the stream, and may do so still.
+        ensures may { R.WITNESSED ≡ true → MayRead self.seat.right self.id }
+        ensures right { result.0.right ≡ self.seat.right }
         // Where no entries are kept, it is not refused for want of memory.
         ensures off { R.KEEPS ≡ false → IsNotMemory result.1 }
     {

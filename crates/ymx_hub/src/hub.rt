@@ -7,7 +7,7 @@ ghost use Rattle.ymx_seats.specs.Tallies.{Tallies};
 ghost use Rattle.ymx_seats.specs.Transcripts.{IsNew};
 ghost use Rattle.ymx_seats.specs.Views.{SeatView, IsNewcomer};
 ghost use Rattle.ymx_hub.specs.Booked.{config_of};
-ghost use Rattle.ymx_hub.specs.Rights.{MayWrite, SaysSole};
+ghost use Rattle.ymx_hub.specs.Rights.{MayWrite, HaveHalves, SaysSole};
 ghost use Rattle.ymx_hub.specs.Shown.{IsShown};
 ghost use Rattle.ymx_hub.specs.Answers.{IsNotMemory, IsSeatFault};
 ghost use Rattle.ymx_hub.specs.Books.{Books, Asks, Opens, OpensWith, Spends, Closes, to_finish, to_reset, to_go_away, to_close};
@@ -16,7 +16,6 @@ use crate::awaiting::take_lock;
 use crate::booked::Booked;
 use crate::end_fault::EndFault;
 use crate::faults::HubFault;
-use crate::released_ids::Released;
 use crate::shared::Shared;
 use crate::wakeups::Wakeups;
 use std::alloc::Global;
@@ -59,7 +58,7 @@ impl<R: Recorder> Hub<R> {
         requires unwitnessed { R.WITNESSED ≡ false }
     {
         let _ = recorder;
-        Hub::over(alloc, Booked::new(alloc, session))
+        Hub::over(alloc, Booked::new(alloc, session)?)
     }
 
     /// A hub round a session that has done nothing, with the journal that this opens. The recorder names the journal, and
@@ -75,7 +74,7 @@ impl<R: Recorder> Hub<R> {
         requires role { session.role ≡ R.role }
         requires config { config_of session ≡ R.config }
     {
-        Hub::over(alloc, Booked::witnessed(alloc, session, opened))
+        Hub::over(alloc, Booked::witnessed(alloc, session, opened)?)
     }
 
     /// `witnessed`, with the first seats of this hub, none of which has made a call.
@@ -93,7 +92,7 @@ impl<R: Recorder> Hub<R> {
         ensures reader { IfOk result (λ made. IsNewcomer made.1.reader.number made.1.reader.seen) }
         ensures writer { IfOk result (λ made. IsNewcomer made.1.writer.number made.1.writer.seen) }
     {
-        let mut booked = Booked::witnessed(alloc, session, opened);
+        let mut booked = Booked::witnessed(alloc, session, opened)?;
         let seats = first_seats(&mut booked);
         match Hub::over(alloc, booked) {
             Ok(hub) => Ok((hub, seats)),
@@ -103,7 +102,7 @@ impl<R: Recorder> Hub<R> {
 
     /// A hub over what is booked, at which nobody waits.
     fn over(alloc: Global, booked: Booked<R>) -> Result<Arc<Hub<R>>, RefusedAllocation> {
-        let (touched, released) = match lists(alloc) {
+        let touched = match Touched::new(alloc) {
             Ok(made) => made,
             Err(refused) => {
                 // by a call, so that the drop of its parts is not proved here
@@ -112,7 +111,7 @@ impl<R: Recorder> Hub<R> {
             }
         };
         let hub = Hub {
-            shared: Mutex::new(Shared::new(booked, touched, released)),
+            shared: Mutex::new(Shared::new(booked, touched)),
             wakeups: Wakeups::new(),
         };
         ymx_memory::shared(alloc, hub)
@@ -137,7 +136,7 @@ impl<R: Recorder> Hub<R> {
         // Each seat has seen all that it had seen before, and perhaps more; its list stays.
         ensures one { IsShown one.old one.new }
         ensures other { IsShown other.old other.new }
-        // Where one may write a stream, nobody else has.
+        // Where one has a half of a stream, nobody else has made its calls.
         ensures sole { SaysSole one.old.right one.old.number one.new.seen }
         ensures sole_other { SaysSole other.old.right other.old.number other.new.seen }
         // Both have then seen the same.
@@ -201,7 +200,7 @@ impl<R: Recorder> Hub<R> {
     ) -> Result<(u32, Seat<R>, Seat<R>), HubFault>
         ensures booked { Books R.KEEPS seat.old seat.new (Opens seat.old.number result) }
         ensures empty { IfOk result (λ made. (made.1.entries ≡ []) × (made.2.entries ≡ [])) }
-        ensures right { IfOk result (λ made. R.WITNESSED ≡ true → MayWrite made.1.right made.0) }
+        ensures right { IfOk result (λ made. R.WITNESSED ≡ true → HaveHalves made.0 made.1 made.2) }
     {
         let mut shared = take_lock(rt, &self.shared);
         let was_due = shared.booked.due();
@@ -219,7 +218,7 @@ impl<R: Recorder> Hub<R> {
     ) -> Result<(u32, usize, Seat<R>, Seat<R>), HubFault>
         ensures booked { Books R.KEEPS seat.old seat.new (OpensWith bytes.now seat.old.number result) }
         ensures empty { IfOk result (λ made. (made.2.entries ≡ []) × (made.3.entries ≡ [])) }
-        ensures right { IfOk result (λ made. R.WITNESSED ≡ true → MayWrite made.2.right made.0) }
+        ensures right { IfOk result (λ made. R.WITNESSED ≡ true → HaveHalves made.0 made.2 made.3) }
     {
         let mut shared = take_lock(rt, &self.shared);
         let was_due = shared.booked.due();
@@ -270,6 +269,7 @@ impl<R: Recorder> Hub<R> {
         seat: &mut Seat<R>,
         id: u32,
     ) -> Result<(), HubFault>
+        ensures right { seat.new.right ≡ seat.old.right }
         ensures booked { Books R.KEEPS seat.old seat.new (Closes id seat.old.number result) }
         ensures off { R.KEEPS ≡ false → IsNotMemory result }
     {
@@ -349,11 +349,4 @@ fn first_seats<R: Recorder>(booked: &mut Booked<R>) -> FirstSeats<R>
         writer: writer.into_sight(),
         closer: closer.into_sight(),
     }
-}
-
-/// Room for the streams that a feed touches, and for those that are released.
-fn lists(alloc: Global) -> Result<(Touched, Released), RefusedAllocation> {
-    let touched = Touched::new(alloc)?;
-    let released = Released::new(alloc)?;
-    Ok((touched, released))
 }

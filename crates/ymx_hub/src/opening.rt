@@ -5,9 +5,9 @@ ghost use Rattle.indexmap.specs.IndexSet.{spare, IsUnchanged};
 ghost use Rattle.ymx_session.specs.Applied.{IsReplyTo};
 ghost use Rattle.ymx_hub.specs.Answers.{refused_seat};
 ghost use Rattle.ymx_hub.specs.Books.{Books, Opens, OpensWith, AcceptsOnce, AsksStream, GivesStream, IsStreamOf, to_accept};
-ghost use Rattle.ymx_seats.specs.declared.plays.Right.TheVariants.{Writes};
+ghost use Rattle.ymx_seats.specs.declared.plays.Right.TheVariants.{Writes, Reads};
 ghost use Rattle.ymx_seats.specs.Views.{HasNumbered, IsWitnessed, whole_of};
-ghost use Rattle.ymx_hub.specs.Rights.{MayWrite, handed_out, last_place};
+ghost use Rattle.ymx_hub.specs.Rights.{HaveHalves, handed_out, last_place};
 ghost use Rattle.ymx_hub.specs.Gained.{GainedAlike};
 ghost use Rattle.ymx_hub.specs.Steps.{IsNext, StepsOpened, StepsOpenedWith, StepsAccepted, StepsGiven};
 ghost use Rattle.ymx_machine.specs.shared.Evidence.{evidence};
@@ -20,7 +20,7 @@ use indexmap::IndexSet;
 use std::alloc::Global;
 use std::marker::Brand;
 use ymx_model::{Call, CallFault, Event, Lent, Reply};
-use ymx_seats::{Log, NoHalf, Recorder, RightName, Seat};
+use ymx_seats::{Log, ReadsOf, Recorder, RightName, Seat};
 
 impl<R: Recorder> Booked<R> {
     /// Opens the next own stream, with a seat for each of its halves, which start after the entry of it.
@@ -31,7 +31,7 @@ impl<R: Recorder> Booked<R> {
         ensures steps { StepsOpened R.KEEPS seat.old.number result self.old self.new }
         ensures alike { GainedAlike self.old.entries self.new.entries seat.old.entries seat.new.entries }
         ensures empty { IfOk result (λ made. (made.1.entries ≡ []) × (made.2.entries ≡ [])) }
-        ensures right { IfOk result (λ made. R.WITNESSED ≡ true → MayWrite made.1.right made.0) }
+        ensures right { IfOk result (λ made. R.WITNESSED ≡ true → HaveHalves made.0 made.1 made.2) }
     {
         match self.give(seat, &Event::Call(Call::Open)) {
             Ok(Some((id, _, first, second))) => Ok((id, first, second)),
@@ -50,7 +50,7 @@ impl<R: Recorder> Booked<R> {
         ensures steps { StepsOpenedWith bytes.now R.KEEPS seat.old.number result self.old self.new }
         ensures alike { GainedAlike self.old.entries self.new.entries seat.old.entries seat.new.entries }
         ensures empty { IfOk result (λ made. (made.2.entries ≡ []) × (made.3.entries ≡ [])) }
-        ensures right { IfOk result (λ made. R.WITNESSED ≡ true → MayWrite made.2.right made.0) }
+        ensures right { IfOk result (λ made. R.WITNESSED ≡ true → HaveHalves made.0 made.2 made.3) }
     {
         match self.give(seat, &Event::Call(Call::OpenWith(Lent::new(bytes)))) {
             Ok(Some(given)) => Ok(given),
@@ -67,7 +67,7 @@ impl<R: Recorder> Booked<R> {
     ) -> Result<Option<(u32, Seat<R>, Seat<R>)>, HubFault>
         ensures booked { Books R.KEEPS seat.old seat.new (AcceptsOnce seat.old.number result) }
         ensures steps { StepsAccepted R.KEEPS seat.old.number result self.old self.new }
-        ensures right { IfOk result (λ given. IfSome given (λ made. R.WITNESSED ≡ true → MayWrite made.1.right made.0)) }
+        ensures right { IfOk result (λ given. IfSome given (λ made. R.WITNESSED ≡ true → HaveHalves made.0 made.1 made.2)) }
         ensures alike { GainedAlike self.old.entries self.new.entries seat.old.entries seat.new.entries }
     {
         match self.give(seat, &Event::Call(Call::Accept)) {
@@ -79,7 +79,7 @@ impl<R: Recorder> Booked<R> {
 
     /// Makes a call that gives a stream: its id, how many first bytes were taken (0 where it carries none), and a seat for
     /// each of its halves. `None` where an accept finds no stream offered.
-    #[tactic(auto, using(crate::proofs::History::kept_after, crate::proofs::Journals::journaled_after, crate::proofs::Journals::witnessed_after))]
+    #[tactic(auto, using(crate::proofs::History::kept_after, crate::proofs::Journals::journaled_after, crate::proofs::Journals::all_after, crate::proofs::Journals::witnessed_after))]
     fn give(
         &mut self,
         seat: &mut Seat<R>,
@@ -90,7 +90,7 @@ impl<R: Recorder> Booked<R> {
         ensures steps { StepsGiven event.now R.KEEPS seat.old.number result self.old self.new }
         ensures alike { GainedAlike self.old.entries self.new.entries seat.old.entries seat.new.entries }
         ensures none { IfOk result (λ given. given ≡ None → event.now ≡ to_accept) }
-        ensures right { IfOk result (λ given. IfSome given (λ made. R.WITNESSED ≡ true → MayWrite made.2.right made.0)) }
+        ensures right { IfOk result (λ given. IfSome given (λ made. R.WITNESSED ≡ true → HaveHalves made.0 made.2 made.3)) }
     {
         make_room(self.given, self.unspent, &mut self.half_spent)?;
         let room = self.log.prepare(self.alloc, seat, event, &[], 1)?;
@@ -143,8 +143,8 @@ fn make_room(given: u32, unspent: usize, half_spent: &mut IndexSet<u32>) -> Resu
     Ok(())
 }
 
-/// The seats of both halves of a stream that is handed out: the next two, of which the first may write it. One stream more has
-/// both halves unspent.
+/// The seats of both halves of a stream that is handed out: the next two, of which the first may write it, and the second read it.
+/// One stream more has both halves unspent.
 #[tactic(auto, using(crate::proofs::Journals::numbered_next, crate::proofs::Journals::whole_with_caller))]
 fn hand_out<R: Recorder, D: RightName>(
     log: &mut Log<R>,
@@ -160,12 +160,13 @@ fn hand_out<R: Recorder, D: RightName>(
     requires history { IsWitnessed R.WITNESSED R.role R.config (whole_of log.old.journal) }
     ensures first { IsNext given.old log.old.entries (whole_of log.old.journal) result.0 }
     ensures second { IsNext (given.old + 1) log.old.entries (whole_of log.old.journal) result.1 }
-    ensures right { R.WITNESSED ≡ true → result.0.right ≡ Writes _id (last_place log.old.journal) }
+    ensures writes { R.WITNESSED ≡ true → result.0.right ≡ Writes _id (last_place log.old.journal) }
+    ensures reads { R.WITNESSED ≡ true → result.1.right ≡ Reads _id (last_place log.old.journal) }
     ensures log { log.new ≡ record log.old { journal = handed_out _id log.old.journal } }
     ensures counted { (given.new ≡ given.old + 2) × (unspent.new ≡ unspent.old + 1) }
 {
     let first = log.seat::<D>(alloc, *given);
-    let second = log.seat::<NoHalf>(alloc, *given + 1);
+    let second = log.seat::<ReadsOf<D>>(alloc, *given + 1);
     *given += 2;
     *unspent += 1;
     (first, second)

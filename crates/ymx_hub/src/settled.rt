@@ -18,7 +18,7 @@ pub struct Settled {
 impl Settled {
     /// The evidence, where each of them waits.
     pub(crate) fn of<R: Recorder>(_shared: &Shared<R>) -> Settled
-        requires { AllWait _shared.now.booked.session _shared.now.released }
+        requires { AllWait _shared.now.booked.session _shared.now.booked.released }
     {
         Settled { seal: () }
     }

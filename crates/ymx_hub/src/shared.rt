@@ -6,11 +6,10 @@ ghost use Rattle.ymx_machine.specs.declared.types.Reply.TheVariants as reply;
 ghost use Rattle.ymx_session.specs.Replies.{wrote_or, read_or, got_count};
 ghost use Rattle.ymx_hub.specs.Answers.{IsNotMemory, GivesSome, took_count};
 ghost use Rattle.ymx_hub.specs.Books.{Books, Asks, Does, to_write, to_read};
-ghost use Rattle.ymx_hub.specs.Rights.{MayWrite};
+ghost use Rattle.ymx_hub.specs.Rights.{MayWrite, MayRead};
 
 use crate::booked::Booked;
 use crate::faults::HubFault;
-use crate::released_ids::Released;
 use crate::wakeups::Waiters;
 use ymx_memory::RefusedAllocation;
 use ymx_model::{Fed, Got, Wrote};
@@ -24,8 +23,6 @@ pub(crate) struct Shared<R: Recorder> {
     pub(crate) waiters: Waiters,
     /// What the last feed touched.
     pub(crate) touched: Touched,
-    /// The streams that were released, whose reading halves are unspent.
-    pub(crate) released: Released,
     /// A feed stopped at 1,024 unsent answers, and nothing was emitted since.
     pub(crate) is_full: bool,
     /// A write pump has given up, so that nothing goes out any more.
@@ -35,13 +32,12 @@ pub(crate) struct Shared<R: Recorder> {
 }
 
 impl<R: Recorder> Shared<R> {
-    /// Nobody waits, nothing was touched, and these are released.
-    pub(crate) fn new(booked: Booked<R>, touched: Touched, released: Released) -> Shared<R> {
+    /// Nobody waits, and nothing was touched.
+    pub(crate) fn new(booked: Booked<R>, touched: Touched) -> Shared<R> {
         Shared {
             booked,
             waiters: Waiters::none(),
             touched,
-            released,
             is_full: false,
             is_mute: false,
             has_lacked_memory: false,
@@ -56,7 +52,7 @@ impl<R: Recorder> Shared<R> {
     ) -> Result<Fed, RefusedAllocation>
         ensures booked { Books R.KEEPS seat.old seat.new (Does (event.Feed bytes.now) reply.Fed seat.old.number result) }
         ensures within { IfOk result (λ fed. fed.taken ≤ length bytes.now) }
-        ensures released { self.new.released ≡ self.old.released }
+        ensures released { self.new.booked.released ≡ self.old.booked.released }
         ensures off { R.KEEPS ≡ false → IsOk result }
     {
         self.touched.clear();
@@ -76,12 +72,14 @@ impl<R: Recorder> Shared<R> {
         id: u32,
         buffer: &mut [u8],
     ) -> Result<Got, HubFault>
+        requires may { R.WITNESSED ≡ true → MayRead seat.old.right id }
+        ensures right { seat.new.right ≡ seat.old.right }
         ensures booked { Books R.KEEPS seat.old seat.new (Asks (to_read id (length buffer.old)) (λ given. read_or given buffer.new) seat.old.number result) }
         ensures within { IfOk result (λ got. got_count got ≤ length buffer.old) }
         ensures length { length buffer.new ≡ length buffer.old }
         ensures rest { MatchResult result (λ got. drop (got_count got) buffer.new ≡ drop (got_count got) buffer.old) (λ fault. buffer.new ≡ buffer.old) }
         ensures some { 0 < length buffer.old → IfOk result GivesSome }
-        ensures released { self.new.released ≡ self.old.released }
+        ensures released { self.new.booked.released ≡ self.old.booked.released }
         ensures off { R.KEEPS ≡ false → IsNotMemory result }
     {
         let got = self.booked.read(seat, id, buffer);
@@ -102,7 +100,7 @@ impl<R: Recorder> Shared<R> {
         ensures right { seat.new.right ≡ seat.old.right }
         ensures booked { Books R.KEEPS seat.old seat.new (Asks (to_write id bytes.now) wrote_or seat.old.number result) }
         ensures within { IfOk result (λ wrote. took_count wrote ≤ length bytes.now) }
-        ensures released { self.new.released ≡ self.old.released }
+        ensures released { self.new.booked.released ≡ self.old.booked.released }
     {
         let wrote = self.booked.write(seat, id, bytes);
         if let Ok(Wrote::Wait) = wrote {

@@ -1,6 +1,6 @@
 //! Bytes of a stream, and its halves that are spent, with their entries.
 
-ghost use Rattle.std.specs.Prelude.{◌≡◌, ◌⊎◌, ℕ, ◌<◌, ◌≤◌, List, length, drop, true, false, IfOk, MatchResult};
+ghost use Rattle.std.specs.Prelude.{◌≡◌, ◌⊎◌, ℕ, ◌<◌, ◌≤◌, List, length, drop, Contains, true, false, IfOk, MatchResult};
 ghost use Rattle.ymx_machine.specs.declared.types.Reply.TheVariants as reply;
 ghost use Rattle.ymx_session.specs.Applied.{IsRefusal, in_buffer};
 ghost use Rattle.ymx_session.specs.Replies.{done_or, wrote_or, read_or, got_count};
@@ -8,7 +8,7 @@ ghost use Rattle.ymx_hub.specs.Answers.{IsNotMemory, GivesSome, took_count};
 ghost use Rattle.ymx_hub.specs.Books.{Books, Asks, Spends, Closes, to_write, to_read, to_finish, to_reset, to_end};
 ghost use Rattle.ymx_hub.specs.Booked.{is_half_spent, spent};
 ghost use Rattle.ymx_hub.specs.Gained.{GainedAlike};
-ghost use Rattle.ymx_hub.specs.Rights.{MayWrite};
+ghost use Rattle.ymx_hub.specs.Rights.{MayWrite, MayRead};
 ghost use Rattle.ymx_hub.specs.Steps.{StepsAsked, StepsSpent, StepsClosed};
 
 use crate::book::carry_out;
@@ -22,6 +22,7 @@ impl<R: Recorder> Booked<R> {
     pub fn write(&mut self, seat: &mut Seat<R>, id: u32, bytes: &[u8]) -> Result<Wrote, HubFault>
         requires may { R.WITNESSED ≡ true → MayWrite seat.old.right id }
         ensures right { seat.new.right ≡ seat.old.right }
+        ensures released { self.new.released ≡ self.old.released }
         ensures booked { Books R.KEEPS seat.old seat.new (Asks (to_write id bytes.now) wrote_or seat.old.number result) }
         ensures steps { StepsAsked R.KEEPS (to_write id bytes.now) wrote_or seat.old.number result self.old self.new }
         ensures alike { GainedAlike self.old.entries self.new.entries seat.old.entries seat.new.entries }
@@ -37,6 +38,9 @@ impl<R: Recorder> Booked<R> {
     /// Moves the first unread bytes to the front of the buffer, as many as are there and fit: one at least, if it has
     /// room. The rest of the buffer stays as it was.
     pub fn read(&mut self, seat: &mut Seat<R>, id: u32, buffer: &mut [u8]) -> Result<Got, HubFault>
+        requires may { R.WITNESSED ≡ true → MayRead seat.old.right id ⊎ Contains self.old.released id }
+        ensures right { seat.new.right ≡ seat.old.right }
+        ensures released { self.new.released ≡ self.old.released }
         ensures booked { Books R.KEEPS seat.old seat.new (Asks (to_read id (length buffer.old)) (λ given. read_or given buffer.new) seat.old.number result) }
         ensures steps { StepsAsked R.KEEPS (to_read id (length buffer.old)) (λ given. read_or given buffer.new) seat.old.number result self.old self.new }
         ensures alike { GainedAlike self.old.entries self.new.entries seat.old.entries seat.new.entries }
@@ -97,7 +101,7 @@ impl<R: Recorder> Booked<R> {
     }
 
     /// Ends a half of a stream by this call, and gives the stream up if its other half was spent.
-    #[tactic(auto, using(crate::proofs::History::kept_after, crate::proofs::Journals::journaled_after, crate::proofs::Journals::witnessed_after))]
+    #[tactic(auto, using(crate::proofs::History::kept_after, crate::proofs::Journals::journaled_after, crate::proofs::Journals::all_after, crate::proofs::Journals::witnessed_after))]
     fn end_half(&mut self, seat: &mut Seat<R>, id: u32, half_call: HalfCall) -> Result<(), HubFault>
         requires may { R.WITNESSED ≡ true → MayWrite seat.old.right id }
         ensures right { seat.new.right ≡ seat.old.right }
@@ -138,6 +142,8 @@ impl<R: Recorder> Booked<R> {
     /// Spends a half of a stream without a word to the peer, and gives the stream up if its other half was spent.
     /// The half counts as spent even if there is no memory for the entry.
     pub fn close_half(&mut self, seat: &mut Seat<R>, id: u32) -> Result<(), HubFault>
+        ensures right { seat.new.right ≡ seat.old.right }
+        ensures released { self.new.released ≡ self.old.released }
         ensures booked { Books R.KEEPS seat.old seat.new (Closes id seat.old.number result) }
         ensures steps { StepsClosed (is_half_spent id self.old) R.KEEPS seat.old.number id result self.old self.new }
         ensures alike { GainedAlike self.old.entries self.new.entries seat.old.entries seat.new.entries }

@@ -7,7 +7,7 @@ ghost use Rattle.ymx_machine.specs.declared.types.Reply.TheVariants as reply;
 ghost use Rattle.ymx_model.specs.session.Sessions.{Session};
 ghost use Rattle.ymx_model.specs.session.Emissions.{is_ready};
 ghost use Rattle.ymx_hub.specs.WholeHistories.{IsHistoryOf};
-ghost use Rattle.ymx_hub.specs.Rights.{MayWrite};
+ghost use Rattle.ymx_hub.specs.Rights.{MayWrite, MayRead, HaveHalves};
 ghost use Rattle.ymx_hub.specs.Shown.{IsShown};
 ghost use Rattle.ymx_hub.specs.Turns.{AcceptsInTurns, ReadTurns, EndsIn, PingTurns, WriteTurns};
 
@@ -27,7 +27,7 @@ impl<R: Recorder> Hub<R> {
         rt: &W,
         seat: &mut Seat<R>,
     ) -> Result<Option<(u32, Seat<R>, Seat<R>)>, HubFault>
-        ensures right { IfOk result (λ given. IfSome given (λ made. R.WITNESSED ≡ true → MayWrite made.1.right made.0)) }
+        ensures right { IfOk result (λ given. IfSome given (λ made. R.WITNESSED ≡ true → HaveHalves made.0 made.1 made.2)) }
         ensures booked { Books R.KEEPS seat.old seat.new (AcceptsInTurns seat.old.number result) }
     {
         let mut was_woken = false;
@@ -66,7 +66,9 @@ impl<R: Recorder> Hub<R> {
         id: u32,
         buffer: &mut [u8],
     ) -> Result<usize, HubFault>
-        requires { 0 < length buffer.old }
+        requires room { 0 < length buffer.old }
+        requires may { R.WITNESSED ≡ true → MayRead seat.old.right id }
+        ensures right { seat.new.right ≡ seat.old.right }
         ensures booked { Books R.KEEPS seat.old seat.new (ReadTurns id (length buffer.old) buffer.new seat.old.number result) }
         ensures end { IfOk result (λ count. count ≡ 0 → Books R.KEEPS seat.old seat.new (EndsIn (λ told. told ≡ reply.ReadEnd))) }
         ensures within { IfOk result (λ count. count ≤ length buffer.old) }

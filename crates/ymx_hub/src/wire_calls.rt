@@ -19,13 +19,14 @@ impl<R: Recorder> Booked<R> {
     /// Feeds bytes that came from the peer, and notes the streams that they touch, and an answer to a ping, behind what
     /// was noted before. A stream that isn't noted then is as it was, and a stream is noted only where the end of a
     /// header of its frames, or payload of it, was among the bytes taken.
-    #[tactic(auto, using(crate::proofs::History::kept_after, crate::proofs::Journals::journaled_after, crate::proofs::Journals::witnessed_after, crate::proofs::Books::books_one))]
+    #[tactic(auto, using(crate::proofs::History::kept_after, crate::proofs::Journals::journaled_after, crate::proofs::Journals::all_after, crate::proofs::Journals::witnessed_after, crate::proofs::Books::books_one))]
     pub fn feed(
         &mut self,
         seat: &mut Seat<R>,
         bytes: &[u8],
         touched: &mut Touched,
     ) -> Result<Fed, RefusedAllocation>
+        ensures released { self.new.released ≡ self.old.released }
         ensures booked { Books R.KEEPS seat.old seat.new (Does (event.Feed bytes.now) reply.Fed seat.old.number result) }
         ensures steps { StepsTold R.KEEPS (event.Feed bytes.now) reply.Fed seat.old.number result self.old self.new }
         ensures alike { GainedAlike self.old.entries self.new.entries seat.old.entries seat.new.entries }

@@ -2,7 +2,7 @@
 use Rattle.std.proofs.Common.{◌≡◌, ◌≢◌, ℕ, zero, suc, ◌<◌, ◌==◌, List, [], ◌∷◌, ◌++◌, length, set, Bool, true, false, true≢false, if◌then◌else◌, refl, sym, ap, ◌∙◌, subst, ⊎_elim, arith, append_assoc, append-nil}
 use Rattle.std.specs.Prelude.{slice_get, Some}
 use Rattle.std.proofs.Math.Seq.{get_or-append_seam}
-use Rattle.std.proofs.lemmas.List.{length-append, get_or_append_left}
+use Rattle.std.proofs.lemmas.List.{length-append, length-set, get_or_append_left, get_or-set_same, get_or-set_other}
 use Rattle.std.proofs.lemmas.Option.{slice_get_within, slice_get-get_or, get_or_from_slice_get}
 use Rattle.std.proofs.lemmas.Bool.Decides.{nat_tests}
 use mathlib.Core.Option.{some, some-ne-none, some-injective}
@@ -14,7 +14,7 @@ use Rattle.atomic_table.specs.Table.Act.{keeps}
 use Rattle.ymx_model.specs.declared.types.Entry.{Entry}
 use Rattle.ymx_seats.specs.declared.plays.Knowledge.{Knowledge}
 use Rattle.ymx_seats.specs.declared.plays.Right.{Right}
-use Rattle.ymx_seats.specs.Journals.{part, knower, caller, nobody, visited, visitor, shown, Fits, IsKept, IsBehind, HasAdded, HasShown, HasCounted}
+use Rattle.ymx_seats.specs.Journals.{part, release_of, knower, caller, nobody, visited, visitor, shown, released, Fits, IsKept, IsBehind, HasAdded, HasShown, HasReleased, HasCounted}
 
 off : false ≡ true → ⊥
 off e = true≢false (sym e)
@@ -128,6 +128,42 @@ shows_to views id whole rights number right seen h at =
           (λ j u apart there. h.fits j u there)
           (record { keeps = λ _. k; speaks = λ _. (s.0, s.1, prefix_same whole h.log k.1, ap (λ es. part number es) (sym k.1)) });
       unmade = h.unmade;
+    }
+
+-- what the others may do stays as one releases its reads
+got_same : (xs : List Right) (n : ℕ) (was r : Right) → slice_get xs n ≡ Some was → slice_get (set xs n r) n ≡ Some r
+got_same xs n was r e =
+    let within : n < length xs = slice_get_within xs n was e in
+    let long = length-set xs n r in
+    slice_get-get_or (set xs n r) n r (omega (arith, within, long)) ∙ ap (λ x. Some x) (get_or-set_same xs n r r within)
+
+got_other : (xs : List Right) (n m : ℕ) (r it : Right) → m ≢ n → slice_get xs m ≡ Some it → slice_get (set xs n r) m ≡ Some it
+got_other xs n m r it apart e =
+    let within : m < length xs = slice_get_within xs m it e in
+    let long = length-set xs n r in
+    slice_get-get_or (set xs n r) m it (omega (arith, within, long)) ∙ ap (λ x. Some x) (get_or-set_other xs n m r it apart ∙ get_or_from_slice_get xs m it it e)
+
+releases_to : (views : List Knowledge) (id : ℕ) (whole : List Entry) (rights : List Right) (number : ℕ) (right : Right) (seen : List Entry) → IsKept views → get_elem? views id ≡ some (with_caller whole rights number right seen)
+    → IsKept (set views id (released (with_caller whole rights number right seen)))
+releases_to views id whole rights number right seen h at =
+    let (k, s) = both_stand views id whole rights number right seen h at in
+    let next = set h.rights number (release_of right) in record {
+      keeper = h.keeper;
+      owner = h.owner;
+      rights = next;
+      log = h.log;
+      fits = others_too (Fits h.keeper h.owner next h.log) views id (released (with_caller whole rights number right seen))
+          (λ j u apart there. record {
+            keeps = λ b. absurd (apart (((h.fits j u there).keeps b).0 ∙ sym k.0));
+            speaks = λ b.
+                let t = (h.fits j u there).speaks b in
+                (t.0, got_other h.rights number u.number (release_of right) u.right (λ same. apart (sym t.0 ∙ ap h.owner same ∙ s.0)) t.1, t.2, t.3);
+          })
+          (record {
+            keeps = λ _. (k.0, k.1, ap (λ (xs : List Right). set xs number (release_of right)) k.2);
+            speaks = λ _. (s.0, got_same h.rights number right (release_of right) s.1, s.2, s.3);
+          });
+      unmade = λ n le. let long = length-set h.rights number (release_of right) in h.unmade n (omega (arith, le, long));
     }
 
 -- the owner of one number is another now
@@ -302,6 +338,21 @@ pub shows : (slots id : ℕ) (me : Knowledge × List (ℕ × ℕ)) (whole : List
     → Allows Rules slots id me 0 (λ n. n) (λ n w. HasShown me w)
 shows slots id me whole rights number right seen is =
     subst (λ (m : Knowledge × List (ℕ × ℕ)). Allows Rules slots id m 0 (λ n. n) (λ n w. HasShown m w)) (sym is) (shows_at slots id whole rights number right seen)
+
+releases_at : (slots id : ℕ) (whole : List Entry) (rights : List Right) (number : ℕ) (right : Right) (seen : List Entry)
+    → Allows Rules slots id (knows (keeper_of whole rights number right seen)) 0 (λ n. n) (λ n w. HasReleased (knows (keeper_of whole rights number right seen)) w)
+releases_at slots id whole rights number right seen s h homes at less = (
+  released (keeper_of whole rights number right seen),
+  keeps,
+  tt,
+  releases_to s.views id whole rights number right seen h at,
+  (behind s.views id whole rights number right seen h at, refl),
+)
+
+pub releases : (slots id : ℕ) (me : Knowledge × List (ℕ × ℕ)) (whole : List Entry) (rights : List Right) (number : ℕ) (right : Right) (seen : List Entry) → me ≡ knows (keeper_of whole rights number right seen)
+    → Allows Rules slots id me 0 (λ n. n) (λ n w. HasReleased me w)
+releases slots id me whole rights number right seen is =
+    subst (λ (m : Knowledge × List (ℕ × ℕ)). Allows Rules slots id m 0 (λ n. n) (λ n w. HasReleased m w)) (sym is) (releases_at slots id whole rights number right seen)
 
 counts_at : (slots id : ℕ) (whole : List Entry) (rights : List Right) → Allows Rules slots id (knows (knower whole rights)) 0 (λ n. n) (λ n w. HasCounted (knows (knower whole rights)) w)
 counts_at slots id whole rights s h homes at less =

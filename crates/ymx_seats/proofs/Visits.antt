@@ -1,13 +1,13 @@
 -- A caller comes to the keeper of a journal, and leaves.
-use Rattle.std.proofs.Common.{◌≡◌, ℕ, ◌<◌, List, [], ◌∷◌, sym, ap, ◌∙◌}
+use Rattle.std.proofs.Common.{◌≡◌, ℕ, ◌<◌, List, [], ◌∷◌, set, sym, ap, ◌∙◌}
 use Rattle.atomic_table.specs.declared.badge.Badge.{Badge}
 use Rattle.atomic_table.specs.Seated.{TableId}
 use Rattle.atomic_table.specs.Table.{Allows, Splits, Joins}
 use Rattle.ymx_model.specs.declared.types.Entry.{Entry}
 use Rattle.ymx_seats.specs.declared.plays.Knowledge.{Knowledge}
 use Rattle.ymx_seats.specs.declared.plays.Right.{Right}
-use Rattle.ymx_seats.specs.Journals.{knower, caller, nobody, visited, visitor, shown, HasAdded, HasShown}
-use Rattle.ymx_seats.proofs.Moves.{Rules, knows, keeper_of, alone, adds, shows, joins, splits}
+use Rattle.ymx_seats.specs.Journals.{release_of, knower, caller, nobody, visited, visitor, shown, released, HasAdded, HasShown, HasReleased}
+use Rattle.ymx_seats.proofs.Moves.{Rules, knows, keeper_of, alone, adds, shows, releases, joins, splits}
 
 -- `held` is what the keeper's seat knows, and `pass` what the seat knows that is made of the caller's badge `was`, once
 -- that is taken out of the witness
@@ -48,4 +48,17 @@ module _ {named at table there : TableId} {held : Knowledge × List (ℕ × ℕ)
       journal.3,
       splits again last.0 next rights number right next
           (ap (λ (x : Knowledge × List (ℕ × ℕ)). x.0) told ∙ ap (λ (x : Knowledge × List (ℕ × ℕ)). shown next x.0) met_is),
+    )
+
+    pub releases_met : (slot_count : ℕ) → (now ≡ table) × (0 < table.words) × Allows Rules slot_count id met 0 (λ n. n) (λ n w. HasReleased met w)
+    releases_met slot_count = (same_table, journal.3, releases slot_count id met whole rights number right seen met_is)
+
+    -- and after the caller released its reads
+    pub leaves_released : {then : TableId} {last : Knowledge × List (ℕ × ℕ)} → then ≡ now → last ≡ (released met.0, met.1) → (again : ℕ)
+        → (then ≡ table) × (0 < table.words) × Splits Rules again last.0 (knower last.0.whole last.0.rights) (visitor last.0)
+    leaves_released {then} {last} stays told again = (
+      stays ∙ same_table,
+      journal.3,
+      splits again last.0 whole (set rights number (release_of right)) number (release_of right) seen
+          (ap (λ (x : Knowledge × List (ℕ × ℕ)). x.0) told ∙ ap (λ (x : Knowledge × List (ℕ × ℕ)). released x.0) met_is),
     )

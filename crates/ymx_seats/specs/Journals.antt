@@ -1,5 +1,5 @@
 -- Histories that exist in proofs alone, and what their keeper and their callers know (this project's own).
-use Rattle.std.specs.Prelude.{◌≡◌, ℕ, ◌≤◌, ◌==◌, List, [], ◌∷◌, ◌++◌, length, filter, true, false, slice_get, Some}
+use Rattle.std.specs.Prelude.{◌≡◌, ℕ, ◌≤◌, ◌==◌, List, [], ◌∷◌, ◌++◌, length, filter, set, true, false, slice_get, Some}
 use mathlib.Core.List.{IsPrefix}
 use mathlib.Core.Option.{some}
 use lib.ListN.{get_elem?}
@@ -10,7 +10,7 @@ use Rattle.ymx_model.specs.declared.types.Config.{Config}
 use Rattle.ymx_model.specs.declared.types.Entry.{Entry}
 use Rattle.ymx_seats.specs.declared.plays.Knowledge.{Knowledge}
 use Rattle.ymx_seats.specs.declared.plays.Right.{Right}
-use Rattle.ymx_seats.specs.declared.plays.Right.TheVariants.{Free}
+use Rattle.ymx_seats.specs.declared.plays.Right.TheVariants.{Free, Writes, Reads, Released}
 
 -- what is named where nothing is
 abbrev pub no_table : TableId
@@ -27,6 +27,16 @@ abbrev pub part : ℕ → List Entry → List Entry
 part n es = filter (λ e. e.seat == n) es
 
 -- ---- what contracts see
+
+-- what the reading half of a stream may do, for whose writing half this is the right
+abbrev pub reads_of : Right → Right
+reads_of (Writes id at) = Reads id at
+reads_of right = right
+
+-- what a caller may do once it has released its reads to all
+abbrev pub release_of : Right → Right
+release_of (Reads id at) = Released id at
+release_of right = right
 
 -- a journal: its entries, and what each caller may do that was numbered
 pub record JournalView : Type 0 where
@@ -96,12 +106,19 @@ IsBehind v = IsPrefix v.seen v.whole × (part v.number v.whole ≡ part v.number
 abbrev pub shown : List Entry → Knowledge → Knowledge
 shown whole v = record { keeps = v.keeps; rights = v.rights; whole = whole; speaks = v.speaks; number = v.number; right = v.right; seen = whole }
 
+-- the keeper, with a caller that has released its reads
+abbrev pub released : Knowledge → Knowledge
+released v = record v { rights = set v.rights v.number (release_of v.right); right = release_of v.right }
+
 module _ {S : Type 0} where
   abbrev pub HasAdded : Entry → Knowledge × S → Knowledge × S → Type 0
   HasAdded e v w = IsBehind v.0 × (w ≡ (shown (v.0.whole ++ e ∷ []) v.0, v.1))
 
   abbrev pub HasShown : Knowledge × S → Knowledge × S → Type 0
   HasShown v w = IsBehind v.0 × (w ≡ (shown v.0.whole v.0, v.1))
+
+  abbrev pub HasReleased : Knowledge × S → Knowledge × S → Type 0
+  HasReleased v w = IsBehind v.0 × (w ≡ (released v.0, v.1))
 
   abbrev pub HasCounted : Knowledge × S → Knowledge × S → Type 0
   HasCounted v w = (part (length v.0.rights) v.0.whole ≡ []) × (w ≡ v)

@@ -1,11 +1,12 @@
 //! The journal and its witnesses.
 
-ghost use Rattle.std.specs.Prelude.{◌≡◌, ◌++◌, ◌∷◌, [], length, slice_get, Some};
+ghost use Rattle.std.specs.Prelude.{◌≡◌, ◌++◌, ◌∷◌, [], length, set, slice_get, Some};
 ghost use mathlib.Core.List.{IsPrefix};
-ghost use Rattle.ymx_seats.specs.Journals.{part};
+ghost use Rattle.ymx_seats.specs.Journals.{part, release_of};
 
 use crate::plays::{
-    Adds, Counts, EntryName, Knowledge, Naming, Numbers, OneHistory, RightName, Shows, Visit,
+    Adds, Counts, EntryName, Knowledge, Naming, Numbers, OneHistory, ReleasesReads, RightName,
+    Shows, Visit,
 };
 use atomic_table::{Badge, Seat, Table};
 use std::alloc::Global;
@@ -149,6 +150,20 @@ impl<J: Naming> Journal<J> {
         let pass = mem::replace(&mut me.badge, Badge::blank()).into_seat();
         steps.join_seat::<Visit>(&mut self.keeper, pass);
         steps.load::<Shows>(&mut self.keeper, 0);
+        me.badge = steps.split_seat::<Visit>(&mut self.keeper).into_badge();
+    }
+    /// This caller releases its reads to all. It has seen what it had seen.
+    pub fn release(&mut self, me: &mut Witness<J>)
+        ensures whole { self.new.whole ≡ self.old.whole }
+        ensures rights { self.new.rights ≡ set self.old.rights me.old.number (release_of me.old.right) }
+        ensures me { me.new ≡ record me.old { right = release_of me.old.right } }
+        ensures known { slice_get self.old.rights me.old.number ≡ Some me.old.right }
+    {
+        let table = &self.table;
+        let steps = &table.shared;
+        let pass = mem::replace(&mut me.badge, Badge::blank()).into_seat();
+        steps.join_seat::<Visit>(&mut self.keeper, pass);
+        steps.load::<ReleasesReads>(&mut self.keeper, 0);
         me.badge = steps.split_seat::<Visit>(&mut self.keeper).into_badge();
     }
 }

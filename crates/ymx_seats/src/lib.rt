@@ -19,7 +19,7 @@ pub use compare::{agree, same};
 pub use entry_room::EntryRoom;
 pub use journal::{Journal, NewJournal, Witness};
 pub use log::Log;
-pub use plays::{EntryName, Knowledge, Naming, NoHalf, Right, RightName};
+pub use plays::{EntryName, Knowledge, Naming, NoHalf, ReadsOf, Right, RightName};
 pub use recorder::{Full, Off, Recorder, Witnessed};
 pub use seat::{Seat, Sight, discard};
 pub use transcript::Transcript;

@@ -3,7 +3,7 @@
 ghost use Rattle.std.specs.Prelude.{◌≡◌, ◌-◌, ◌+◌, ◌<◌, ◌≤◌, ◌++◌, ◌∷◌, [], true, false, Some, None, vec_capacity, vec_len, length, slice_get, IsOk, IfOk, OnOk};
 ghost use mathlib.Core.List.{IsPrefix};
 ghost use Rattle.ymx_memory.specs.Bounds.{most_entries};
-ghost use Rattle.ymx_seats.specs.Journals.{part};
+ghost use Rattle.ymx_seats.specs.Journals.{part, release_of};
 ghost use Rattle.ymx_seats.specs.Views.{entry};
 
 use crate::entry_room::{Copies, EntryRoom, copies_of, kept_reply};
@@ -40,7 +40,7 @@ impl<R: Recorder> Model for Log<R> {
 
 impl<R: Recorder> Log<R> {
     ghost use Rattle.ymx_seats.specs.Tallies.{RisesFrom};
-    ghost use Rattle.ymx_seats.specs.Views.{kept_entries, entry, journal_after, with_caller, whole_of, HasNumbered, HasRight, IsBehind, IsWitnessed, IsNewcomer};
+    ghost use Rattle.ymx_seats.specs.Views.{kept_entries, entry, journal_after, with_caller, released_by, whole_of, HasNumbered, HasRight, IsBehind, IsWitnessed, IsNewcomer};
     ghost use Rattle.ymx_seats.specs.EntryRooms.{IsReady};
     ghost use Rattle.ymx_machine.specs.shared.Replies.{bytes_told};
 
@@ -206,6 +206,17 @@ impl<R: Recorder> Log<R> {
     {
         if let (Some(journal), Some(witness)) = (&mut self.journal, &mut seat.witness) {
             journal.show(witness);
+        }
+    }
+
+    /// The caller at this seat releases its reads to all, where there is a journal. It has seen what it had seen.
+    pub fn release(&mut self, seat: &mut Seat<R>)
+        ensures log { self.new ≡ record self.old { journal = released_by seat.old.number seat.old.right self.old.journal } }
+        ensures seat { seat.new ≡ record seat.old { right = release_of seat.old.right } }
+        ensures known { HasRight seat.old.number seat.old.right self.old.journal }
+    {
+        if let (Some(journal), Some(witness)) = (&mut self.journal, &mut seat.witness) {
+            journal.release(witness);
         }
     }
 

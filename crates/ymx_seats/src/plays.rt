@@ -45,10 +45,14 @@ impl EntryName for Brand {
 
 /// What a caller may do to streams. No value of it is made.
 pub enum Right {
-    /// What is no call of a writing half.
+    /// What is no call of a half.
     Free,
     /// The calls of the writing half of this stream too, which the entry at this position gave.
     Writes(u32, u64),
+    /// The reads of this stream too, which the entry at this position gave.
+    Reads(u32, u64),
+    /// What is no call of a half. It had the reads of this stream, which the entry at this position gave, and released them to all.
+    Released(u32, u64),
 }
 
 /// Names what one caller may do. The keeper picks it where it numbers the caller.
@@ -71,6 +75,17 @@ impl RightName for NoHalf {
     ghost use Rattle.ymx_seats.specs.declared.plays.Right.TheVariants.{Free};
 
     ghost right = { Free };
+}
+
+/// The right of the reading half of a stream, for whose writing half this names the right.
+pub struct ReadsOf<D: RightName> {
+    of: PhantomData<D>,
+}
+
+impl<D: RightName> RightName for ReadsOf<D> {
+    ghost use Rattle.ymx_seats.specs.Journals.{reads_of};
+
+    ghost right = { reads_of D.right };
 }
 
 /// What a pass knows. The keeper's knows the whole history, and what each caller may do that was numbered; that of a caller
@@ -122,6 +137,15 @@ impl Play<u8, Knowledge> for Shows {
     ghost use Rattle.ymx_seats.specs.Journals.{HasShown};
 
     ghost then = { λ _ v _ w. HasShown v w };
+}
+
+/// The caller whose number the keeper holds releases its reads to all.
+pub(crate) struct ReleasesReads;
+
+impl Play<u8, Knowledge> for ReleasesReads {
+    ghost use Rattle.ymx_seats.specs.Journals.{HasReleased};
+
+    ghost then = { λ _ v _ w. HasReleased v w };
 }
 
 /// The keeper finds that no caller to come has an entry.

@@ -1,4 +1,5 @@
 use Rattle.std.proofs.Common.{ℕ, ◌≡◌, ◌⊎◌, ◌∙◌, length, refl, sym, ap, subst, Option, arith, rules}
+use Rattle.std.specs.Prelude.{Contains}
 use Rattle.ymx_machine.specs.declared.types.Reply.{Reply as ReplyOf}
 use Rattle.ymx_machine.specs.declared.types.Reply.TheVariants as reply
 use Rattle.ymx_model.specs.session.Events.{Event}
@@ -10,11 +11,12 @@ use Rattle.ymx_hub.specs.declared.stream_calls.HalfCall.{HalfCall}
 use Rattle.ymx_hub.specs.declared.stream_calls.HalfCall.TheVariants as half
 use Rattle.ymx_hub.specs.Books.{to_end, to_forget}
 use Rattle.ymx_hub.specs.Booked.{BookedView, spent, Kept, IsJournaled}
+use Rattle.ymx_hub.specs.Rights.{AllReleased}
 use Rattle.ymx_hub.proofs.History.{kept_after, kept_twice}
 use Rattle.ymx_hub.proofs.Books.{spends_one, spends_two, books_none}
 use Rattle.ymx_hub.proofs.Gained.{gained_none, gained_one, spent_adds_none}
 use Rattle.ymx_hub.proofs.Extends.{behind_at, journal_at, entries_at, after_at}
-use Rattle.ymx_hub.proofs.Journals.{journaled_after, journaled_twice, half_known, may_end}
+use Rattle.ymx_hub.proofs.Journals.{journaled_after, journaled_twice, all_after, all_twice, half_known, may_end}
 use Rattle.ymx_hub.proofs.Spares.{half_spares}
 use Rattle.ymx_hub.proofs.Steps.{gives_at, spends_first, spends_second, steps_of}
 use Rattle.ymx_hub.proofs.booked.Booked.end_half.Goals as goal
@@ -37,9 +39,10 @@ invariant_of-self-2 g c = (
   c.self.invariant.2,
   c.self.invariant.3,
   journaled_twice g.R.Recorder.WITNESSED g.R.Naming.role g.R.Naming.config c.self.inside.role c.self.inside.config c.self.inside.log.journal c.carry_out-told.new.log.journal c.carry_out.new.log.journal c.self.inside.session c.carry_out-told.new.session c.carry_out.new.session c.self.inside.given
-      c.args.seat.now.number (to_end c.args.half_call c.args.id) (done_or c.done-ended.result) c.carry_out-told.new.seat.number (to_forget c.args.id) (in_buffer c.carry_out.new.buffer c.carry_out.result) c.args.seat.now.right c.carry_out-told.new.seat.right c.self.invariant.4
+      c.args.seat.now.number (to_end c.args.half_call c.args.id) (done_or c.done-ended.result) c.carry_out-told.new.seat.number (to_forget c.args.id) (in_buffer c.carry_out.new.buffer c.carry_out.result) c.args.seat.now.right c.carry_out-told.new.seat.right c.self.inside.released c.self.invariant.4
       (gives_at _ _ _ _ _ _ c.event-event.ensures (c.done-ended.ensures c.carry_out-told.new.buffer) c.carry_out-told.ensures.event) (journal_at _ c.args.seat.now.number _ (to_end c.args.half_call c.args.id) _ (done_or c.done-ended.result) _ c.self.inside.log.journal _ c.carry_out-told.ensures.journal (c.prepare-2.ensures.number ∙ c.prepare.ensures.number) c.event-event.ensures (c.done-ended.ensures c.carry_out-told.new.buffer) (c.prepare-2.ensures.journal ∙ c.prepare.ensures.journal)) c.carry_out.ensures.event (journal_at _ _ _ (to_forget c.args.id) _ (in_buffer c.carry_out.new.buffer c.carry_out.result) _ _ _ c.carry_out.ensures.journal refl refl refl refl)
-      (half_known c.args.seat.now.number _ c.args.seat.now.right _ c.self.inside.log.journal _ (c.prepare-2.ensures.number ∙ c.prepare.ensures.number) (c.prepare-2.ensures.right ∙ c.prepare.ensures.right) (c.prepare-2.ensures.journal ∙ c.prepare.ensures.journal) c.carry_out-told.ensures.known) (λ w. may_end c.args.half_call c.args.id c.args.seat.now.right (c.requires.may w)) c.carry_out.ensures.known (λ w. tt),
+      (half_known c.args.seat.now.number _ c.args.seat.now.right _ c.self.inside.log.journal _ (c.prepare-2.ensures.number ∙ c.prepare.ensures.number) (c.prepare-2.ensures.right ∙ c.prepare.ensures.right) (c.prepare-2.ensures.journal ∙ c.prepare.ensures.journal) c.carry_out-told.ensures.known) c.self.invariant.5 (λ w. may_end (Contains c.self.inside.released) c.args.half_call c.args.id c.args.seat.now.right (c.requires.may w)) c.carry_out.ensures.known (λ w. tt),
+  all_twice c.self.inside.released c.self.inside.log.journal c.carry_out-told.new.log.journal c.carry_out.new.log.journal c.args.seat.now.number (to_end c.args.half_call c.args.id) (done_or c.done-ended.result) c.carry_out-told.new.seat.number (to_forget c.args.id) (in_buffer c.carry_out.new.buffer c.carry_out.result) (journal_at _ c.args.seat.now.number _ (to_end c.args.half_call c.args.id) _ (done_or c.done-ended.result) _ c.self.inside.log.journal _ c.carry_out-told.ensures.journal (c.prepare-2.ensures.number ∙ c.prepare.ensures.number) c.event-event.ensures (c.done-ended.ensures c.carry_out-told.new.buffer) (c.prepare-2.ensures.journal ∙ c.prepare.ensures.journal)) (journal_at _ _ _ (to_forget c.args.id) _ (in_buffer c.carry_out.new.buffer c.carry_out.result) _ _ _ c.carry_out.ensures.journal refl refl refl refl) c.self.invariant.5,
 )
 
 pub invariant_of-self-then-not-second : goal.invariant_of-self-then-not-second
@@ -53,9 +56,11 @@ invariant_of-self-then-not-second g c = (
   c.self.invariant.3,
   subst (λ (j : Option JournalView). IsJournaled g.R.Recorder.WITNESSED g.R.Naming.role g.R.Naming.config c.self.inside.role c.self.inside.config j c.carry_out-told.new.session c.self.inside.given)
       (sym (journal_at _ c.args.seat.now.number _ (to_end c.args.half_call c.args.id) _ (done_or c.done-ended.result) _ c.self.inside.log.journal _ c.carry_out-told.ensures.journal (c.prepare-2.ensures.number ∙ c.prepare.ensures.number) c.event-event.ensures (c.done-ended.ensures c.carry_out-told.new.buffer) (c.prepare-2.ensures.journal ∙ c.prepare.ensures.journal)))
-      (journaled_after g.R.Recorder.WITNESSED g.R.Naming.role g.R.Naming.config c.self.inside.role c.self.inside.config c.self.inside.log.journal c.self.inside.session c.carry_out-told.new.session c.self.inside.given c.args.seat.now.number (to_end c.args.half_call c.args.id) (done_or c.done-ended.result) c.args.seat.now.right c.self.invariant.4
+      (journaled_after g.R.Recorder.WITNESSED g.R.Naming.role g.R.Naming.config c.self.inside.role c.self.inside.config c.self.inside.log.journal c.self.inside.session c.carry_out-told.new.session c.self.inside.given c.args.seat.now.number (to_end c.args.half_call c.args.id) (done_or c.done-ended.result) c.args.seat.now.right c.self.inside.released c.self.invariant.4
       (gives_at _ _ _ _ _ _ c.event-event.ensures (c.done-ended.ensures c.carry_out-told.new.buffer) c.carry_out-told.ensures.event)
-      (half_known c.args.seat.now.number _ c.args.seat.now.right _ c.self.inside.log.journal _ (c.prepare-2.ensures.number ∙ c.prepare.ensures.number) (c.prepare-2.ensures.right ∙ c.prepare.ensures.right) (c.prepare-2.ensures.journal ∙ c.prepare.ensures.journal) c.carry_out-told.ensures.known) (λ w. may_end c.args.half_call c.args.id c.args.seat.now.right (c.requires.may w))),
+      (half_known c.args.seat.now.number _ c.args.seat.now.right _ c.self.inside.log.journal _ (c.prepare-2.ensures.number ∙ c.prepare.ensures.number) (c.prepare-2.ensures.right ∙ c.prepare.ensures.right) (c.prepare-2.ensures.journal ∙ c.prepare.ensures.journal) c.carry_out-told.ensures.known) c.self.invariant.5 (λ w. may_end (Contains c.self.inside.released) c.args.half_call c.args.id c.args.seat.now.right (c.requires.may w))),
+  subst (AllReleased c.self.inside.released) (sym (journal_at _ c.args.seat.now.number _ (to_end c.args.half_call c.args.id) _ (done_or c.done-ended.result) _ c.self.inside.log.journal _ c.carry_out-told.ensures.journal (c.prepare-2.ensures.number ∙ c.prepare.ensures.number) c.event-event.ensures (c.done-ended.ensures c.carry_out-told.new.buffer) (c.prepare-2.ensures.journal ∙ c.prepare.ensures.journal)))
+      (all_after c.self.inside.released c.self.inside.log.journal c.args.seat.now.number (to_end c.args.half_call c.args.id) (done_or c.done-ended.result) c.self.invariant.5),
 )
 
 pub returns-then-not-second-clause-booked : goal.returns-then-not-second-clause-booked
@@ -91,18 +96,18 @@ returns-clause-off g c = λ _.
 pub returns-then-not-second-clause-steps : goal.returns-then-not-second-clause-steps
 returns-then-not-second-clause-steps g c =
     spends_first (to_end c.args.half_call c.args.id) g.R.Recorder.KEEPS c.args.seat.now.number c.args.id c.done-ended.result c.answered.result c.args.self.now _ (cc) c.answered.ensures
-    (steps_of g.R.Recorder.KEEPS (to_end c.args.half_call c.args.id) (done_or c.done-ended.result) c.args.seat.now.number (spent c.args.id c.args.self.now) _ _ c.self.inside.session _ c.self.inside.log.entries _ c.self.inside.log.journal _ _ _ _ _ (cc) (gives_at _ _ _ _ _ _ c.event-event.ensures (c.done-ended.ensures c.carry_out-told.new.buffer) c.carry_out-told.ensures.event)
+    (steps_of g.R.Recorder.KEEPS (to_end c.args.half_call c.args.id) (done_or c.done-ended.result) c.args.seat.now.number (spent c.args.id c.args.self.now) _ _ c.self.inside.session _ c.self.inside.log.entries _ c.self.inside.log.journal _ _ _ _ _ _ (cc) (gives_at _ _ _ _ _ _ c.event-event.ensures (c.done-ended.ensures c.carry_out-told.new.buffer) c.carry_out-told.ensures.event)
     (after_at g.R.Recorder.KEEPS _ c.args.seat.now.number _ (to_end c.args.half_call c.args.id) _ (done_or c.done-ended.result) _ c.self.inside.log.entries _ c.carry_out-told.ensures.entries (c.prepare-2.ensures.number ∙ c.prepare.ensures.number) c.event-event.ensures (c.done-ended.ensures c.carry_out-told.new.buffer) (c.prepare-2.ensures.entries ∙ c.prepare.ensures.entries))
     (journal_at _ c.args.seat.now.number _ (to_end c.args.half_call c.args.id) _ (done_or c.done-ended.result) _ c.self.inside.log.journal _ c.carry_out-told.ensures.journal (c.prepare-2.ensures.number ∙ c.prepare.ensures.number) c.event-event.ensures (c.done-ended.ensures c.carry_out-told.new.buffer) (c.prepare-2.ensures.journal ∙ c.prepare.ensures.journal)))
 
 pub returns-clause-steps : goal.returns-clause-steps
 returns-clause-steps g c =
-    let mid : BookedView = record { role = c.self.inside.role; config = c.self.inside.config; session = c.carry_out-told.new.session; entries = c.carry_out-told.new.log.entries; journal = c.carry_out-told.new.log.journal; given = c.self.inside.given; unspent = c.self.inside.unspent; half_spent = c.self.inside.half_spent.keys; ended = c.self.inside.ended } in
+    let mid : BookedView = record { role = c.self.inside.role; config = c.self.inside.config; session = c.carry_out-told.new.session; entries = c.carry_out-told.new.log.entries; journal = c.carry_out-told.new.log.journal; given = c.self.inside.given; unspent = c.self.inside.unspent; half_spent = c.self.inside.half_spent.keys; released = c.self.inside.released; ended = c.self.inside.ended } in
     spends_second (to_end c.args.half_call c.args.id) g.R.Recorder.KEEPS c.args.seat.now.number c.args.id c.done-ended.result (in_buffer c.carry_out.new.buffer c.carry_out.result) c.answered-2.result c.args.self.now mid _ (cc) c.answered-2.ensures
-    (steps_of g.R.Recorder.KEEPS (to_end c.args.half_call c.args.id) (done_or c.done-ended.result) c.args.seat.now.number (spent c.args.id c.args.self.now) _ _ c.self.inside.session _ c.self.inside.log.entries _ c.self.inside.log.journal _ _ _ _ _ (cc) (gives_at _ _ _ _ _ _ c.event-event.ensures (c.done-ended.ensures c.carry_out-told.new.buffer) c.carry_out-told.ensures.event)
+    (steps_of g.R.Recorder.KEEPS (to_end c.args.half_call c.args.id) (done_or c.done-ended.result) c.args.seat.now.number (spent c.args.id c.args.self.now) _ _ c.self.inside.session _ c.self.inside.log.entries _ c.self.inside.log.journal _ _ _ _ _ _ (cc) (gives_at _ _ _ _ _ _ c.event-event.ensures (c.done-ended.ensures c.carry_out-told.new.buffer) c.carry_out-told.ensures.event)
     (after_at g.R.Recorder.KEEPS _ c.args.seat.now.number _ (to_end c.args.half_call c.args.id) _ (done_or c.done-ended.result) _ c.self.inside.log.entries _ c.carry_out-told.ensures.entries (c.prepare-2.ensures.number ∙ c.prepare.ensures.number) c.event-event.ensures (c.done-ended.ensures c.carry_out-told.new.buffer) (c.prepare-2.ensures.entries ∙ c.prepare.ensures.entries))
     (journal_at _ c.args.seat.now.number _ (to_end c.args.half_call c.args.id) _ (done_or c.done-ended.result) _ c.self.inside.log.journal _ c.carry_out-told.ensures.journal (c.prepare-2.ensures.number ∙ c.prepare.ensures.number) c.event-event.ensures (c.done-ended.ensures c.carry_out-told.new.buffer) (c.prepare-2.ensures.journal ∙ c.prepare.ensures.journal)))
-    (steps_of g.R.Recorder.KEEPS (to_forget c.args.id) (in_buffer c.carry_out.new.buffer c.carry_out.result) c.args.seat.now.number mid _ _ c.carry_out-told.new.session _ c.carry_out-told.new.log.entries _ c.carry_out-told.new.log.journal _ _ _ _ _ refl c.carry_out.ensures.event
+    (steps_of g.R.Recorder.KEEPS (to_forget c.args.id) (in_buffer c.carry_out.new.buffer c.carry_out.result) c.args.seat.now.number mid _ _ c.carry_out-told.new.session _ c.carry_out-told.new.log.entries _ c.carry_out-told.new.log.journal _ _ _ _ _ _ refl c.carry_out.ensures.event
     (after_at g.R.Recorder.KEEPS _ c.args.seat.now.number _ (to_forget c.args.id) _ (in_buffer c.carry_out.new.buffer c.carry_out.result) _ _ _ c.carry_out.ensures.entries (c.carry_out-told.ensures.number ∙ (c.prepare-2.ensures.number ∙ c.prepare.ensures.number)) refl refl refl)
     (journal_at _ c.args.seat.now.number _ (to_forget c.args.id) _ (in_buffer c.carry_out.new.buffer c.carry_out.result) _ _ _ c.carry_out.ensures.journal (c.carry_out-told.ensures.number ∙ (c.prepare-2.ensures.number ∙ c.prepare.ensures.number)) refl refl refl))
 
@@ -117,10 +122,10 @@ returns-in_err-next-clause-booked g c =
 
 pub returns-in_err-next-clause-alike : goal.returns-in_err-next-clause-alike
 returns-in_err-next-clause-alike g c =
-    let kept : c.self.inside.log.entries ≡ c.args.self.now.entries = spent_adds_none c.args.id c.args.self.now (record { role = c.self.inside.role; config = c.self.inside.config; session = c.self.inside.session; entries = c.self.inside.log.entries; journal = c.self.inside.log.journal; given = c.self.inside.given; unspent = c.self.inside.unspent; half_spent = c.self.inside.half_spent.keys; ended = c.self.inside.ended }) (cc) in
+    let kept : c.self.inside.log.entries ≡ c.args.self.now.entries = spent_adds_none c.args.id c.args.self.now (record { role = c.self.inside.role; config = c.self.inside.config; session = c.self.inside.session; entries = c.self.inside.log.entries; journal = c.self.inside.log.journal; given = c.self.inside.given; unspent = c.self.inside.unspent; half_spent = c.self.inside.half_spent.keys; released = c.self.inside.released; ended = c.self.inside.ended }) (cc) in
     gained_none _ _ _ _ (c.prepare-2.ensures.entries ∙ c.prepare.ensures.entries ∙ kept) (c.prepare-2.ensures.seat_entries ∙ c.prepare.ensures.seat_entries)
 
 pub returns-then-not-second-clause-alike : goal.returns-then-not-second-clause-alike
 returns-then-not-second-clause-alike g c =
-    let kept : c.self.inside.log.entries ≡ c.args.self.now.entries = spent_adds_none c.args.id c.args.self.now (record { role = c.self.inside.role; config = c.self.inside.config; session = c.self.inside.session; entries = c.self.inside.log.entries; journal = c.self.inside.log.journal; given = c.self.inside.given; unspent = c.self.inside.unspent; half_spent = c.self.inside.half_spent.keys; ended = c.self.inside.ended }) (cc) in
+    let kept : c.self.inside.log.entries ≡ c.args.self.now.entries = spent_adds_none c.args.id c.args.self.now (record { role = c.self.inside.role; config = c.self.inside.config; session = c.self.inside.session; entries = c.self.inside.log.entries; journal = c.self.inside.log.journal; given = c.self.inside.given; unspent = c.self.inside.unspent; half_spent = c.self.inside.half_spent.keys; released = c.self.inside.released; ended = c.self.inside.ended }) (cc) in
     gained_one _ _ _ _ _ _ _ (c.prepare-2.ensures.entries ∙ c.prepare.ensures.entries ∙ kept) c.carry_out-told.ensures.entries (c.prepare-2.ensures.seat_entries ∙ c.prepare.ensures.seat_entries) c.carry_out-told.ensures.seat_entries

@@ -1,18 +1,23 @@
-use Rattle.std.proofs.Common.{rules, ◌∙◌, ℕ, ◌+◌, Option, Some, None, Ok, Err, length, refl, sym, ap, subst}
+use Rattle.std.proofs.Common.{◌≡◌, rules, ◌∙◌, ℕ, ◌+◌, [], Option, Some, None, Ok, Err, length, refl, sym, ap, subst}
+use Rattle.std.specs.Prelude.{Contains}
 use Rattle.ymx_session.specs.Applied.{in_buffer}
-use Rattle.ymx_hub.specs.Books.{GivesStream}
+use Rattle.ymx_hub.specs.Books.{IsFresh, GivesStream}
 use Rattle.ymx_machine.specs.declared.types.Reply.TheVariants as reply
 use Rattle.ymx_seats.specs.Journals.{JournalView}
-use Rattle.ymx_seats.specs.Views.{whole_of}
+use Rattle.ymx_seats.specs.Views.{SeatView, IsNewcomer, whole_of}
 use Rattle.ymx_hub.specs.Booked.{Kept, IsJournaled}
 use Rattle.ymx_hub.proofs.History.{kept_after}
 use Rattle.ymx_hub.proofs.Books.{books_one, given_one, refused_one}
 use Rattle.ymx_hub.proofs.Extends.{behind_at, journal_at, entries_at, after_at, kept_longer}
-use Rattle.ymx_hub.specs.Rights.{handed_out}
-use Rattle.ymx_hub.proofs.Journals.{journaled_given, half_known}
+use Rattle.ymx_hub.specs.Rights.{AllReleased, handed_out}
+use Rattle.ymx_hub.proofs.Journals.{journaled_after, journaled_given, all_after, all_given, half_known}
 use Rattle.ymx_hub.proofs.Rights.{asks_freely}
 use Rattle.ymx_hub.proofs.WholeHistories.{witnessed_of}
 use Rattle.ymx_hub.proofs.booked.Booked.give.Goals as goal
+
+-- a new seat has made no call
+fresh : (n : ℕ) (seat : SeatView) → seat.entries ≡ [] → seat.number ≡ n → IsNewcomer n seat.seen → IsFresh seat
+fresh n seat none by new = (none, subst (λ (m : ℕ). IsNewcomer m seat.seen) (sym by) new)
 
 pub hand_out-first-requires-clause-history : goal.hand_out-first-requires-clause-history
 hand_out-first-requires-clause-history g c = witnessed_of g.R.Recorder.WITNESSED g.R.Naming.role g.R.Naming.config _ c.carry_out-told.new.session c.carry_out-told.ensures.history
@@ -26,9 +31,11 @@ invariant_of-self-in-Ok-Some g c = (
   search rules,
   subst (λ (n : ℕ). IsJournaled g.R.Recorder.WITNESSED g.R.Naming.role g.R.Naming.config c.self.inside.role c.self.inside.config c.hand_out-first.new.log.journal c.carry_out-told.new.session n) (sym c.hand_out-first.ensures.counted.0)
       (subst (λ (j : Option JournalView). IsJournaled g.R.Recorder.WITNESSED g.R.Naming.role g.R.Naming.config c.self.inside.role c.self.inside.config j c.carry_out-told.new.session (c.self.inside.given + 2)) (sym (ap (λ l. l.journal) c.hand_out-first.ensures.log ∙ ap (handed_out c.in-Ok-Some.id) (journal_at _ c.args.seat.now.number _ c.args.event.now _ (in_buffer c.carry_out-told.new.buffer c.carry_out-told.result) _ c.self.inside.log.journal _ c.carry_out-told.ensures.journal c.prepare.ensures.number refl refl c.prepare.ensures.journal)))
-      (journaled_given g.R.Recorder.WITNESSED g.R.Naming.role g.R.Naming.config c.self.inside.role c.self.inside.config c.self.inside.log.journal c.self.inside.session c.carry_out-told.new.session c.self.inside.given c.args.seat.now.number c.in-Ok-Some.id c.in-Ok-Some.taken c.args.event.now (in_buffer c.carry_out-told.new.buffer c.carry_out-told.result) c.args.seat.now.right c.self.invariant.4 c.carry_out-told.ensures.event
-      (half_known c.args.seat.now.number _ c.args.seat.now.right _ c.self.inside.log.journal _ c.prepare.ensures.number c.prepare.ensures.right c.prepare.ensures.journal c.carry_out-told.ensures.known) (λ w. asks_freely c.args.seat.now.right c.args.event.now c.requires)
+      (journaled_given g.R.Recorder.WITNESSED g.R.Naming.role g.R.Naming.config c.self.inside.role c.self.inside.config c.self.inside.log.journal c.self.inside.session c.carry_out-told.new.session c.self.inside.given c.args.seat.now.number c.in-Ok-Some.id c.in-Ok-Some.taken c.args.event.now (in_buffer c.carry_out-told.new.buffer c.carry_out-told.result) c.args.seat.now.right c.self.inside.released c.self.invariant.4 c.carry_out-told.ensures.event
+      (half_known c.args.seat.now.number _ c.args.seat.now.right _ c.self.inside.log.journal _ c.prepare.ensures.number c.prepare.ensures.right c.prepare.ensures.journal c.carry_out-told.ensures.known) c.self.invariant.5 (λ w. asks_freely (Contains c.self.inside.released) c.args.seat.now.right c.args.event.now c.requires)
       ((rw c.in-Ok-Some.field-0-is at c.in-Ok-Some.ensures) c.carry_out-told.new.buffer))),
+  subst (AllReleased c.self.inside.released) (sym (ap (λ l. l.journal) c.hand_out-first.ensures.log ∙ ap (handed_out c.in-Ok-Some.id) (journal_at _ c.args.seat.now.number _ c.args.event.now _ (in_buffer c.carry_out-told.new.buffer c.carry_out-told.result) _ c.self.inside.log.journal _ c.carry_out-told.ensures.journal c.prepare.ensures.number refl refl c.prepare.ensures.journal)))
+      (all_given c.self.inside.released c.in-Ok-Some.id _ (all_after c.self.inside.released c.self.inside.log.journal c.args.seat.now.number c.args.event.now (in_buffer c.carry_out-told.new.buffer c.carry_out-told.result) c.self.invariant.5)),
 )
 
 pub returns-in-Ok-Some-clause-booked : goal.returns-in-Ok-Some-clause-booked
@@ -42,7 +49,7 @@ returns-in-Ok-Some-clause-booked g c =
     (c.hand_out-first.ensures.second.3 ∙ ap whole_of (journal_at _ c.args.seat.now.number _ c.args.event.now _ (in_buffer c.carry_out-told.new.buffer c.carry_out-told.result) _ c.self.inside.log.journal _ c.carry_out-told.ensures.journal c.prepare.ensures.number refl refl c.prepare.ensures.journal))
     (kept_longer g.R.Recorder.KEEPS _ _ _ _ c.hand_out-first.ensures.first.1 c.carry_out-told.ensures.entries)
     (kept_longer g.R.Recorder.KEEPS _ _ _ _ c.hand_out-first.ensures.second.1 c.carry_out-told.ensures.entries)
-    c.hand_out-first.ensures.first.2 c.hand_out-first.ensures.second.2
+    (fresh _ c.hand_out-first.result.0 c.hand_out-first.ensures.first.2 c.hand_out-first.ensures.first.0 c.hand_out-first.ensures.first.4) (fresh _ c.hand_out-first.result.1 c.hand_out-first.ensures.second.2 c.hand_out-first.ensures.second.0 c.hand_out-first.ensures.second.4)
 
 pub returns-in-Err-clause-booked : goal.returns-in-Err-clause-booked
 returns-in-Err-clause-booked g c =
@@ -63,3 +70,29 @@ returns-in-Ok-None-clause-booked g c =
     (behind_at _ _ _ _ _ _ c.prepare.ensures.number c.prepare.ensures.seen c.prepare.ensures.journal c.carry_out-told.ensures.behind)
     (λ u. (length c.prepare.new.self.entries, refl))
     (λ p u. (p, refl))
+
+pub invariant_of-self-in-Err : goal.invariant_of-self-in-Err
+invariant_of-self-in-Err g c = (
+  subst (λ es. Kept g.R.Recorder.KEEPS c.self.inside.ended c.self.inside.role c.self.inside.config es c.carry_out-told.new.session) (sym (after_at g.R.Recorder.KEEPS _ c.args.seat.now.number _ c.args.event.now _ (in_buffer c.carry_out-told.new.buffer c.carry_out-told.result) _ c.self.inside.log.entries _ c.carry_out-told.ensures.entries c.prepare.ensures.number refl refl c.prepare.ensures.entries))
+      (kept_after g.R.Recorder.KEEPS c.self.inside.ended c.self.inside.role c.self.inside.config c.self.inside.log.entries c.self.inside.session c.carry_out-told.new.session c.args.seat.now.number c.args.event.now (in_buffer c.carry_out-told.new.buffer c.carry_out-told.result) c.self.invariant.0 c.carry_out-told.ensures.event),
+  search rules,
+  search rules,
+  search rules,
+  subst (λ (j : Option JournalView). IsJournaled g.R.Recorder.WITNESSED g.R.Naming.role g.R.Naming.config c.self.inside.role c.self.inside.config j c.carry_out-told.new.session c.self.inside.given) (sym (journal_at _ c.args.seat.now.number _ c.args.event.now _ (in_buffer c.carry_out-told.new.buffer c.carry_out-told.result) _ c.self.inside.log.journal _ c.carry_out-told.ensures.journal c.prepare.ensures.number refl refl c.prepare.ensures.journal))
+      (journaled_after g.R.Recorder.WITNESSED g.R.Naming.role g.R.Naming.config c.self.inside.role c.self.inside.config c.self.inside.log.journal c.self.inside.session c.carry_out-told.new.session c.self.inside.given c.args.seat.now.number c.args.event.now (in_buffer c.carry_out-told.new.buffer c.carry_out-told.result) c.args.seat.now.right c.self.inside.released c.self.invariant.4 c.carry_out-told.ensures.event
+      (half_known c.args.seat.now.number _ c.args.seat.now.right _ c.self.inside.log.journal _ c.prepare.ensures.number c.prepare.ensures.right c.prepare.ensures.journal c.carry_out-told.ensures.known) c.self.invariant.5 (λ w. asks_freely (Contains c.self.inside.released) c.args.seat.now.right c.args.event.now c.requires)),
+  subst (AllReleased c.self.inside.released) (sym (journal_at _ c.args.seat.now.number _ c.args.event.now _ (in_buffer c.carry_out-told.new.buffer c.carry_out-told.result) _ c.self.inside.log.journal _ c.carry_out-told.ensures.journal c.prepare.ensures.number refl refl c.prepare.ensures.journal)) (all_after c.self.inside.released c.self.inside.log.journal c.args.seat.now.number c.args.event.now (in_buffer c.carry_out-told.new.buffer c.carry_out-told.result) c.self.invariant.5),
+)
+
+pub invariant_of-self-in-Ok-None : goal.invariant_of-self-in-Ok-None
+invariant_of-self-in-Ok-None g c = (
+  subst (λ es. Kept g.R.Recorder.KEEPS c.self.inside.ended c.self.inside.role c.self.inside.config es c.carry_out-told.new.session) (sym (after_at g.R.Recorder.KEEPS _ c.args.seat.now.number _ c.args.event.now _ (in_buffer c.carry_out-told.new.buffer c.carry_out-told.result) _ c.self.inside.log.entries _ c.carry_out-told.ensures.entries c.prepare.ensures.number refl refl c.prepare.ensures.entries))
+      (kept_after g.R.Recorder.KEEPS c.self.inside.ended c.self.inside.role c.self.inside.config c.self.inside.log.entries c.self.inside.session c.carry_out-told.new.session c.args.seat.now.number c.args.event.now (in_buffer c.carry_out-told.new.buffer c.carry_out-told.result) c.self.invariant.0 c.carry_out-told.ensures.event),
+  search rules,
+  search rules,
+  search rules,
+  subst (λ (j : Option JournalView). IsJournaled g.R.Recorder.WITNESSED g.R.Naming.role g.R.Naming.config c.self.inside.role c.self.inside.config j c.carry_out-told.new.session c.self.inside.given) (sym (journal_at _ c.args.seat.now.number _ c.args.event.now _ (in_buffer c.carry_out-told.new.buffer c.carry_out-told.result) _ c.self.inside.log.journal _ c.carry_out-told.ensures.journal c.prepare.ensures.number refl refl c.prepare.ensures.journal))
+      (journaled_after g.R.Recorder.WITNESSED g.R.Naming.role g.R.Naming.config c.self.inside.role c.self.inside.config c.self.inside.log.journal c.self.inside.session c.carry_out-told.new.session c.self.inside.given c.args.seat.now.number c.args.event.now (in_buffer c.carry_out-told.new.buffer c.carry_out-told.result) c.args.seat.now.right c.self.inside.released c.self.invariant.4 c.carry_out-told.ensures.event
+      (half_known c.args.seat.now.number _ c.args.seat.now.right _ c.self.inside.log.journal _ c.prepare.ensures.number c.prepare.ensures.right c.prepare.ensures.journal c.carry_out-told.ensures.known) c.self.invariant.5 (λ w. asks_freely (Contains c.self.inside.released) c.args.seat.now.right c.args.event.now c.requires)),
+  subst (AllReleased c.self.inside.released) (sym (journal_at _ c.args.seat.now.number _ c.args.event.now _ (in_buffer c.carry_out-told.new.buffer c.carry_out-told.result) _ c.self.inside.log.journal _ c.carry_out-told.ensures.journal c.prepare.ensures.number refl refl c.prepare.ensures.journal)) (all_after c.self.inside.released c.self.inside.log.journal c.args.seat.now.number c.args.event.now (in_buffer c.carry_out-told.new.buffer c.carry_out-told.result) c.self.invariant.5),
+)

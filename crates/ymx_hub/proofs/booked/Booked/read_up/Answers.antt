@@ -1,5 +1,5 @@
 -- One read behind another, until nothing waits or nothing more comes.
-use Rattle.std.proofs.Common.{◌≡◌, length, subst, refl, Ok, Err, rules}
+use Rattle.std.proofs.Common.{◌≡◌, ◌∙◌, length, subst, refl, Ok, Err, rules}
 use Rattle.ymx_machine.specs.shared.Evidence.{evidence}
 use Rattle.ymx_model.specs.declared.types.Got.{Got}
 use Rattle.ymx_session.specs.Replies.{read_or}
@@ -11,6 +11,8 @@ use Rattle.ymx_hub.proofs.booked.Booked.read_up.Goals as goal
 pub loop-preserved : goal.loop-preserved
 loop-preserved g c = record {
   next = (tt, tt);
+  right = c.read.ensures.right ∙ c.loop.invariant.right;
+  released = c.read.ensures.released ∙ c.loop.invariant.released;
   reads = reads_on g.R.Recorder.KEEPS c.args.seat.now c.loop.seat c.read.new.seat c.args.id (length c.loop.buffer) c.read.new.buffer c.loop.invariant.reads c.read.result c.read.ensures.booked;
   halves = alike_on g.R.Recorder.KEEPS c.loop.seat.number c.args.id (length c.loop.buffer) c.read.new.buffer c.read.result c.args.self.now c.loop.self c.read.new.self c.loop.invariant.halves c.read.ensures.steps;
   others = stay_read g.R.Recorder.KEEPS c.loop.seat.number c.args.id (length c.loop.buffer) c.read.new.buffer c.read.result c.args.self.now.session c.loop.self c.read.new.self c.loop.invariant.others c.read.ensures.steps;
@@ -46,6 +48,8 @@ returns-in-Err-Call-clause-others g c = stay_read g.R.Recorder.KEEPS c.loop.seat
 
 pub returns-then-read_waits : goal.returns-then-read_waits
 returns-then-read_waits g c = record {
+  right = c.read.ensures.right ∙ c.loop.invariant.right;
+  released = c.read.ensures.released ∙ c.loop.invariant.released;
   booked = reads_stop g.R.Recorder.KEEPS c.args.seat.now c.read.new.seat c.args.id (reads_on g.R.Recorder.KEEPS c.args.seat.now c.loop.seat c.read.new.seat c.args.id (length c.loop.buffer) c.read.new.buffer c.loop.invariant.reads c.read.result c.read.ensures.booked);
   waits = λ e. c.read_waits.ensures.0 (search rules);
   halves = alike_on g.R.Recorder.KEEPS c.loop.seat.number c.args.id (length c.loop.buffer) c.read.new.buffer c.read.result c.args.self.now c.loop.self c.read.new.self c.loop.invariant.halves c.read.ensures.steps;

@@ -1,4 +1,4 @@
-use Rattle.std.proofs.Common.{◌<◌, length, Ok, ap, subst, arith, rules}
+use Rattle.std.proofs.Common.{◌<◌, ◌∙◌, length, Ok, ap, subst, arith, rules}
 use Rattle.ymx_model.specs.declared.types.Got.{Got}
 use Rattle.ymx_session.specs.Replies.{read_or}
 use Rattle.ymx_hub.specs.Answers.{GivesSome}
@@ -10,6 +10,7 @@ use Rattle.ymx_hub.proofs.hub.Hub.read.Goals as goal
 pub loop-preserved : goal.loop-preserved
 loop-preserved g c = record {
   next = (tt, tt);
+  right = c.read.ensures.right ∙ c.loop.invariant.right;
   same = search rules;
   waits = read_waits g.R.Recorder.KEEPS _ _ _ c.args.id (length c.args.buffer.now) (length c.loop.buffer) c.read.new.buffer c.loop.invariant.waits (ap length c.loop.invariant.same) (subst (λ (got : Got). Books g.R.Recorder.KEEPS c.loop.seat c.read.new.seat (Asks (to_read c.args.id (length c.loop.buffer)) (λ given. read_or given c.read.new.buffer) c.loop.seat.number (Ok got))) c.in-Ok-Wait.field-0-is c.in-Ok-Wait.ensures.booked);
 }

@@ -5,9 +5,9 @@ use Rattle.ymx_hub.proofs.shared.Shared.settle.Given as goal
 
 abbrev pub invariant-loop-done : goal.invariant-loop-done
 invariant-loop-done g l = record {
-  settles : Books g.R.Recorder.KEEPS l.initial.seat l.seat (SettlesAmong l.initial.self.released l.initial.seat.number);
-  left : LeavesSome l.initial.self.released l.self.released l.initial.self.booked l.self.booked;
-  within : l.count - l.done ≤ length l.self.released;
-  waits : WaitFrom l.self.booked.session l.self.released (l.count - l.done);
-  rest : l.self ≡ record l.initial.self { booked = l.self.booked; released = l.self.released };
+  settles : Books g.R.Recorder.KEEPS l.initial.seat l.seat (SettlesAmong l.initial.self.booked.released l.initial.seat.number);
+  left : LeavesSome l.initial.self.booked.released l.self.booked.released l.initial.self.booked l.self.booked;
+  within : l.count - l.done ≤ length l.self.booked.released;
+  waits : WaitFrom l.self.booked.session l.self.booked.released (l.count - l.done);
+  rest : l.self ≡ record l.initial.self { booked = l.self.booked };
 }
