@@ -1,5 +1,5 @@
 -- What the door says whose session has its history in proofs.
-use Rattle.std.proofs.Common.{◌≡◌, ℕ, List, [], ◌∷◌, ◌++◌, true, false, Option, Some, None, Result, Ok, sym, ap, subst, ◌∙◌, append_assoc, append-nil}
+use Rattle.std.proofs.Common.{◌≡◌, ℕ, List, [], ◌∷◌, ◌++◌, true, false, zero, suc, ◌+◌, Option, Some, None, Result, Ok, Err, refl, sym, ap, subst, ◌∙◌, inl, inr, arith, append_assoc, append-nil}
 use mathlib.Core.List.{IsPrefix}
 use Rattle.ymx_machine.specs.declared.types.Reply.TheVariants as reply
 use Rattle.ymx_model.specs.declared.types.Role.{Role}
@@ -10,20 +10,20 @@ use Rattle.ymx_seats.specs.Views.{SeatView, IsWitnessed}
 use Rattle.std.specs.Prelude.{IfOk}
 use Rattle.std.specs.Result.{result_and}
 use Rattle.ymx_hub.specs.declared.faults.HubFault.{HubFault}
-use Rattle.ymx_hub.specs.Books.{Books, Grows, Extends, Spends, to_finish}
-use Rattle.ymx_hub.specs.Halves.{HalfView, OpensHalves}
+use Rattle.ymx_hub.specs.Books.{Books, Grows, Extends, Spends, Closes, to_finish}
+use Rattle.ymx_hub.specs.Halves.{HalfView, OpensHalves, AcceptsHalves}
 use Rattle.ymx_hub.specs.Releasing.{Releases, IsDropped}
 use Rattle.ymx_seats.specs.declared.plays.Right.{Right}
-use Rattle.ymx_hub.specs.Rights.{MayWrite, SaysSole, WritesAlone}
+use Rattle.ymx_hub.specs.Rights.{MayWrite, MayRead, SaysSole, WritesAlone, ReadsAlone}
 use Rattle.ymx_hub.specs.Shown.{HasGrown, IsShown, BooksShown}
-use Rattle.ymx_hub.proofs.Rights.{writes_alone}
+use Rattle.ymx_hub.proofs.Rights.{writes_alone, reads_alone}
 use Rattle.ymx_hub.specs.Turns.{WriteTurns}
 use Rattle.ymx_connect.specs.declared.connect_fault.ConnectFault.{ConnectFault}
 use Rattle.ymx_connect.specs.declared.connect_fault.ConnectFault.TheVariants.{Session, Memory, NoThread}
 use Rattle.ymx_connect.specs.Connecting.{IsConnectFault}
 use Rattle.ymx_connect.specs.Settings.{IsLack}
-use Rattle.ymx_connect.specs.Streams.{ReadsUpTo}
-use Rattle.ymx_connect.specs.Told.{SeesLast, SeesRelease, ClosesStream, ReadsToEnd, StandsIn, Exchanges}
+use Rattle.ymx_connect.specs.Streams.{ReadsUpTo, Copies}
+use Rattle.ymx_connect.specs.Told.{SeesLast, SeesRelease, FinishesHalf, ClosesHalf, ClosesStream, ReadsToEnd, StandsIn, Exchanges, Echoes, EchoesNext, EchoesMany, HasEchoed}
 
 -- a session was made, and its pumps could not run
 pub lacks_later : (role : Role) (config : Config) (fault : ConnectFault) → new_fault role config ≡ None → IsLack fault → IsConnectFault role config fault
@@ -37,18 +37,22 @@ pub reads_to_end : (role : Role) (config : Config) (id : ℕ) (before after : Se
     ReadsToEnd role config bytes
 reads_to_end role config id before after bytes reads history = record { id = id; before = before; after = after; reads = reads; history = history }
 
-stands : (n : ℕ) (v w : Option (List Entry)) → HasGrown n v w → StandsIn v w
+pub stands : (n : ℕ) (v w : Option (List Entry)) → HasGrown n v w → StandsIn v w
 stands n None None g = tt
 stands n None (Some w) g = absurd g
 stands n (Some v) None g = absurd g
 stands n (Some v) (Some w) g = g.0
 
-stands_on : (v w x : Option (List Entry)) → StandsIn v w → StandsIn w x → StandsIn v x
+pub stands_on : (v w x : Option (List Entry)) → StandsIn v w → StandsIn w x → StandsIn v x
 stands_on None None x g h = h
 stands_on None (Some w) x g h = absurd g
 stands_on (Some v) None x g h = absurd g
 stands_on (Some v) (Some w) None g h = absurd h
 stands_on (Some v) (Some w) (Some x) g h = (g.0 ++ h.0, sym (append_assoc v g.0 h.0) ∙ ap (λ es. es ++ h.0) g.1 ∙ h.1)
+
+stands_itself : (v : Option (List Entry)) → StandsIn v v
+stands_itself None = tt
+stands_itself (Some es) = ([], append-nil es)
 
 stands_at : (v w x : Option (List Entry)) → StandsIn v w → x ≡ w → StandsIn v x
 stands_at v w x g e = subst (StandsIn v) (sym e) g
@@ -60,7 +64,7 @@ grows_stands n v (e ∷ es) w g =
     let on : IsPrefix ((v ++ g.0) ++ e ∷ []) w = grows_stands n ((v ++ g.0) ++ e ∷ []) es w g.3 in
     (g.0 ++ (e ∷ on.0), sym (append_assoc v g.0 (e ∷ on.0)) ∙ sym (append_assoc (v ++ g.0) (e ∷ []) on.0) ∙ on.1)
 
-extends_stands : (n : ℕ) (v w : Option (List Entry)) (Such : List Entry → Type 0) → Extends n v w Such → StandsIn v w
+pub extends_stands : (n : ℕ) (v w : Option (List Entry)) (Such : List Entry → Type 0) → Extends n v w Such → StandsIn v w
 extends_stands n None None Such e = tt
 extends_stands n None (Some w) Such e = absurd e
 extends_stands n (Some v) None Such e = absurd e
@@ -77,7 +81,7 @@ module _ (old new half : SeatView) (Such : List Entry → Type 0) (sees : SeesLa
       (stands booked.between.number booked.between.seen sees.last.seen booked.shown.grown))
       sees.seen
 
-  caller_stands : StandsIn old.seen new.seen
+  pub caller_stands : StandsIn old.seen new.seen
   caller_stands = stands old.number old.seen new.seen sees.shown.grown
 
 -- the caller meets the seat of a half behind its last call
@@ -89,6 +93,20 @@ pub last_alone : (role : Role) (config : Config) (id number n : ℕ) (right last
 last_alone role config id number n right last seen met may same by sole is history =
     writes_alone role config id number right seen may (subst (λ (x : Right × ℕ × Option (List Entry)). SaysSole x.0 x.1 x.2) (λ i. (same i, by i, sym is i)) sole) history
 
+-- nobody else has read a stream, whose reader was shown the history behind its last call
+pub last_reads_alone : (role : Role) (config : Config) (id number n : ℕ) (right last : Right) (seen met : Option (List Entry)) → MayRead right id → last ≡ right → n ≡ number → SaysSole last n met → seen ≡ met → IsWitnessed true role config seen → ReadsAlone id number seen
+last_reads_alone role config id number n right last seen met may same by sole is history =
+    reads_alone role config id number right seen may (subst (λ (x : Right × ℕ × Option (List Entry)). SaysSole x.0 x.1 x.2) (λ i. (same i, by i, sym is i)) sole) history
+
+-- where the last call of a half was not refused
+pub finishes_half : (old new : SeatView) (writer : HalfView) (answer : Result (Unit {0}) HubFault) → SeesLast old new writer.seat (Spends (to_finish writer.id) writer.id writer.seat.number answer) → WritesAlone writer.id writer.seat.number new.seen → IfOk answer (λ u. FinishesHalf old new writer)
+finishes_half old new writer (Ok u) sees sole = record { sees = sees; alone = sole }
+finishes_half old new writer (Err fault) sees sole = tt
+
+pub closes_half : (old new : SeatView) (reader : HalfView) (answer : Result (Unit {0}) HubFault) → SeesLast old new reader.seat (Closes reader.id reader.seat.number answer) → ReadsAlone reader.id reader.seat.number new.seen → IfOk answer (λ u. ClosesHalf old new reader)
+closes_half old new reader (Ok u) sees sole = record { sees = sees; alone = sole }
+closes_half old new reader (Err fault) sees sole = tt
+
 -- the half that is released is shown the history with its caller
 pub sees_release : (role : Role) (config : Config) (old new last : SeatView) (reader : HalfView) (answer : Result (Unit {0}) HubFault) → BooksShown false reader.seat last (Releases reader.id reader.seat.number answer) → IfOk answer (λ u. IsDropped false true role config reader.id reader.seat last) → IsShown old new → new.seen ≡ last.seen → SeesRelease role config old new reader answer
 sees_release role config old new last reader answer booked dropped mine same = record { sees = record { last = last; booked = booked; shown = mine; seen = same }; dropped = dropped }
@@ -99,31 +117,111 @@ pub closes_stream : (role : Role) (config : Config) (old between new : SeatView)
     answer ≡ result_and finished released → ClosesStream role config old new writer reader answer
 closes_stream role config old between new writer reader finished released answer f r a = record { between = between; finished = finished; released = released; finishes = f; releases = r; answered = a }
 
--- A stream that was opened, written and read up to the end. The caller spent its writing half behind the write, and its reading
--- half behind the reads.
-pub exchanges : (text bytes : List ℕ) (caller opened met last : SeatView) (made : HalfView × HalfView) (wrote read : SeatView) (u : Unit {0}) (First Next : List Entry → Type 0) →
-    Books false caller opened (OpensHalves caller.number (Ok made)) → Books false made.0.seat wrote (WriteTurns made.0.id text made.0.seat.number (Ok u)) →
-    SeesLast opened met wrote First → WritesAlone made.0.id made.0.seat.number met.seen →
-    Books false made.1.seat read (ReadsUpTo reply.ReadEnd made.1.id made.1.seat.number bytes) →
-    SeesLast met last read Next →
-    Exchanges text bytes last.seen
-exchanges text bytes caller opened met last made wrote read u First Next opens writes first alone reads next =
-    let on : StandsIn met.seen last.seen = caller_stands met last read Next next in record {
+-- A stream that was opened, written and finished, read up to the end and closed. `writer` and `reader` are its halves as they made their
+-- last calls.
+pub exchanges : (text bytes : List ℕ) (caller opened finished closed : SeatView) (made : HalfView × HalfView) (writer reader : HalfView) (u : Unit {0}) →
+    Books false caller opened (OpensHalves caller.number (Ok made)) → FinishesHalf opened finished writer → ClosesHalf finished closed reader →
+    Books false made.0.seat writer.seat (WriteTurns made.0.id text made.0.seat.number (Ok u)) → writer.id ≡ made.0.id →
+    Books false made.1.seat reader.seat (ReadsUpTo reply.ReadEnd made.1.id made.1.seat.number bytes) → reader.id ≡ made.1.id →
+    Exchanges text bytes closed.seen
+exchanges text bytes caller opened finished closed made writer reader u opens finishes closes writes here reads there = record {
+  caller = caller;
+  opened = opened;
+  writer = made.0;
+  reader = made.1;
+  wrote = writer.seat;
+  finished = finished;
+  read = reader.seat;
+  closed = closed;
+  opens = opens;
+  writes = writes;
+  finishes = subst (λ (it : ℕ). SeesLast opened finished writer.seat (Spends (to_finish it) it writer.seat.number (Ok tt))) here finishes.sees;
+  writes_alone = subst (λ (x : ℕ × ℕ). WritesAlone x.0 x.1 finished.seen) (λ i. (here i, writes.number i)) finishes.alone;
+  reads = reads;
+  closes = subst (λ (it : ℕ). SeesLast finished closed reader.seat (Closes it reader.seat.number (Ok tt))) there closes.sees;
+  reads_alone = subst (λ (x : ℕ × ℕ). ReadsAlone x.0 x.1 closed.seen) (λ i. (there i, reads.number i)) closes.alone;
+  within = stands_itself closed.seen;
+}
+
+-- A stream that was accepted, read up to the end, and sent back.
+pub echoes : (caller accepted finished closed : SeatView) (made : HalfView × HalfView) (writer reader : HalfView) (count : ℕ) →
+    Books false caller accepted (AcceptsHalves caller.number (Ok (Some made))) → FinishesHalf accepted finished writer → ClosesHalf finished closed reader →
+    Copies made.1 made.0 reader.seat writer.seat (Ok count) → (reader.id ≡ made.1.id) × (writer.id ≡ made.0.id) →
+    EchoesNext caller.seen closed.seen
+echoes caller accepted finished closed made writer reader count accepts finishes closes copied ids = (made.0.id, copied.0, it, refl)
+  where
+    it : Echoes made.0.id copied.0 closed.seen
+    it = record {
       caller = caller;
-      opened = opened;
+      accepted = accepted;
       writer = made.0;
       reader = made.1;
-      wrote = wrote;
-      spent = met;
-      read = read;
-      opens = opens;
-      writes = writes;
-      reads = reads;
-      alone = alone;
-      within = (
-        stands_on opened.seen met.seen last.seen (caller_stands opened met wrote First first) on,
-        half_stands opened met wrote First first,
-        on,
-        half_stands met last read Next next,
-      );
+      read = reader.seat;
+      wrote = writer.seat;
+      finished = finished;
+      closed = closed;
+      same = refl;
+      accepts = accepts;
+      reads = copied.2.0;
+      writes = copied.2.1;
+      finishes = subst (λ (it : ℕ). SeesLast accepted finished writer.seat (Spends (to_finish it) it writer.seat.number (Ok tt))) ids.1 finishes.sees;
+      writes_alone = subst (λ (x : ℕ × ℕ). WritesAlone x.0 x.1 finished.seen) (λ i. (ids.1 i, copied.2.1.number i)) finishes.alone;
+      closes = subst (λ (it : ℕ). SeesLast finished closed reader.seat (Closes it reader.seat.number (Ok tt))) ids.0 closes.sees;
+      reads_alone = subst (λ (x : ℕ × ℕ). ReadsAlone x.0 x.1 closed.seen) (λ i. (ids.0 i, copied.2.0.number i)) closes.alone;
+      within = stands_itself closed.seen;
     }
+
+-- it stands in the history that is seen later too
+pub echoes_on : (id : ℕ) (bytes : List ℕ) (seen later : Option (List Entry)) → Echoes id bytes seen → StandsIn seen later → Echoes id bytes later
+echoes_on id bytes seen later e s = record {
+  caller = e.caller;
+  accepted = e.accepted;
+  writer = e.writer;
+  reader = e.reader;
+  read = e.read;
+  wrote = e.wrote;
+  finished = e.finished;
+  closed = e.closed;
+  same = e.same;
+  accepts = e.accepts;
+  reads = e.reads;
+  writes = e.writes;
+  finishes = e.finishes;
+  writes_alone = e.writes_alone;
+  closes = e.closes;
+  reads_alone = e.reads_alone;
+  within = stands_on e.closed.seen seen later e.within s;
+}
+
+-- ---- many streams, one after another
+
+pub none_echoed : (seen : Option (List Entry)) → EchoesMany 0 seen
+none_echoed seen = tt
+
+-- they stand in the history that is seen later
+pub many_on : (count : ℕ) (seen later : Option (List Entry)) → EchoesMany count seen → StandsIn seen later → EchoesMany count later
+unfolding echoes_on
+many_on zero seen later e s = tt
+many_on (suc count) seen later e s = (e.0, e.1, echoes_on e.0 e.1 seen later e.2 s, e.3)
+
+-- one more
+pub many_more : (count : ℕ) (seen later : Option (List Entry)) → EchoesMany count seen → EchoesNext seen later → EchoesMany (count + 1) later
+many_more count seen later e n = subst (λ (many : ℕ). EchoesMany many later) (next count) (n.0, n.1, n.2, subst (EchoesMany count) (sym n.3) e)
+  where
+    next : (count : ℕ) → suc count ≡ count + 1
+    next count = omega arith
+
+-- what its caller had seen before stands in the history with an echo
+echo_grows : (id : ℕ) (bytes : List ℕ) (seen : Option (List Entry)) (e : Echoes id bytes seen) → StandsIn e.caller.seen seen
+echo_grows id bytes seen e =
+    stands_on e.caller.seen e.accepted.seen seen (extends_stands e.caller.number e.caller.seen e.accepted.seen (AcceptsHalves e.caller.number (Ok (Some (e.writer, e.reader)))) e.accepts.extends)
+    (stands_on e.accepted.seen e.finished.seen seen (caller_stands e.accepted e.finished e.wrote (Spends (to_finish e.writer.id) e.writer.id e.wrote.number (Ok tt)) e.finishes)
+    (stands_on e.finished.seen e.closed.seen seen (caller_stands e.finished e.closed e.read (Closes e.reader.id e.read.number (Ok tt)) e.closes) e.within))
+
+-- each of many stands in the history
+pub one_of_many : (id count : ℕ) (seen : Option (List Entry)) (m : EchoesMany count seen) → HasEchoed id count seen m → (bytes : List ℕ) × Echoes id bytes seen
+one_of_many id zero seen m h = absurd h
+one_of_many id (suc count) seen m (inl e) = (m.1, subst (λ (it : ℕ). Echoes it m.1 seen) e m.2)
+one_of_many id (suc count) seen m (inr h) =
+    let t : (bytes : List ℕ) × Echoes id bytes m.2.caller.seen = one_of_many id count m.2.caller.seen m.3 h in
+    (t.0, echoes_on id t.0 m.2.caller.seen seen t.1 (echo_grows m.0 m.1 seen m.2))

@@ -1,5 +1,5 @@
 -- What the door says whose session has its history in proofs (this project's own).
-use Rattle.std.specs.Prelude.{◌≡◌, ℕ, List, true, false, Option, Some, None, Result, Ok, IfOk}
+use Rattle.std.specs.Prelude.{◌≡◌, ◌⊎◌, ℕ, zero, suc, List, true, false, Option, Some, None, Result, Ok, IfOk}
 use Rattle.std.specs.Result.{result_and}
 use mathlib.Core.List.{IsPrefix}
 use Rattle.ymx_machine.specs.declared.types.Reply.TheVariants as reply
@@ -7,14 +7,14 @@ use Rattle.ymx_model.specs.declared.types.Role.{Role}
 use Rattle.ymx_model.specs.declared.types.Config.{Config}
 use Rattle.ymx_model.specs.declared.types.Entry.{Entry}
 use Rattle.ymx_seats.specs.Views.{SeatView, IsWitnessed}
-use Rattle.ymx_hub.specs.Books.{Books, Spends, to_finish}
+use Rattle.ymx_hub.specs.Books.{Books, Spends, Closes, to_finish}
 use Rattle.ymx_hub.specs.Releasing.{Releases, IsDropped}
-use Rattle.ymx_hub.specs.Rights.{WritesAlone}
+use Rattle.ymx_hub.specs.Rights.{WritesAlone, ReadsAlone}
 use Rattle.ymx_hub.specs.Shown.{IsShown, BooksShown}
 use Rattle.ymx_hub.specs.declared.faults.HubFault.{HubFault}
-use Rattle.ymx_hub.specs.Halves.{HalfView, OpensHalves}
+use Rattle.ymx_hub.specs.Halves.{HalfView, OpensHalves, AcceptsHalves}
 use Rattle.ymx_hub.specs.Turns.{WriteTurns}
-use Rattle.ymx_connect.specs.Streams.{ReadsUpTo}
+use Rattle.ymx_connect.specs.Streams.{ReadsUpTo, WritesOn}
 
 -- ---- what the calls do
 
@@ -26,7 +26,17 @@ pub record SeesLast (old new half : SeatView) (Such : List Entry → Type 0) : T
   pub shown : IsShown old new
   pub seen : new.seen ≡ last.seen
 
--- The same of a reading half that was released. Unless that was refused, nothing of its stream is left that had come.
+-- The writing half of a stream made its last call, and finished it. Nobody else had written, finished or reset it.
+pub record FinishesHalf (old new : SeatView) (writer : HalfView) : Type 0 where
+  pub sees : SeesLast old new writer.seat (Spends (to_finish writer.id) writer.id writer.seat.number (Ok tt))
+  pub alone : WritesAlone writer.id writer.seat.number new.seen
+
+-- The reading half of a stream made its last call, and was closed. Nobody else had read it.
+pub record ClosesHalf (old new : SeatView) (reader : HalfView) : Type 0 where
+  pub sees : SeesLast old new reader.seat (Closes reader.id reader.seat.number (Ok tt))
+  pub alone : ReadsAlone reader.id reader.seat.number new.seen
+
+-- A reading half made its last call, and was released. Unless that was refused, nothing of its stream is left that had come.
 pub record SeesRelease (role : Role) (config : Config) (old new : SeatView) (reader : HalfView) (answer : Result (Unit {0}) HubFault) : Type 0 where
   pub sees : SeesLast old new reader.seat (Releases reader.id reader.seat.number answer)
   pub dropped : IfOk answer (λ _. IsDropped false true role config reader.id reader.seat sees.last)
@@ -58,18 +68,57 @@ StandsIn None None = Unit {0}
 StandsIn (Some seen) (Some later) = IsPrefix seen later
 StandsIn _ _ = ⊥
 
--- In this history a caller opened a stream, the text was written to it, and reads of it gave these bytes, up to the end. Nobody else
--- had written to it as its writing half was spent.
+-- In this history a caller opened a stream, the text was written to it, and it was finished; reads of it gave these bytes, up to the
+-- end, and its reading half was closed. Nobody else had written to it as it was finished, or read it as it was closed.
 pub record Exchanges (text bytes : List ℕ) (seen : Option (List Entry)) : Type 0 where
   pub caller : SeatView
   pub opened : SeatView
   pub writer : HalfView
   pub reader : HalfView
   pub wrote : SeatView
-  pub spent : SeatView
+  pub finished : SeatView
   pub read : SeatView
+  pub closed : SeatView
   pub opens : Books false caller opened (OpensHalves caller.number (Ok (writer, reader)))
   pub writes : Books false writer.seat wrote (WriteTurns writer.id text writer.seat.number (Ok tt))
+  pub finishes : SeesLast opened finished wrote (Spends (to_finish writer.id) writer.id wrote.number (Ok tt))
+  pub writes_alone : WritesAlone writer.id writer.seat.number finished.seen
   pub reads : Books false reader.seat read (ReadsUpTo reply.ReadEnd reader.id reader.seat.number bytes)
-  pub alone : WritesAlone writer.id writer.seat.number spent.seen
-  pub within : StandsIn opened.seen seen × StandsIn wrote.seen spent.seen × StandsIn spent.seen seen × StandsIn read.seen seen
+  pub closes : SeesLast finished closed read (Closes reader.id read.number (Ok tt))
+  pub reads_alone : ReadsAlone reader.id reader.seat.number closed.seen
+  pub within : StandsIn closed.seen seen
+
+-- In this history a caller accepted this stream, reads of it gave these bytes, up to the end, and they were written to it; it was
+-- finished, and its reading half was closed. Nobody else had written to it as it was finished, or read it as it was closed.
+pub record Echoes (id : ℕ) (bytes : List ℕ) (seen : Option (List Entry)) : Type 0 where
+  pub caller : SeatView
+  pub accepted : SeatView
+  pub writer : HalfView
+  pub reader : HalfView
+  pub read : SeatView
+  pub wrote : SeatView
+  pub finished : SeatView
+  pub closed : SeatView
+  pub same : writer.id ≡ id
+  pub accepts : Books false caller accepted (AcceptsHalves caller.number (Ok (Some (writer, reader))))
+  pub reads : Books false reader.seat read (ReadsUpTo reply.ReadEnd reader.id reader.seat.number bytes)
+  pub writes : Books false writer.seat wrote (WritesOn writer.id writer.seat.number bytes)
+  pub finishes : SeesLast accepted finished wrote (Spends (to_finish writer.id) writer.id wrote.number (Ok tt))
+  pub writes_alone : WritesAlone writer.id writer.seat.number finished.seen
+  pub closes : SeesLast finished closed read (Closes reader.id read.number (Ok tt))
+  pub reads_alone : ReadsAlone reader.id reader.seat.number closed.seen
+  pub within : StandsIn closed.seen seen
+
+-- One stream was echoed, accepted by a caller that had seen this history before, and it stands in this one.
+abbrev pub EchoesNext : (before seen : Option (List Entry)) → Type 0
+EchoesNext before seen = (id : ℕ) × (bytes : List ℕ) × (e : Echoes id bytes seen) × (e.caller.seen ≡ before)
+
+-- So many streams were echoed in this history, one after another.
+abbrev pub EchoesMany : (count : ℕ) → (seen : Option (List Entry)) → Type 0
+EchoesMany zero seen = Unit {0}
+EchoesMany (suc count) seen = (id : ℕ) × (bytes : List ℕ) × (e : Echoes id bytes seen) × EchoesMany count e.caller.seen
+
+-- this stream is one of them
+abbrev pub HasEchoed : (id count : ℕ) → (seen : Option (List Entry)) → EchoesMany count seen → Type 0
+HasEchoed id zero seen e = ⊥
+HasEchoed id (suc count) seen e = (e.0 ≡ id) ⊎ HasEchoed id count e.2.caller.seen e.3

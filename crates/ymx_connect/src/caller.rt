@@ -8,7 +8,7 @@ ghost use Rattle.ymx_seats.specs.Views.{IsWitnessed};
 ghost use Rattle.ymx_hub.specs.Answers.{IsNotMemory};
 ghost use Rattle.ymx_hub.specs.Books.{Books, Asks, to_go_away, to_close};
 ghost use Rattle.ymx_hub.specs.WholeHistories.{IsHistoryOf};
-ghost use Rattle.ymx_hub.specs.Rights.{SaysSole, WritesAlone};
+ghost use Rattle.ymx_hub.specs.Rights.{SaysSole, WritesAlone, ReadsAlone};
 ghost use Rattle.ymx_hub.specs.Shown.{IsShown};
 ghost use Rattle.ymx_hub.specs.Halves.{OpensHalves, OpensHalvesWith, AcceptsHalves};
 ghost use Rattle.ymx_hub.specs.Turns.{PingTurns};
@@ -88,7 +88,6 @@ impl<J: Naming> Caller<J> {
     }
 
     /// `meet`, with a writing half: what was written so far stands in the history that the caller has then seen.
-    #[tactic(auto, using(ymx_hub::proofs::Rights::writes_alone))]
     pub fn meet_writer<W: Wait>(&mut self, rt: &W, writer: &mut Writer<J>)
         ensures same { writer.new.id ≡ writer.old.id }
         ensures mine { IsShown self.old self.new }
@@ -106,9 +105,12 @@ impl<J: Naming> Caller<J> {
         ensures same { reader.new.id ≡ reader.old.id }
         ensures mine { IsShown self.old self.new }
         ensures theirs { IsShown reader.old.seat reader.new.seat }
+        // Nobody else has read its stream in this history.
+        ensures alone { ReadsAlone reader.old.id reader.old.seat.number self.new.seen }
         ensures seen { self.new.seen ≡ reader.new.seat.seen }
     {
         reader.half.meet(rt, &mut self.seat);
+        self.seat.history();
     }
 
     /// Opens a stream (stream identifiers). It doesn't wait for the peer, and bytes may be written at once.

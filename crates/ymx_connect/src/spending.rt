@@ -1,10 +1,10 @@
 //! How a caller spends the halves of a stream. What a half did stands in the history that the caller has then seen.
 
-ghost use Rattle.std.specs.Prelude.{◌≡◌};
+ghost use Rattle.std.specs.Prelude.{◌≡◌, IfOk};
 ghost use Rattle.ymx_hub.specs.Answers.{IsNotMemory};
 ghost use Rattle.ymx_hub.specs.Books.{Spends, Closes, to_finish, to_reset};
-ghost use Rattle.ymx_hub.specs.Rights.{WritesAlone};
-ghost use Rattle.ymx_connect.specs.Told.{SeesLast, SeesRelease, ClosesStream};
+ghost use Rattle.ymx_hub.specs.Rights.{WritesAlone, ReadsAlone};
+ghost use Rattle.ymx_connect.specs.Told.{SeesLast, SeesRelease, FinishesHalf, ClosesHalf, ClosesStream};
 
 use crate::caller::Caller;
 use crate::halves::{Reader, Writer};
@@ -22,6 +22,8 @@ impl<J: Naming> Caller<J> {
         ensures booked { SeesLast self.old self.new writer.seat (Spends (to_finish writer.id) writer.id writer.seat.number result) }
         // Nobody else has written, finished or reset the stream in the history that the caller has then seen.
         ensures alone { WritesAlone writer.id writer.seat.number self.new.seen }
+        // Both at once, where it is not refused.
+        ensures finished { IfOk result (λ _. FinishesHalf self.old self.new writer) }
         ensures spares { IsNotMemory result }
     {
         let (mut last, finished) = writer.into_half().finish(rt);
@@ -56,10 +58,15 @@ impl<J: Naming> Caller<J> {
     #[tactic(auto, using(crate::proofs::Told::sees_last))]
     pub fn close_reader<W: Wait>(&mut self, rt: &W, reader: Reader<J>) -> Result<(), StreamFault>
         ensures booked { SeesLast self.old self.new reader.seat (Closes reader.id reader.seat.number result) }
+        // Nobody else has read the stream in the history that the caller has then seen.
+        ensures alone { ReadsAlone reader.id reader.seat.number self.new.seen }
+        // Both at once, where it is not refused.
+        ensures closed { IfOk result (λ _. ClosesHalf self.old self.new reader) }
         ensures spares { IsNotMemory result }
     {
         let (mut last, closed) = reader.into_half().close(rt);
         self.meet(rt, &mut last);
+        self.history();
         discard(last);
         closed
     }
