@@ -26,3 +26,5 @@ pub mod Given
 pub mod Shut
 pub mod ReadOut
 pub mod Callers
+pub mod OwnEntries
+pub mod Echoed

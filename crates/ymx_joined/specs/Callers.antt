@@ -7,6 +7,7 @@ use Rattle.ymx_machine.specs.shared.Events.{Reply}
 use Rattle.ymx_model.specs.session.Events.{Event}
 use Rattle.ymx_model.specs.declared.types.Event.TheVariants as event
 use Rattle.ymx_model.specs.declared.types.Entry.{Entry}
+use Rattle.ymx_connect.specs.Told.{Exchanges, Echoes}
 
 -- the bytes that a stream took at an event, its first ones included
 abbrev pub took_at : ℕ → Event → Reply → List ℕ
@@ -77,3 +78,10 @@ TakeNoneBehindFinish xs = (id : ℕ) (before after : List Entry) (x : Entry) →
 -- behind its end a stream gives nothing
 abbrev pub GiveNoneBehindEnd : List Entry → Type 0
 GiveNoneBehindEnd xs = (id : ℕ) (before after : List Entry) (x : Entry) → xs ≡ before ++ x ∷ after → ended_at id x.event x.reply ≡ true → all_given id after ≡ []
+
+-- ---- what comes back
+
+-- What came back on a stream, whose other end echoed it, is what was written; and so is what the other end read and wrote.
+abbrev pub EchoesCome : (here there : List Entry) → Type 0
+EchoesCome here there =
+    (text got echo : List ℕ) (x : Exchanges text got (Some here)) → Echoes x.writer.id echo (Some there) → (echo ≡ text) × (got ≡ text)

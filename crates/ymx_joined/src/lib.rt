@@ -2,6 +2,7 @@
 //!
 //! - `deliver` takes a text from one new session to another: all of it comes out, and then the end.
 //! - `certify` makes of two transcripts, a client's and a server's, one run of the queue machine.
+//! - `joined_histories` has the laws of two histories that are one run: each stream carries its bytes, and an echo comes back.
 //! - `joined_tunnels` has the laws of two tunnels, with their devices, over two pipes: each of its functions does nothing,
 //!   and its contract is the theorem.
 #![tactic(auto)]
@@ -9,6 +10,7 @@
 mod certifying;
 mod delivery;
 mod fault;
+pub mod joined_histories;
 pub mod joined_tunnels;
 mod stages;
 
