@@ -28,7 +28,8 @@ crate_of() {
     echo "example_$1" | tr / _
 }
 
-# prove NAME LIBRARY..: examples/NAME.rattle as a crate over these libraries; `crate` is its name then
+# prove NAME LIBRARY..: examples/NAME.rattle as a crate over these libraries, with the proofs of examples/NAME if it has any; `crate`
+# is its name then
 prove() {
     source=$1
     crate=$(crate_of "$source")
@@ -36,6 +37,9 @@ prove() {
     mkdir -p "$scratch/crates/$crate/src"
     sed "s/127\.0\.0\.1:47100/127.0.0.1:$port/; s/127\.0\.0\.1:47101/127.0.0.1:$echo_port/" \
         "$root/examples/$source.rattle" > "$scratch/crates/$crate/src/main.rt"
+    if [ -d "$root/examples/$source/proofs" ]; then
+        cp -R "$root/examples/$source/proofs" "$scratch/crates/$crate/"
+    fi
     check=$scratch/check_of_$crate
     if [ "$is_from_gate" = yes ]; then
         "$root/tools/kit.py" program "$scratch/crates/$crate" "$crate" "$@" anyhow > "$check" 2>&1 || fail "examples/$source.rattle isn't proved" "$check"
@@ -141,4 +145,9 @@ prove history/main ymx_joined ymx_connect ymx_hub ymx_session ymx_seats ymx_mode
 build
 "$program" > "$scratch/history.out"
 printf 'the word has come: true\nboth histories are one run: true\n' | cmp - "$scratch/history.out" || fail 'the history is another' "$scratch/history.out"
-echo '5 programs proved and run'
+
+prove echoed ymx_joined ymx_connect ymx_seats ymx_headline ymx_machine ymx_model
+build
+timeout 60 "$program" > "$scratch/echoed.out"
+printf 'the same came back: true\none stream was echoed: true\n' | cmp - "$scratch/echoed.out" || fail 'the echo is another' "$scratch/echoed.out"
+echo '6 programs proved and run'
