@@ -28,8 +28,8 @@ crate_of() {
     echo "example_$1" | tr / _
 }
 
-# prove NAME LIBRARY..: examples/NAME.rattle as a crate over these libraries, with the proofs of examples/NAME if it has any; `crate`
-# is its name then
+# prove NAME LIBRARY..: examples/NAME.rattle as a crate over these libraries, with the proofs of examples/NAME if it has any, whose files
+# end in .antt there; `crate` is its name then
 prove() {
     source=$1
     crate=$(crate_of "$source")
@@ -38,7 +38,10 @@ prove() {
     sed "s/127\.0\.0\.1:47100/127.0.0.1:$port/; s/127\.0\.0\.1:47101/127.0.0.1:$echo_port/" \
         "$root/examples/$source.rattle" > "$scratch/crates/$crate/src/main.rt"
     if [ -d "$root/examples/$source/proofs" ]; then
-        cp -R "$root/examples/$source/proofs" "$scratch/crates/$crate/"
+        (cd "$root/examples/$source" && find proofs -name '*.proof') | while read -r file; do
+            mkdir -p "$scratch/crates/$crate/${file%/*}"
+            cp "$root/examples/$source/$file" "$scratch/crates/$crate/${file%.proof}.antt"
+        done
     fi
     check=$scratch/check_of_$crate
     if [ "$is_from_gate" = yes ]; then
