@@ -29,7 +29,7 @@ KNOWN = {
     "there is a history where it is kept or witnessed, and none elsewhere": [
         ("ymx_seats/src/log.rt", "ghost invariant = { λ s. RisesFrom 0 s.entries.items × (behind_all 0 s.entries.items ≤ vec_len s.entries) × HasIf R.WITNESSED s.journal };"),
         ("ymx_seats/src/seat.rt", "ghost invariant = { λ s. IsOf s.number s.witness × IsWitnessed R.WITNESSED R.role R.config (seen_by s.witness) };"),
-        ("ymx_hub/src/booked.rt", "ghost invariant = { λ s. Kept R.KEEPS s.ended s.role s.config s.log.entries s.session × (s.unspent ≤ spare s.half_spent) × (s.unspent ≤ s.given) × IsGood s.role s.config × IsJournaled R.WITNESSED R.role R.config s.role s.config s.log.journal s.session s.given };"),
+        ("ymx_hub/src/booked.rt", "ghost invariant = { λ s. Kept R.KEEPS s.ended s.role s.config s.log.entries s.session × (s.unspent ≤ spare s.half_spent) × (s.unspent ≤ s.given) × IsGood s.role s.config × IsJournaled R.WITNESSED R.role R.config s.role s.config s.log.journal s.session s.given × AllReleased s.released s.log.journal };"),
         ("ymx_seats/src/log.rt", "requires history { IsWitnessed R.WITNESSED"),
         ("ymx_seats/src/seat.rt", "requires witnessed { IsWitnessed R.WITNESSED"),
         ("ymx_hub/src/book.rt", "requires history { IsHistoryOf R.WITNESSED"),
@@ -57,12 +57,21 @@ KNOWN = {
     ],
     "a stream is written by the caller of its writing half, where there is a journal that knows who that is": [
         ("ymx_hub/src/book.rt", "requires may { R.WITNESSED ≡ true → MayDo"),
+        ("ymx_hub/src/halves.rt", "requires { R.WITNESSED ≡ true → HaveHalves"),
         ("ymx_hub/src/halves.rt", "requires { R.WITNESSED ≡ true → MayWrite"),
         ("ymx_hub/src/halves.rt", "ghost invariant = { λ half. R.WITNESSED ≡ true → MayWrite half.seat.right half.id };"),
         ("ymx_hub/src/hub.rt", "requires may { R.WITNESSED ≡ true → MayWrite"),
         ("ymx_hub/src/shared.rt", "requires may { R.WITNESSED ≡ true → MayWrite"),
         ("ymx_hub/src/stream_calls.rt", "requires may { R.WITNESSED ≡ true → MayWrite"),
         ("ymx_hub/src/waiting_calls.rt", "requires may { R.WITNESSED ≡ true → MayWrite"),
+    ],
+    "and read by the caller of its reading half, until that releases it": [
+        ("ymx_hub/src/halves.rt", "requires { R.WITNESSED ≡ true → MayRead"),
+        ("ymx_hub/src/halves.rt", "ghost invariant = { λ half. R.WITNESSED ≡ true → MayRead half.seat.right half.id };"),
+        ("ymx_hub/src/releasing.rt", "requires may { R.WITNESSED ≡ true → MayRead"),
+        ("ymx_hub/src/shared.rt", "requires may { R.WITNESSED ≡ true → MayRead"),
+        ("ymx_hub/src/stream_calls.rt", "requires may { R.WITNESSED ≡ true → MayRead"),
+        ("ymx_hub/src/waiting_calls.rt", "requires may { R.WITNESSED ≡ true → MayRead"),
     ],
     "what a half tells of its bytes and its end, where entries are kept: the body is one for all recorders": [
         ("ymx_tunnel/src/halves.rt", text)
