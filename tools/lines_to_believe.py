@@ -48,6 +48,9 @@ class Module:
 
     def read_import(self, line):
         found = re.match(r"use Rattle\.([^{ ]+?)(?:\.\{(.*)\})?(?: as (\S+))?$", line)
+        if not found:
+            # of another library, which is not counted
+            return
         module, names, short = found.groups()
         if names is None:
             self.imports[short or module.rsplit(".", 1)[1]] = (module, None)
