@@ -26,12 +26,14 @@ pub record SeesLast (old new half : SeatView) (Such : List Entry → Type 0) : T
   pub shown : IsShown old new
   pub seen : new.seen ≡ last.seen
 
--- The writing half of a stream made its last call, and finished it. Nobody else had written, finished or reset it.
+-- The writing half of a stream made its last call, and finished it. Nobody else had written, finished or reset it, unless the stream was
+-- given twice.
 pub record FinishesHalf (old new : SeatView) (writer : HalfView) : Type 0 where
   pub sees : SeesLast old new writer.seat (Spends (to_finish writer.id) writer.id writer.seat.number (Ok tt))
   pub alone : WritesAlone writer.id writer.seat.number new.seen
 
--- The reading half of a stream made its last call, and was closed. Nobody else had read it.
+-- The reading half of a stream was closed, which adds nothing, or gives the stream up. Nobody else had read it by then, unless the stream
+-- was given twice.
 pub record ClosesHalf (old new : SeatView) (reader : HalfView) : Type 0 where
   pub sees : SeesLast old new reader.seat (Closes reader.id reader.seat.number (Ok tt))
   pub alone : ReadsAlone reader.id reader.seat.number new.seen
@@ -69,7 +71,7 @@ StandsIn (Some seen) (Some later) = IsPrefix seen later
 StandsIn _ _ = ⊥
 
 -- In this history a caller opened a stream, the text was written to it, and it was finished; reads of it gave these bytes, up to the
--- end, and its reading half was closed. Nobody else had written to it as it was finished, or read it as it was closed.
+-- end. Nobody else had written to it as it was finished, or read it as its reading half was closed, unless the stream was given twice.
 pub record Exchanges (text bytes : List ℕ) (seen : Option (List Entry)) : Type 0 where
   pub caller : SeatView
   pub opened : SeatView
@@ -88,8 +90,9 @@ pub record Exchanges (text bytes : List ℕ) (seen : Option (List Entry)) : Type
   pub reads_alone : ReadsAlone reader.id reader.seat.number closed.seen
   pub within : StandsIn closed.seen seen
 
--- In this history a caller accepted this stream, reads of it gave these bytes, up to the end, and they were written to it; it was
--- finished, and its reading half was closed. Nobody else had written to it as it was finished, or read it as it was closed.
+-- In this history a caller accepted this stream, reads of it gave these bytes, up to the end, these were written to it, and it was
+-- finished. Nobody else had written to it as it was finished, or read it as its reading half was closed, unless the stream was given
+-- twice.
 pub record Echoes (id : ℕ) (bytes : List ℕ) (seen : Option (List Entry)) : Type 0 where
   pub caller : SeatView
   pub accepted : SeatView
@@ -113,7 +116,7 @@ pub record Echoes (id : ℕ) (bytes : List ℕ) (seen : Option (List Entry)) : T
 abbrev pub EchoesNext : (before seen : Option (List Entry)) → Type 0
 EchoesNext before seen = (id : ℕ) × (bytes : List ℕ) × (e : Echoes id bytes seen) × (e.caller.seen ≡ before)
 
--- So many streams were echoed in this history, one after another.
+-- So many streams were echoed in this history, one after another, or more.
 abbrev pub EchoesMany : (count : ℕ) → (seen : Option (List Entry)) → Type 0
 EchoesMany zero seen = Unit {0}
 EchoesMany (suc count) seen = (id : ℕ) × (bytes : List ℕ) × (e : Echoes id bytes seen) × EchoesMany count e.caller.seen

@@ -92,7 +92,7 @@ impl<J: Naming> Caller<J> {
         ensures same { writer.new.id ≡ writer.old.id }
         ensures mine { IsShown self.old self.new }
         ensures theirs { IsShown writer.old.seat writer.new.seat }
-        // Nobody else has written, finished or reset its stream in this history.
+        // Nobody else has written, finished or reset its stream in this history, unless another entry gave the stream too.
         ensures alone { WritesAlone writer.old.id writer.old.seat.number self.new.seen }
         ensures seen { self.new.seen ≡ writer.new.seat.seen }
     {
@@ -105,7 +105,7 @@ impl<J: Naming> Caller<J> {
         ensures same { reader.new.id ≡ reader.old.id }
         ensures mine { IsShown self.old self.new }
         ensures theirs { IsShown reader.old.seat reader.new.seat }
-        // Nobody else has read its stream in this history.
+        // Nobody else has read its stream in this history, unless another entry gave the stream too.
         ensures alone { ReadsAlone reader.old.id reader.old.seat.number self.new.seen }
         ensures seen { self.new.seen ≡ reader.new.seat.seen }
     {

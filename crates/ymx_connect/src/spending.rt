@@ -20,9 +20,10 @@ impl<J: Naming> Caller<J> {
     #[tactic(auto, using(crate::proofs::Told::sees_last))]
     pub fn finish<W: Wait>(&mut self, rt: &W, writer: Writer<J>) -> Result<(), StreamFault>
         ensures booked { SeesLast self.old self.new writer.seat (Spends (to_finish writer.id) writer.id writer.seat.number result) }
-        // Nobody else has written, finished or reset the stream in the history that the caller has then seen.
+        // Nobody else has written, finished or reset the stream in the history that the caller has then seen, unless another entry
+        // gave the stream too.
         ensures alone { WritesAlone writer.id writer.seat.number self.new.seen }
-        // Both at once, where it is not refused.
+        // The two facts as one, where it is not refused.
         ensures finished { IfOk result (λ _. FinishesHalf self.old self.new writer) }
         ensures spares { IsNotMemory result }
     {
@@ -40,7 +41,8 @@ impl<J: Naming> Caller<J> {
     #[tactic(auto, using(crate::proofs::Told::sees_last))]
     pub fn reset<W: Wait>(&mut self, rt: &W, writer: Writer<J>) -> Result<(), StreamFault>
         ensures booked { SeesLast self.old self.new writer.seat (Spends (to_reset writer.id) writer.id writer.seat.number result) }
-        // Nobody else has written, finished or reset the stream in the history that the caller has then seen.
+        // Nobody else has written, finished or reset the stream in the history that the caller has then seen, unless another entry
+        // gave the stream too.
         ensures alone { WritesAlone writer.id writer.seat.number self.new.seen }
         ensures spares { IsNotMemory result }
     {
@@ -58,9 +60,9 @@ impl<J: Naming> Caller<J> {
     #[tactic(auto, using(crate::proofs::Told::sees_last))]
     pub fn close_reader<W: Wait>(&mut self, rt: &W, reader: Reader<J>) -> Result<(), StreamFault>
         ensures booked { SeesLast self.old self.new reader.seat (Closes reader.id reader.seat.number result) }
-        // Nobody else has read the stream in the history that the caller has then seen.
+        // Nobody else has read the stream in the history that the caller has then seen, unless another entry gave the stream too.
         ensures alone { ReadsAlone reader.id reader.seat.number self.new.seen }
-        // Both at once, where it is not refused.
+        // The two facts as one, where it is not refused.
         ensures closed { IfOk result (λ _. ClosesHalf self.old self.new reader) }
         ensures spares { IsNotMemory result }
     {

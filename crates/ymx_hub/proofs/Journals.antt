@@ -21,7 +21,8 @@ use Rattle.ymx_hub.specs.declared.stream_calls.HalfCall.{HalfCall}
 use Rattle.ymx_hub.specs.declared.stream_calls.HalfCall.TheVariants as half
 use Rattle.ymx_hub.specs.Books.{TellsStream, to_end}
 use Rattle.ymx_hub.specs.Rights.{MayWrite, MayRead, MayDo, IsReleased, AllReleased, IsWriterAt, IsReaderAt, AreHandedOut, AreRightful, SaysSole, handed_out}
-use Rattle.ymx_hub.proofs.Rights.{got_before, got_same, may_more, released_more, rightful_after, rightful_free, rightful_given, rightful_released, says_sole}
+use Rattle.ymx_seats.proofs.Places.{got_before, got_same}
+use Rattle.ymx_hub.proofs.Rights.{may_more, released_more, rightful_after, rightful_free, rightful_given, rightful_released, says_sole}
 use Rattle.ymx_hub.specs.Booked.{IsJournaled, IsUnused, config_of}
 use Rattle.ymx_hub.proofs.History.{replays_more, of_new}
 
@@ -142,9 +143,9 @@ journaled_given true named with role config (Some j) s t given n id taken a r ri
 journaled_given false named with role config None s t given n id taken a r right ids i h k l m g = i
 journaled_given false named with role config (Some j) s t given n id taken a r right ids i h k l m g = i
 
-pub all_given : (ids : List ℕ) (id : ℕ) (j : Option JournalView) → AllReleased ids j → AllReleased ids (handed_out id j)
-all_given ids id None l = tt
-all_given ids id (Some j) l =
+pub all_handed_out : (ids : List ℕ) (id : ℕ) (j : Option JournalView) → AllReleased ids j → AllReleased ids (handed_out id j)
+all_handed_out ids id None l = tt
+all_handed_out ids id (Some j) l =
     let at : ℕ = length j.whole - 1 in
     all_caller ids (with_caller (Writes id at) (Some j)) (Reads id at) (all_caller ids (Some j) (Writes id at) l)
 

@@ -24,8 +24,8 @@ MayRead right id = (at : ℕ) × (right ≡ Reads id at)
 abbrev pub HaveHalves : (id : ℕ) → (one other : SeatView) → Type 0
 HaveHalves id one other = MayWrite one.right id × MayRead other.right id
 
--- Who has this right may do this, where the reads of such streams were released to all callers. What is no call of a half, each caller may
--- do.
+-- Who has this right may do this, where the reads of such streams were released to all callers. Each caller may do what is no call
+-- of a half.
 abbrev pub MayDo : (WasReleased : ℕ → Type 0) → Right → Event → Type 0
 MayDo WasReleased right (event.Call (call.Write id bytes)) = MayWrite right id
 MayDo WasReleased right (event.Call (call.Finish id)) = MayWrite right id
@@ -71,7 +71,8 @@ pub record AreHandedOut (Has : Right → (id at : ℕ) → Type 0) (rights : Lis
   pub given : (n id at : ℕ) (right : Right) → slice_get rights n ≡ Some right → Has right id at → IsGivenAt whole at id
   pub apart : (n m id other at : ℕ) (right last : Right) → slice_get rights n ≡ Some right → slice_get rights m ≡ Some last → Has right id at → Has last other at → n ≡ m
 
--- Each entry is one that its caller may make, by its number. Each half of a stream was handed out to one caller.
+-- Each entry is one that its caller may make, by its number and by the rights as they are now. Each half of a stream was handed out to
+-- one caller.
 pub record AreRightful (rights : List Right) (whole : List Entry) : Type 0 where
   pub done : (place : ℕ) (e : Entry) → slice_get whole place ≡ Some e → (right : Right) × (slice_get rights e.seat ≡ Some right) × MayDo (IsReleased rights) right e.event
   pub writers : AreHandedOut IsWriterAt rights whole

@@ -30,9 +30,9 @@ use ymx_seats::{Log, NewJournal, NoHalf, Recorder, Seat, Transcript, agree, disc
 use ymx_session::Session;
 
 /// A session, with what it was made, the log of its events, how many seats were given, how many streams have both
-/// halves unspent, the ids of those with one half spent, and of those that are released. A contract sees all of these, and whether the transcript
-/// was handed out. Until then the log is the history of the session, from the one of this role and config that has done
-/// nothing; and where the recorder witnesses, its journal always is.
+/// halves unspent, the ids of those with one half spent, and of those that are released. A contract sees all of these, and
+/// whether the transcript was handed out. Until then the log is the history of the session, from the one of this role and
+/// config that has done nothing; and where the recorder witnesses, its journal always is.
 #[derive(Drop)]
 pub struct Booked<R: Recorder> {
     pub(crate) alloc: Global,

@@ -112,7 +112,8 @@ impl<R: Recorder> WriteHalf<R> {
         ensures same { self.new.id ≡ self.old.id }
         ensures mine { IsShown self.old.seat self.new.seat }
         ensures theirs { IsShown other.old other.new }
-        // Its caller may write the stream, and in the history that it has then seen nobody else has.
+        // Its caller may write the stream, and in the history that it has then seen nobody else has, unless another entry gave the
+        // stream too.
         ensures may { R.WITNESSED ≡ true → MayWrite self.old.seat.right self.old.id }
         ensures sole { SaysSole self.old.seat.right self.old.seat.number self.new.seat.seen }
         ensures seen { other.new.seen ≡ self.new.seat.seen }
@@ -195,7 +196,8 @@ impl<R: Recorder> ReadHalf<R> {
         ensures same { self.new.id ≡ self.old.id }
         ensures mine { IsShown self.old.seat self.new.seat }
         ensures theirs { IsShown other.old other.new }
-        // Its caller may read the stream, and in the history that it has then seen nobody else has.
+        // Its caller may read the stream, and in the history that it has then seen nobody else has, unless another entry gave the
+        // stream too.
         ensures may { R.WITNESSED ≡ true → MayRead self.old.seat.right self.old.id }
         ensures sole { SaysSole self.old.seat.right self.old.seat.number self.new.seat.seen }
         ensures seen { other.new.seen ≡ self.new.seat.seen }

@@ -136,7 +136,7 @@ impl<R: Recorder> Hub<R> {
         // Each seat has seen all that it had seen before, and perhaps more; its list stays.
         ensures one { IsShown one.old one.new }
         ensures other { IsShown other.old other.new }
-        // Where one has a half of a stream, nobody else has made its calls.
+        // Where one has a half of a stream, nobody else has made its calls, unless another entry gave the stream too.
         ensures sole { SaysSole one.old.right one.old.number one.new.seen }
         ensures sole_other { SaysSole other.old.right other.old.number other.new.seen }
         // Both have then seen the same.

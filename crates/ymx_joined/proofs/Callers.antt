@@ -16,7 +16,7 @@ use Rattle.ymx_headline.specs.audit.Told.{IsOneRun, told}
 use Rattle.ymx_headline.proofs.machine.faces.RunFaces.{blank, faced-new, odd-even}
 use Rattle.ymx_headline.proofs.runs.Runs.{run-face, client-odd, server-even}
 use Rattle.ymx_headline.proofs.runs.Steps.{both-runs}
-use Rattle.ymx_joined.specs.Callers.{all_taken, all_given, was_ended, was_finished, CarriesBytes, CarryAll, AreGivenOnce, TakeNoneBehindFinish, GiveNoneBehindEnd}
+use Rattle.ymx_joined.specs.Callers.{all_taken, all_given, was_ended, was_finished, CarriesStream, CarryAll, AreHandedOutOnce, TakeNoneBehindFinish, GiveNoneBehindEnd}
 use Rattle.ymx_joined.proofs.Traces.{calls_at, calls_in, traced, all_wrote, all_gave, one_ends, one_finishes, all_written, all_got, one_ended, one_finished, taken_in, given_in, ended_in, finished_in}
 use Rattle.ymx_joined.proofs.Mirrored.{turned, turned_run, turned_calls}
 use Rattle.ymx_joined.proofs.Behind.{Played}
@@ -26,7 +26,7 @@ use Rattle.ymx_joined.proofs.ReadOut.{none_behind_its_end}
 
 -- what the promise says of a run, said of both histories
 carried : (writer reader : Side) (window id : ℕ) (steps : List Step) (answers : List Answer) (from to : List Entry) → DeliversWithin window writer reader id steps answers →
-    calls_at writer steps answers ≡ calls_in from → calls_at reader steps answers ≡ calls_in to → CarriesBytes id from to
+    calls_at writer steps answers ≡ calls_in from → calls_at reader steps answers ≡ calls_in to → CarriesStream id from to
 carried writer reader window id steps answers from to d f t =
     let w : written writer id steps answers ≡ all_taken id from = all_written writer id steps answers ∙ ap (all_wrote id) f ∙ sym (taken_in id from) in
     let g : got reader id steps answers ≡ all_given id to = all_got reader id steps answers ∙ ap (all_gave id) t ∙ sym (given_in id to) in
@@ -81,8 +81,8 @@ played_b xs ys steps wa fa wb fb s t good one =
     }
 
 -- In one run no caller is given a stream twice.
-pub given_once : (xs ys : List Entry) (steps : List Step) (wa fa wb fb : ℕ) (s t : Session) → AreGood wa fa wb fb → IsOneRun in_turn xs ys steps wa fa wb fb s t → AreGivenOnce xs × AreGivenOnce ys
-given_once xs ys steps wa fa wb fb s t good one =
+pub handed_out_once : (xs ys : List Entry) (steps : List Step) (wa fa wb fb : ℕ) (s t : Session) → AreGood wa fa wb fb → IsOneRun in_turn xs ys steps wa fa wb fb s t → AreHandedOutOnce xs × AreHandedOutOnce ys
+handed_out_once xs ys steps wa fa wb fb s t good one =
     (once_given wa wb xs (played_a xs ys steps wa fa wb fb s t good one), once_given wb wa ys (played_b xs ys steps wa fa wb fb s t good one))
 
 -- In one run no stream takes a byte behind its finish.

@@ -19,18 +19,10 @@ use Rattle.ymx_hub.proofs.Carried.{all_written}
 use Rattle.ymx_hub.proofs.Extends.{extends_on}
 use Rattle.ymx_connect.specs.Streams.{ReadsUpTo, AreWritesTo, WritesOf, WritesOn}
 use Rattle.ymx_connect.specs.Told.{SeesLast, StandsIn, Exchanges, Echoes}
-use Rattle.ymx_connect.proofs.Told.{stands_on}
-use Rattle.ymx_joined.specs.Callers.{took_at, gave_at, all_taken, all_given, was_ended, CarryAll, AreGivenOnce, TakeNoneBehindFinish, GiveNoneBehindEnd, EchoesCome}
-use Rattle.ymx_joined.proofs.Callers.{run_carries, given_once, none_behind_finish, none_behind_end}
+use Rattle.ymx_connect.proofs.Told.{stands, stands_on}
+use Rattle.ymx_joined.specs.Callers.{took_at, gave_at, all_taken, all_given, was_ended, CarryAll, AreHandedOutOnce, TakeNoneBehindFinish, GiveNoneBehindEnd, EchoesCome}
+use Rattle.ymx_joined.proofs.Callers.{run_carries, handed_out_once, none_behind_finish, none_behind_end}
 use Rattle.ymx_joined.proofs.OwnEntries.{Starts, starts, WritesAll, ReadsAll, writer_took, reader_got}
-
--- ---- what a caller has seen stands in what it has seen later
-
-stands : (n : ℕ) (v w : Option (List Entry)) → HasGrown n v w → StandsIn v w
-stands n None None g = tt
-stands n None (Some w) g = absurd g
-stands n (Some v) None g = absurd g
-stands n (Some v) (Some w) g = g.0
 
 -- ---- a half whose calls are all made
 
@@ -76,7 +68,7 @@ writes_to id n left (e ∷ es) w = ((w.0.0, (left, w.0.1)), writes_to id n _ es 
 
 -- what holds of the history of a session in one run
 record Holds (es : List Entry) : Type 0 where
-  once : AreGivenOnce es
+  once : AreHandedOutOnce es
   finishes : TakeNoneBehindFinish es
   ends : GiveNoneBehindEnd es
 
@@ -152,7 +144,7 @@ echo_comes here there mine yours carry text got echo x e =
 pub echoes_come : (xs ys : List Entry) (steps : List Step) (wa fa wb fb : ℕ) (s t : Session) → AreGood wa fa wb fb → IsOneRun in_turn xs ys steps wa fa wb fb s t → EchoesCome xs ys × EchoesCome ys xs
 echoes_come xs ys steps wa fa wb fb s t good one =
     let carry = run_carries xs ys steps wa fa wb fb s t good one in
-    let once = given_once xs ys steps wa fa wb fb s t good one in
+    let once = handed_out_once xs ys steps wa fa wb fb s t good one in
     let finishes = none_behind_finish xs ys steps wa fa wb fb s t good one in
     let ends = none_behind_end xs ys steps wa fa wb fb s t good one in
     let a : Holds xs = record { once = once.0; finishes = finishes.0; ends = ends.0 } in

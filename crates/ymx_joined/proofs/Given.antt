@@ -26,7 +26,7 @@ use Rattle.ymx_headline.proofs.machine.order.Maps.{look-change, look-add}
 use Rattle.ymx_headline.proofs.machine.order.Cores.{core, finish-me, rule-you, move-you, Sound, offered-front, offered-stream}
 use Rattle.ymx_headline.proofs.machine.order.Openers.{Numbered, free}
 use Rattle.ymx_engine.specs.Events.{is_refusal}
-use Rattle.ymx_joined.specs.Callers.{gives_stream, AreGivenOnce}
+use Rattle.ymx_joined.specs.Callers.{opens_or_accepts, AreHandedOutOnce}
 use Rattle.ymx_joined.proofs.Traces.{call_of, calls_in, gives_stream_by, gives_stream_is}
 use Rattle.ymx_joined.proofs.Lasting.{BothKeep, HasAt, step_keeps, releases_keep}
 use Rattle.ymx_joined.proofs.Behind.{Law, AllQuiet, Played, marked, behind}
@@ -167,11 +167,11 @@ given_law mine yours id = record {
 
 -- ---- in a history
 
-gives_stream_marked : (id : ℕ) (e : Event) (told : Reply) → gives_stream id e told ≡ marked (gives_stream_by id) e told
+gives_stream_marked : (id : ℕ) (e : Event) (told : Reply) → opens_or_accepts id e told ≡ marked (gives_stream_by id) e told
 gives_stream_marked id (event.Call c) told = gives_stream_is id c told
 gives_stream_marked id e told = refl
 
-not_in_event : (id : ℕ) (e : Event) (told : Reply) (cs : List (Call × Answer)) → AllQuiet (λ c g. gives_stream_by id c g ≡ false) (call_of e told ++ cs) → gives_stream id e told ≡ true → ⊥
+not_in_event : (id : ℕ) (e : Event) (told : Reply) (cs : List (Call × Answer)) → AllQuiet (λ c g. gives_stream_by id c g ≡ false) (call_of e told ++ cs) → opens_or_accepts id e told ≡ true → ⊥
 not_in_event id (event.Call c) told cs q k = let no : true ≡ false = sym k ∙ gives_stream_is id c told ∙ q.0 in cc
 not_in_event id (event.Emit n) told cs q k = cc
 not_in_event id (event.Feed bytes) told cs q k = cc
@@ -183,26 +183,26 @@ quiet_behind id (event.Emit n) told cs q = q
 quiet_behind id (event.Feed bytes) told cs q = q
 quiet_behind id event.FeedEnd told cs q = q
 
-none_at : (id : ℕ) (xs : List Entry) (p : ℕ) (x : Entry) → AllQuiet (λ c g. gives_stream_by id c g ≡ false) (calls_in xs) → slice_get xs p ≡ Some x → gives_stream id x.event x.reply ≡ true → ⊥
+none_at : (id : ℕ) (xs : List Entry) (p : ℕ) (x : Entry) → AllQuiet (λ c g. gives_stream_by id c g ≡ false) (calls_in xs) → slice_get xs p ≡ Some x → opens_or_accepts id x.event x.reply ≡ true → ⊥
 none_at id [] p x q e k = cc
 none_at id (y ∷ ys) zero x q e k =
-    not_in_event id y.event y.reply (calls_in ys) q (subst (λ (v : Entry). gives_stream id v.event v.reply ≡ true) (sym (one_some y x e)) k)
+    not_in_event id y.event y.reply (calls_in ys) q (subst (λ (v : Entry). opens_or_accepts id v.event v.reply ≡ true) (sym (one_some y x e)) k)
 none_at id (y ∷ ys) (suc p) x q e k = none_at id ys p x (quiet_behind id y.event y.reply (calls_in ys) q) e k
 
 -- the part of a history that begins with an entry of this place
 places_are_one : (id : ℕ) (xs : List Entry) →
-    ((before after : List Entry) (x : Entry) → xs ≡ before ++ x ∷ after → gives_stream id x.event x.reply ≡ true → AllQuiet (λ c g. gives_stream_by id c g ≡ false) (calls_in after)) →
-    (p q : ℕ) (x y : Entry) → slice_get xs p ≡ Some x → gives_stream id x.event x.reply ≡ true → slice_get xs q ≡ Some y → gives_stream id y.event y.reply ≡ true → p ≡ q
+    ((before after : List Entry) (x : Entry) → xs ≡ before ++ x ∷ after → opens_or_accepts id x.event x.reply ≡ true → AllQuiet (λ c g. gives_stream_by id c g ≡ false) (calls_in after)) →
+    (p q : ℕ) (x y : Entry) → slice_get xs p ≡ Some x → opens_or_accepts id x.event x.reply ≡ true → slice_get xs q ≡ Some y → opens_or_accepts id y.event y.reply ≡ true → p ≡ q
 places_are_one id [] once p q x y e k f l = let no : ⊥ = cc in absurd no
 places_are_one id (z ∷ zs) once zero zero x y e k f l = refl
 places_are_one id (z ∷ zs) once zero (suc q) x y e k f l =
-    absurd (none_at id zs q y (once [] zs z refl (subst (λ (v : Entry). gives_stream id v.event v.reply ≡ true) (sym (one_some z x e)) k)) f l)
+    absurd (none_at id zs q y (once [] zs z refl (subst (λ (v : Entry). opens_or_accepts id v.event v.reply ≡ true) (sym (one_some z x e)) k)) f l)
 places_are_one id (z ∷ zs) once (suc p) zero x y e k f l =
-    absurd (none_at id zs p x (once [] zs z refl (subst (λ (v : Entry). gives_stream id v.event v.reply ≡ true) (sym (one_some z y f)) l)) e k)
+    absurd (none_at id zs p x (once [] zs z refl (subst (λ (v : Entry). opens_or_accepts id v.event v.reply ≡ true) (sym (one_some z y f)) l)) e k)
 places_are_one id (z ∷ zs) once (suc p) (suc q) x y e k f l =
     ap suc (places_are_one id zs (λ before after w is o. once (z ∷ before) after w (ap (λ (v : List Entry). z ∷ v) is) o) p q x y e k f l)
 
 -- In a history that was played no stream is given at two places.
-pub once_given : (mine yours : ℕ) (xs : List Entry) → Played mine yours xs → AreGivenOnce xs
+pub once_given : (mine yours : ℕ) (xs : List Entry) → Played mine yours xs → AreHandedOutOnce xs
 once_given mine yours xs p id i j x y e k f l =
     places_are_one id xs (λ before after z is o. behind (given_law mine yours id) xs p before after z is (sym (gives_stream_marked id z.event z.reply) ∙ o)) i j x y e k f l

@@ -1,13 +1,13 @@
 -- What the entries of one half of a stream say of all that its stream carried, in a history that its caller has seen.
 use Rattle.std.proofs.Common.{◌≡◌, ◌⊎◌, inl, inr, ℕ, zero, suc, ◌==◌, List, [], ◌∷◌, ◌++◌, length, take, Bool, true, false, Option, None, Some, Ok, refl, sym, ap, subst, ◌∙◌, append_assoc, append-nil, arith}
-use Rattle.std.specs.Prelude.{slice_get, if◌then◌else◌, ◌||◌}
+use Rattle.std.specs.Prelude.{slice_get, ◌||◌}
 use Rattle.std.proofs.lemmas.Bool.Decides.{nat_tests}
 use mathlib.Core.List.{IsPrefix}
 use Rattle.ymx_machine.specs.declared.types.Call.TheVariants as call
 use Rattle.ymx_machine.specs.declared.types.Reply.TheVariants as reply
 use Rattle.ymx_machine.specs.declared.types.Wrote.TheVariants.{Took}
 use Rattle.ymx_machine.specs.shared.Events.{Reply}
-use Rattle.ymx_machine.proofs.Tests.{when, agrees, one_some}
+use Rattle.ymx_machine.proofs.Tests.{when, agrees, one_some, is-self}
 use Rattle.ymx_model.specs.session.Events.{Event}
 use Rattle.ymx_model.specs.declared.types.Event.TheVariants as event
 use Rattle.ymx_model.specs.declared.types.Entry.{Entry}
@@ -19,10 +19,11 @@ use Rattle.ymx_hub.specs.Turns.{took_of}
 use Rattle.ymx_hub.specs.Carried.{offered, bytes_written, read_of, read_bytes}
 use Rattle.ymx_hub.specs.Rights.{IsWriters, IsReaders, DoesAlone, WritesAlone, ReadsAlone}
 use Rattle.ymx_hub.specs.Shown.{HasGrown}
-use Rattle.ymx_hub.proofs.Rights.{got_last}
+use Rattle.ymx_seats.proofs.Places.{got_last}
 use Rattle.ymx_connect.specs.Streams.{AreReads, ReadsUpTo, AreWritesTo, WritesOf}
 use Rattle.ymx_connect.specs.Told.{StandsIn}
-use Rattle.ymx_joined.specs.Callers.{took_at, all_taken, gave_at, all_given, finished_at, ended_at, was_ended, gives_stream, AreGivenOnce, TakeNoneBehindFinish, GiveNoneBehindEnd}
+use Rattle.ymx_joined.specs.Callers.{took_at, all_taken, gave_at, all_given, finished_at, ended_at, was_ended, opens_or_accepts, AreHandedOutOnce, TakeNoneBehindFinish, GiveNoneBehindEnd}
+use Rattle.ymx_joined.proofs.Shut.{if_not}
 
 -- ---- what is gathered of entries
 
@@ -115,14 +116,11 @@ got_in xs es p x q e = subst (λ (v : List Entry). slice_get v p ≡ Some x) q.1
 
 -- ---- the entry that gave the stream
 
-itself : (id : ℕ) → (id == id) ≡ true
-itself id = grind (arith, nat_tests)
-
 -- a reply that says so gave the stream
-tells_given : (id taken : ℕ) (a : Event) (r : Reply) → TellsStream a id taken r → gives_stream id a r ≡ true
-tells_given id taken (event.Call call.Open) r t = ap (gives_stream id (event.Call call.Open)) t ∙ itself id
-tells_given id taken (event.Call (call.OpenWith bytes)) r t = ap (gives_stream id (event.Call (call.OpenWith bytes))) t ∙ itself id
-tells_given id taken (event.Call call.Accept) r t = ap (gives_stream id (event.Call call.Accept)) t ∙ itself id
+tells_given : (id taken : ℕ) (a : Event) (r : Reply) → TellsStream a id taken r → opens_or_accepts id a r ≡ true
+tells_given id taken (event.Call call.Open) r t = ap (opens_or_accepts id (event.Call call.Open)) t ∙ is-self id
+tells_given id taken (event.Call (call.OpenWith bytes)) r t = ap (opens_or_accepts id (event.Call (call.OpenWith bytes))) t ∙ is-self id
+tells_given id taken (event.Call call.Accept) r t = ap (opens_or_accepts id (event.Call call.Accept)) t ∙ is-self id
 tells_given id taken a r t = absurd t
 
 -- The stream was given by the last entry that a seat has seen, which carried nothing of it; and the seat has made no call.
@@ -130,7 +128,7 @@ pub record IsFirst (of : Event → Reply → List ℕ) (id n : ℕ) (first : Lis
   pub before : List Entry
   pub giver : Entry
   pub is : first ≡ before ++ giver ∷ []
-  pub gives : gives_stream id giver.event giver.reply ≡ true
+  pub gives : opens_or_accepts id giver.event giver.reply ≡ true
   pub none : of giver.event giver.reply ≡ []
   pub fresh : part n first ≡ []
 
@@ -148,10 +146,7 @@ starts of id taken n position seat start a r (Some first) t none s new =
 
 -- what an event carries is carried by such a call, or by the event that gave the stream
 abbrev IsCarriedBy : (of : Event → Reply → List ℕ) (Such : Event → Type 0) (id : ℕ) → Type 0
-IsCarriedBy of Such id = (a : Event) (r : Reply) → (of a r ≡ []) ⊎ (Such a ⊎ (gives_stream id a r ≡ true))
-
-if_not : (b : Bool) (xs : List ℕ) → b ≡ false → (if b then xs else []) ≡ []
-if_not b xs e = rw e refl
+IsCarriedBy of Such id = (a : Event) (r : Reply) → (of a r ≡ []) ⊎ (Such a ⊎ (opens_or_accepts id a r ≡ true))
 
 taken_by_writers : (id : ℕ) → IsCarriedBy (took_at id) (IsWriters id) id
 taken_by_writers id (event.Call (call.Write to bytes)) (reply.Wrote (Took n)) = elim (when (to == id)) [
@@ -173,8 +168,8 @@ given_to_readers id a r = inl refl
 
 -- In a history in which each stream is given once, of others nothing is gathered where a caller makes such calls alone.
 others_give_none : (of : Event → Reply → List ℕ) (Such : Event → Type 0) (id n : ℕ) (seen es : List Entry) (at : ℕ) (giver : Entry) →
-    IsCarriedBy of Such id → AreGivenOnce es → IsPrefix seen es → DoesAlone Such id n (Some seen) →
-    slice_get es at ≡ Some giver → gives_stream id giver.event giver.reply ≡ true → of giver.event giver.reply ≡ [] → OthersGiveNone of n seen
+    IsCarriedBy of Such id → AreHandedOutOnce es → IsPrefix seen es → DoesAlone Such id n (Some seen) →
+    slice_get es at ≡ Some giver → opens_or_accepts id giver.event giver.reply ≡ true → of giver.event giver.reply ≡ [] → OthersGiveNone of n seen
 others_give_none of Such id n seen es at giver carried once within alone there gives none place e is = elim (carried e.event e.reply) [
   | inl quiet ↦ inr quiet
   | inr (inl such) ↦ elim (alone.2 place e is such) [
@@ -216,7 +211,7 @@ none_later of marks seen es within quiet (e, there, m) =
 -- what is asked of such a half, and of the history
 record Asked (of : Event → Reply → List ℕ) (Such : Event → Type 0) (marks : Event → Reply → Bool) (id : ℕ) (es : List Entry) : Type 0 where
   carried : IsCarriedBy of Such id
-  once : AreGivenOnce es
+  once : AreHandedOutOnce es
   quiet : GivesNoneBehind of marks es
 
 -- All that such a stream carried is of the half's own entries, from the first on, one of which is so marked.
@@ -250,12 +245,12 @@ half_gathered of Such marks id n None (Some spent) (Some seen) es Own asked f ex
 
 -- a write carries what it took
 took_write : (id : ℕ) (bytes : List ℕ) (r : Reply) → took_at id (to_write id bytes) r ≡ take (took_of r) bytes
-took_write id bytes (reply.Wrote (Took n)) = rw (itself id) refl
+took_write id bytes (reply.Wrote (Took n)) = rw (is-self id) refl
 took_write id bytes r = refl
 
 -- a read carries what it gave
 gave_read : (id size : ℕ) (r : Reply) → gave_at id (to_read id size) r ≡ read_of r
-gave_read id size (reply.Read bytes) = rw (itself id) refl
+gave_read id size (reply.Read bytes) = rw (is-self id) refl
 gave_read id size r = refl
 
 writes_gathered : (id n : ℕ) (es : List Entry) → AreWritesTo id n es → gathered (took_at id) (part n es) ≡ bytes_written es
@@ -289,7 +284,7 @@ WritesAll id n bytes own = (written : List Entry) × (last : List Entry) × (own
 
 writes_finish : (id n : ℕ) (bytes : List ℕ) (own : List Entry) → WritesAll id n bytes own → HasMarked (finished_at id) own
 writes_finish id n bytes own (written, last, is, w, (p, rest, last_is, f)) =
-    (entry p n (to_finish id) reply.Done, (written, rest, is ∙ ap (λ (v : List Entry). written ++ v) last_is), itself id)
+    (entry p n (to_finish id) reply.Done, (written, rest, is ∙ ap (λ (v : List Entry). written ++ v) last_is), is-self id)
 
 writes_carry : (id n : ℕ) (bytes : List ℕ) (own : List Entry) → WritesAll id n bytes own → gathered (took_at id) (part n own) ≡ bytes
 writes_carry id n bytes own (written, last, is, w, (p, rest, last_is, f)) =
@@ -300,7 +295,7 @@ writes_carry id n bytes own (written, last, is, w, (p, rest, last_is, f)) =
     ∙ writes_gathered id n written w.0 ∙ w.1
 
 -- All that a stream took is what its writing half wrote.
-pub writer_took : (id n : ℕ) (bytes : List ℕ) (first spent seen : Option (List Entry)) (es : List Entry) → AreGivenOnce es → TakeNoneBehindFinish es →
+pub writer_took : (id n : ℕ) (bytes : List ℕ) (first spent seen : Option (List Entry)) (es : List Entry) → AreHandedOutOnce es → TakeNoneBehindFinish es →
     Starts (took_at id) id n first → Extends n first spent (WritesAll id n bytes) → HasGrown n spent seen → WritesAlone id n seen → StandsIn seen (Some es) →
     all_taken id es ≡ bytes
 writer_took id n bytes first spent seen es once quiet f extends more alone within =
@@ -322,7 +317,7 @@ reads_end : (id n : ℕ) (bytes : List ℕ) (own : List Entry) → ReadsAll id n
 reads_end id n bytes own (read, last, is, (reads, ends, size, read_is, r, (p, ends_is)), c) =
     let all : own ≡ reads ++ entry p n (to_read id size) reply.ReadEnd ∷ last =
     is ∙ ap (λ (v : List Entry). v ++ last) (read_is ∙ ap (λ (v : List Entry). reads ++ v) ends_is) ∙ append_assoc reads (entry p n (to_read id size) reply.ReadEnd ∷ []) last in
-    (entry p n (to_read id size) reply.ReadEnd, (reads, last, all), itself id)
+    (entry p n (to_read id size) reply.ReadEnd, (reads, last, all), is-self id)
 
 closed_silent : (id n : ℕ) (last : List Entry) → Closes id n (Ok tt) last → gathered (gave_at id) (part n last) ≡ []
 closed_silent id n last (inl is) = forget_silent (gave_at id) id n last (λ r. refl) (inl is)
@@ -348,7 +343,7 @@ ended_there id (x ∷ xs) after e m = rw (ended_there id xs after e m) (either_w
     either_way false = refl
 
 -- All that a stream gave is what its reading half read, and it was ended.
-pub reader_got : (id n : ℕ) (bytes : List ℕ) (first spent seen : Option (List Entry)) (es : List Entry) → AreGivenOnce es → GiveNoneBehindEnd es →
+pub reader_got : (id n : ℕ) (bytes : List ℕ) (first spent seen : Option (List Entry)) (es : List Entry) → AreHandedOutOnce es → GiveNoneBehindEnd es →
     Starts (gave_at id) id n first → Extends n first spent (ReadsAll id n bytes) → HasGrown n spent seen → ReadsAlone id n seen → StandsIn seen (Some es) →
     (all_given id es ≡ bytes) × (was_ended id es ≡ true)
 reader_got id n bytes first spent seen es once quiet f extends more alone within =

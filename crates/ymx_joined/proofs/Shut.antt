@@ -189,7 +189,7 @@ none_on id bytes m r n (Some x) s e g (t, inl rule, now) =
     ap is_refusal rule.0 ∙ takes_none m.me.lost bytes x.me (not (is_unsaid x.outbound.fin)) x.outbound.credit (λ l. ap not (shut.1 l).0)
 none_on id bytes m r n (Some x) s e g (t, inr rule, now) = ap is_refusal rule.1
 
-if_not : (b : Bool) (xs : List ℕ) → b ≡ false → (if b then xs else []) ≡ []
+pub if_not : (b : Bool) (xs : List ℕ) → b ≡ false → (if b then xs else []) ≡ []
 if_not b xs e = rw e refl
 
 writes_none : (mine yours id : ℕ) (c : Call) (m : Machine) (r : Reply) (n : Machine) → Stands mine yours id m → Rule c m r n → HasAt IsShut id m.streams → wrote_by id c (answer_of r) ≡ []

@@ -19,7 +19,7 @@ use Rattle.ymx_model.specs.world.Worlds.{Pipe}
 use Rattle.ymx_headline.specs.audit.Joints.{world_steps, Gets, sent_into, IsJoint}
 use Rattle.ymx_headline.specs.audit.Told.{answers_of, is_ended_behind, told_from}
 use Rattle.ymx_headline.proofs.audit.Events.{gets-ended, put-ended}
-use Rattle.ymx_joined.specs.Callers.{took_at, all_taken, gave_at, all_given, ended_at, was_ended, finished_at, was_finished, gives_stream}
+use Rattle.ymx_joined.specs.Callers.{took_at, all_taken, gave_at, all_given, ended_at, was_ended, finished_at, was_finished, opens_or_accepts}
 
 -- the call of a step at this side, with its answer
 abbrev pub call_by : Side → Step → Answer → List (Call × Answer)
@@ -169,7 +169,7 @@ pub finished_is : (id : ℕ) (c : Call) (told : Reply) → finished_at id (event
 finished_is id (call.Finish to) reply.Done = refl
 finished_is id c told = refl
 
-pub gives_stream_is : (id : ℕ) (c : Call) (told : Reply) → gives_stream id (event.Call c) told ≡ gives_stream_by id c (answer_of told)
+pub gives_stream_is : (id : ℕ) (c : Call) (told : Reply) → opens_or_accepts id (event.Call c) told ≡ gives_stream_by id c (answer_of told)
 gives_stream_is id call.Open (reply.Opened new) = refl
 gives_stream_is id (call.OpenWith bytes) (reply.OpenedWith new n) = refl
 gives_stream_is id call.Accept (reply.Accepted (Some new)) = refl

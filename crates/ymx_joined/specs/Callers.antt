@@ -15,6 +15,7 @@ took_at id (event.Call (call.Write to bytes)) (reply.Wrote (Took n)) = if to == 
 took_at id (event.Call (call.OpenWith bytes)) (reply.OpenedWith to n) = if to == id then take n bytes else []
 took_at id _ _ = []
 
+-- those of all entries
 abbrev pub all_taken : ℕ → List Entry → List ℕ
 all_taken id [] = []
 all_taken id (x ∷ xs) = took_at id x.event x.reply ++ all_taken id xs
@@ -24,6 +25,7 @@ abbrev pub gave_at : ℕ → Event → Reply → List ℕ
 gave_at id (event.Call (call.Read from room)) (reply.Read bytes) = if from == id then bytes else []
 gave_at id _ _ = []
 
+-- those of all entries
 abbrev pub all_given : ℕ → List Entry → List ℕ
 all_given id [] = []
 all_given id (x ∷ xs) = gave_at id x.event x.reply ++ all_given id xs
@@ -33,6 +35,7 @@ abbrev pub ended_at : ℕ → Event → Reply → Bool
 ended_at id (event.Call (call.Read from room)) reply.ReadEnd = from == id
 ended_at id _ _ = false
 
+-- one of these entries was
 abbrev pub was_ended : ℕ → List Entry → Bool
 was_ended id [] = false
 was_ended id (x ∷ xs) = ended_at id x.event x.reply || was_ended id xs
@@ -42,34 +45,35 @@ abbrev pub finished_at : ℕ → Event → Reply → Bool
 finished_at id (event.Call (call.Finish to)) reply.Done = to == id
 finished_at id _ _ = false
 
+-- one of these entries was
 abbrev pub was_finished : ℕ → List Entry → Bool
 was_finished id [] = false
 was_finished id (x ∷ xs) = finished_at id x.event x.reply || was_finished id xs
 
 -- the caller was given it: by opening it or by accepting it
-abbrev pub gives_stream : ℕ → Event → Reply → Bool
-gives_stream id (event.Call call.Open) (reply.Opened new) = new == id
-gives_stream id (event.Call (call.OpenWith bytes)) (reply.OpenedWith new n) = new == id
-gives_stream id (event.Call call.Accept) (reply.Accepted (Some new)) = new == id
-gives_stream id _ _ = false
+abbrev pub opens_or_accepts : ℕ → Event → Reply → Bool
+opens_or_accepts id (event.Call call.Open) (reply.Opened new) = new == id
+opens_or_accepts id (event.Call (call.OpenWith bytes)) (reply.OpenedWith new n) = new == id
+opens_or_accepts id (event.Call call.Accept) (reply.Accepted (Some new)) = new == id
+opens_or_accepts id _ _ = false
 
 -- ---- what holds of them
 
--- What a stream gave at one end is a beginning of what it took at the other. Where its end was read there, it is all of
--- it, and the stream was finished at the other.
-pub record CarriesBytes (id : ℕ) (from to : List Entry) : Type 0 where
+-- What a stream gave at one end (`to`) is a beginning of what it took at the other (`from`). Where its end was read at the one, it is all
+-- of it, and the stream was finished at the other.
+pub record CarriesStream (id : ℕ) (from to : List Entry) : Type 0 where
   pub begins : (rest : List ℕ) × (all_taken id from ≡ all_given id to ++ rest)
   pub whole : was_ended id to ≡ true → all_taken id from ≡ all_given id to
   pub finished : was_ended id to ≡ true → was_finished id from ≡ true
 
 -- each stream, both ways
 abbrev pub CarryAll : List Entry → List Entry → Type 0
-CarryAll xs ys = (id : ℕ) → CarriesBytes id xs ys × CarriesBytes id ys xs
+CarryAll xs ys = (id : ℕ) → CarriesStream id xs ys × CarriesStream id ys xs
 
--- no stream is given at two places
-abbrev pub AreGivenOnce : List Entry → Type 0
-AreGivenOnce xs =
-    (id p q : ℕ) (x y : Entry) → slice_get xs p ≡ Some x → gives_stream id x.event x.reply ≡ true → slice_get xs q ≡ Some y → gives_stream id y.event y.reply ≡ true → p ≡ q
+-- no stream is opened or accepted at two places
+abbrev pub AreHandedOutOnce : List Entry → Type 0
+AreHandedOutOnce xs =
+    (id p q : ℕ) (x y : Entry) → slice_get xs p ≡ Some x → opens_or_accepts id x.event x.reply ≡ true → slice_get xs q ≡ Some y → opens_or_accepts id y.event y.reply ≡ true → p ≡ q
 
 -- behind its finish a stream takes nothing
 abbrev pub TakeNoneBehindFinish : List Entry → Type 0

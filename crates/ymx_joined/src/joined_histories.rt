@@ -8,7 +8,7 @@ ghost use Rattle.ymx_model.specs.session.Emissions.{in_turn};
 ghost use Rattle.ymx_model.specs.declared.types.Entry.{Entry};
 ghost use Rattle.ymx_headline.specs.Laws.{AreGood};
 ghost use Rattle.ymx_headline.specs.audit.Told.{IsOneRun};
-ghost use Rattle.ymx_joined.specs.Callers.{CarryAll, AreGivenOnce, TakeNoneBehindFinish, GiveNoneBehindEnd, EchoesCome};
+ghost use Rattle.ymx_joined.specs.Callers.{CarryAll, AreHandedOutOnce, TakeNoneBehindFinish, GiveNoneBehindEnd, EchoesCome};
 
 /// Two histories are one run: a client's and a server's, whose entries have a joint order that goes as the queue machine does,
 /// as `certify` shows of two transcripts. Then what each stream gave at one end is a beginning of what it took at the other.
@@ -18,8 +18,8 @@ ghost use Rattle.ymx_joined.specs.Callers.{CarryAll, AreGivenOnce, TakeNoneBehin
 pub fn one_run_carries()
     ensures carries { (xs ys : List Entry) → (steps : List Step) → (wa fa wb fb : ℕ) → (s t : Session) →
         AreGood wa fa wb fb → IsOneRun in_turn xs ys steps wa fa wb fb s t → CarryAll xs ys }
-    ensures given_once { (xs ys : List Entry) → (steps : List Step) → (wa fa wb fb : ℕ) → (s t : Session) →
-        AreGood wa fa wb fb → IsOneRun in_turn xs ys steps wa fa wb fb s t → AreGivenOnce xs × AreGivenOnce ys }
+    ensures handed_out_once { (xs ys : List Entry) → (steps : List Step) → (wa fa wb fb : ℕ) → (s t : Session) →
+        AreGood wa fa wb fb → IsOneRun in_turn xs ys steps wa fa wb fb s t → AreHandedOutOnce xs × AreHandedOutOnce ys }
     ensures none_behind_finish { (xs ys : List Entry) → (steps : List Step) → (wa fa wb fb : ℕ) → (s t : Session) →
         AreGood wa fa wb fb → IsOneRun in_turn xs ys steps wa fa wb fb s t → TakeNoneBehindFinish xs × TakeNoneBehindFinish ys }
     ensures none_behind_end { (xs ys : List Entry) → (steps : List Step) → (wa fa wb fb : ℕ) → (s t : Session) →
@@ -30,7 +30,7 @@ pub fn one_run_carries()
 /// it, and it was finished. It was read up to the end, and its reading half was closed. At the other end a caller accepted this
 /// stream. It was read up to the end there, and its reading half was closed; what was read was written back, and the stream was
 /// finished. The history at each end says that nobody else had written to the stream as it was finished, or read it as it was
-/// closed. Then the other end read the text, and what came back is the text. It is so whichever end opened the stream.
+/// closed, unless it was given twice, which one run rules out. Then the other end read the text, and what came back is the text. It is so whichever end opened the stream.
 pub fn echoes_come_back()
     ensures { (xs ys : List Entry) → (steps : List Step) → (wa fa wb fb : ℕ) → (s t : Session) →
         AreGood wa fa wb fb → IsOneRun in_turn xs ys steps wa fa wb fb s t → EchoesCome xs ys × EchoesCome ys xs }

@@ -1,9 +1,8 @@
 -- Each step of a journal keeps its rule.
-use Rattle.std.proofs.Common.{◌≡◌, ◌≢◌, ℕ, zero, suc, ◌<◌, ◌==◌, List, [], ◌∷◌, ◌++◌, length, set, Bool, true, false, true≢false, if◌then◌else◌, refl, sym, ap, ◌∙◌, subst, ⊎_elim, arith, append_assoc, append-nil}
+use Rattle.std.proofs.Common.{◌≡◌, ◌≢◌, ℕ, zero, suc, ◌==◌, List, [], ◌∷◌, ◌++◌, length, set, Bool, true, false, true≢false, if◌then◌else◌, refl, sym, ap, ◌∙◌, subst, ⊎_elim, arith, append_assoc, append-nil}
 use Rattle.std.specs.Prelude.{slice_get, Some}
-use Rattle.std.proofs.Math.Seq.{get_or-append_seam}
-use Rattle.std.proofs.lemmas.List.{length-append, length-set, get_or_append_left, get_or-set_same, get_or-set_other}
-use Rattle.std.proofs.lemmas.Option.{slice_get_within, slice_get-get_or, get_or_from_slice_get}
+use Rattle.std.proofs.lemmas.List.{length-append, length-set}
+use Rattle.std.proofs.lemmas.Option.{slice_get_within}
 use Rattle.std.proofs.lemmas.Bool.Decides.{nat_tests}
 use mathlib.Core.Option.{some, some-ne-none, some-injective}
 use mathlib.Core.List.{IsPrefix}
@@ -14,7 +13,8 @@ use Rattle.atomic_table.specs.Table.Act.{keeps}
 use Rattle.ymx_model.specs.declared.types.Entry.{Entry}
 use Rattle.ymx_seats.specs.declared.plays.Knowledge.{Knowledge}
 use Rattle.ymx_seats.specs.declared.plays.Right.{Right}
-use Rattle.ymx_seats.specs.Journals.{part, release_of, knower, caller, nobody, visited, visitor, shown, released, Fits, IsKept, IsBehind, HasAdded, HasShown, HasReleased, HasCounted}
+use Rattle.ymx_seats.specs.Journals.{part, release_of, knower, caller, nobody, visited, visitor, shown, having_released, Fits, IsKept, IsBehind, HasAdded, HasShown, HasReleased, HasCounted}
+use Rattle.ymx_seats.proofs.Places.{got_before, got_last, got_same, got_other}
 
 off : false ≡ true → ⊥
 off e = true≢false (sym e)
@@ -130,21 +130,8 @@ shows_to views id whole rights number right seen h at =
       unmade = h.unmade;
     }
 
--- what the others may do stays as one releases its reads
-got_same : (xs : List Right) (n : ℕ) (was r : Right) → slice_get xs n ≡ Some was → slice_get (set xs n r) n ≡ Some r
-got_same xs n was r e =
-    let within : n < length xs = slice_get_within xs n was e in
-    let long = length-set xs n r in
-    slice_get-get_or (set xs n r) n r (omega (arith, within, long)) ∙ ap (λ x. Some x) (get_or-set_same xs n r r within)
-
-got_other : (xs : List Right) (n m : ℕ) (r it : Right) → m ≢ n → slice_get xs m ≡ Some it → slice_get (set xs n r) m ≡ Some it
-got_other xs n m r it apart e =
-    let within : m < length xs = slice_get_within xs m it e in
-    let long = length-set xs n r in
-    slice_get-get_or (set xs n r) m it (omega (arith, within, long)) ∙ ap (λ x. Some x) (get_or-set_other xs n m r it apart ∙ get_or_from_slice_get xs m it it e)
-
 releases_to : (views : List Knowledge) (id : ℕ) (whole : List Entry) (rights : List Right) (number : ℕ) (right : Right) (seen : List Entry) → IsKept views → get_elem? views id ≡ some (with_caller whole rights number right seen)
-    → IsKept (set views id (released (with_caller whole rights number right seen)))
+    → IsKept (set views id (having_released (with_caller whole rights number right seen)))
 releases_to views id whole rights number right seen h at =
     let (k, s) = both_stand views id whole rights number right seen h at in
     let next = set h.rights number (release_of right) in record {
@@ -152,7 +139,7 @@ releases_to views id whole rights number right seen h at =
       owner = h.owner;
       rights = next;
       log = h.log;
-      fits = others_too (Fits h.keeper h.owner next h.log) views id (released (with_caller whole rights number right seen))
+      fits = others_too (Fits h.keeper h.owner next h.log) views id (having_released (with_caller whole rights number right seen))
           (λ j u apart there. record {
             keeps = λ b. absurd (apart (((h.fits j u there).keeps b).0 ∙ sym k.0));
             speaks = λ b.
@@ -235,16 +222,6 @@ splits_off views id whole rights number right seen h at =
           (record { keeps = λ b. absurd (off b); speaks = λ _. (passed_here h.owner number (length left) number (number == number) refl refl, s.1, s.2, s.3) });
       unmade = h.unmade;
     }
-
--- what a caller may do stays as one more is numbered
-got_before : (xs : List Right) (y : Right) (n : ℕ) (r : Right) → slice_get xs n ≡ Some r → slice_get (xs ++ y ∷ []) n ≡ Some r
-got_before xs y n r e =
-    let within : n < length xs = slice_get_within xs n r e in
-    let long = length-append xs (y ∷ []) in
-    slice_get-get_or (xs ++ y ∷ []) n r (omega (arith, within, long)) ∙ ap (λ x. Some x) (get_or_append_left xs (y ∷ []) r n within ∙ get_or_from_slice_get xs n r r e)
-
-got_last : (xs : List Right) (y : Right) → slice_get (xs ++ y ∷ []) (length xs) ≡ Some y
-got_last xs y = let long = length-append xs (y ∷ []) in slice_get-get_or (xs ++ y ∷ []) (length xs) y (omega (arith, long)) ∙ ap (λ x. Some x) (get_or-append_seam xs y [] y)
 
 numbers_one : (views : List Knowledge) (id : ℕ) (whole : List Entry) (rights : List Right) (right : Right) → IsKept views → get_elem? views id ≡ some (knower whole rights)
     → IsKept (set views id (knower whole (rights ++ right ∷ [])) ++ caller (length rights) right whole ∷ [])
@@ -342,7 +319,7 @@ shows slots id me whole rights number right seen is =
 releases_at : (slots id : ℕ) (whole : List Entry) (rights : List Right) (number : ℕ) (right : Right) (seen : List Entry)
     → Allows Rules slots id (knows (keeper_of whole rights number right seen)) 0 (λ n. n) (λ n w. HasReleased (knows (keeper_of whole rights number right seen)) w)
 releases_at slots id whole rights number right seen s h homes at less = (
-  released (keeper_of whole rights number right seen),
+  having_released (keeper_of whole rights number right seen),
   keeps,
   tt,
   releases_to s.views id whole rights number right seen h at,

@@ -6,7 +6,7 @@ use Rattle.atomic_table.specs.Table.{Allows, Splits, Joins}
 use Rattle.ymx_model.specs.declared.types.Entry.{Entry}
 use Rattle.ymx_seats.specs.declared.plays.Knowledge.{Knowledge}
 use Rattle.ymx_seats.specs.declared.plays.Right.{Right}
-use Rattle.ymx_seats.specs.Journals.{release_of, knower, caller, nobody, visited, visitor, shown, released, HasAdded, HasShown, HasReleased}
+use Rattle.ymx_seats.specs.Journals.{release_of, knower, caller, nobody, visited, visitor, shown, having_released, HasAdded, HasShown, HasReleased}
 use Rattle.ymx_seats.proofs.Moves.{Rules, knows, keeper_of, alone, adds, shows, releases, joins, splits}
 
 -- `held` is what the keeper's seat knows, and `pass` what the seat knows that is made of the caller's badge `was`, once
@@ -54,11 +54,11 @@ module _ {named at table there : TableId} {held : Knowledge × List (ℕ × ℕ)
     releases_met slot_count = (same_table, journal.3, releases slot_count id met whole rights number right seen met_is)
 
     -- and after the caller released its reads
-    pub leaves_released : {then : TableId} {last : Knowledge × List (ℕ × ℕ)} → then ≡ now → last ≡ (released met.0, met.1) → (again : ℕ)
+    pub leaves_released : {then : TableId} {last : Knowledge × List (ℕ × ℕ)} → then ≡ now → last ≡ (having_released met.0, met.1) → (again : ℕ)
         → (then ≡ table) × (0 < table.words) × Splits Rules again last.0 (knower last.0.whole last.0.rights) (visitor last.0)
     leaves_released {then} {last} stays told again = (
       stays ∙ same_table,
       journal.3,
       splits again last.0 whole (set rights number (release_of right)) number (release_of right) seen
-          (ap (λ (x : Knowledge × List (ℕ × ℕ)). x.0) told ∙ ap (λ (x : Knowledge × List (ℕ × ℕ)). released x.0) met_is),
+          (ap (λ (x : Knowledge × List (ℕ × ℕ)). x.0) told ∙ ap (λ (x : Knowledge × List (ℕ × ℕ)). having_released x.0) met_is),
     )

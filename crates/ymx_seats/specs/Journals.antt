@@ -107,8 +107,8 @@ abbrev pub shown : List Entry → Knowledge → Knowledge
 shown whole v = record { keeps = v.keeps; rights = v.rights; whole = whole; speaks = v.speaks; number = v.number; right = v.right; seen = whole }
 
 -- the keeper, with a caller that has released its reads
-abbrev pub released : Knowledge → Knowledge
-released v = record v { rights = set v.rights v.number (release_of v.right); right = release_of v.right }
+abbrev pub having_released : Knowledge → Knowledge
+having_released v = record v { rights = set v.rights v.number (release_of v.right); right = release_of v.right }
 
 module _ {S : Type 0} where
   abbrev pub HasAdded : Entry → Knowledge × S → Knowledge × S → Type 0
@@ -118,7 +118,7 @@ module _ {S : Type 0} where
   HasShown v w = IsBehind v.0 × (w ≡ (shown v.0.whole v.0, v.1))
 
   abbrev pub HasReleased : Knowledge × S → Knowledge × S → Type 0
-  HasReleased v w = IsBehind v.0 × (w ≡ (released v.0, v.1))
+  HasReleased v w = IsBehind v.0 × (w ≡ (having_released v.0, v.1))
 
   abbrev pub HasCounted : Knowledge × S → Knowledge × S → Type 0
   HasCounted v w = (part (length v.0.rights) v.0.whole ≡ []) × (w ≡ v)

@@ -45,13 +45,13 @@ impl EntryName for Brand {
 
 /// What a caller may do to streams. No value of it is made.
 pub enum Right {
-    /// What is no call of a half.
+    /// What is no call of a half, and reads that were released.
     Free,
     /// The calls of the writing half of this stream too, which the entry at this position gave.
     Writes(u32, u64),
     /// The reads of this stream too, which the entry at this position gave.
     Reads(u32, u64),
-    /// What is no call of a half. It had the reads of this stream, which the entry at this position gave, and released them to all.
+    /// The same. It had the reads of this stream, which the entry at this position gave, and released them to all.
     Released(u32, u64),
 }
 

@@ -10,7 +10,7 @@ use Rattle.ymx_hub.proofs.History.{kept_after}
 use Rattle.ymx_hub.proofs.Books.{books_one, given_one, refused_one}
 use Rattle.ymx_hub.proofs.Extends.{behind_at, journal_at, entries_at, after_at, kept_longer}
 use Rattle.ymx_hub.specs.Rights.{AllReleased, handed_out}
-use Rattle.ymx_hub.proofs.Journals.{journaled_after, journaled_given, all_after, all_given, half_known}
+use Rattle.ymx_hub.proofs.Journals.{journaled_after, journaled_given, all_after, all_handed_out, half_known}
 use Rattle.ymx_hub.proofs.Rights.{asks_freely}
 use Rattle.ymx_hub.proofs.WholeHistories.{witnessed_of}
 use Rattle.ymx_hub.proofs.booked.Booked.give.Goals as goal
@@ -35,7 +35,7 @@ invariant_of-self-in-Ok-Some g c = (
       (half_known c.args.seat.now.number _ c.args.seat.now.right _ c.self.inside.log.journal _ c.prepare.ensures.number c.prepare.ensures.right c.prepare.ensures.journal c.carry_out-told.ensures.known) c.self.invariant.5 (λ w. asks_freely (Contains c.self.inside.released) c.args.seat.now.right c.args.event.now c.requires)
       ((rw c.in-Ok-Some.field-0-is at c.in-Ok-Some.ensures) c.carry_out-told.new.buffer))),
   subst (AllReleased c.self.inside.released) (sym (ap (λ l. l.journal) c.hand_out-first.ensures.log ∙ ap (handed_out c.in-Ok-Some.id) (journal_at _ c.args.seat.now.number _ c.args.event.now _ (in_buffer c.carry_out-told.new.buffer c.carry_out-told.result) _ c.self.inside.log.journal _ c.carry_out-told.ensures.journal c.prepare.ensures.number refl refl c.prepare.ensures.journal)))
-      (all_given c.self.inside.released c.in-Ok-Some.id _ (all_after c.self.inside.released c.self.inside.log.journal c.args.seat.now.number c.args.event.now (in_buffer c.carry_out-told.new.buffer c.carry_out-told.result) c.self.invariant.5)),
+      (all_handed_out c.self.inside.released c.in-Ok-Some.id _ (all_after c.self.inside.released c.self.inside.log.journal c.args.seat.now.number c.args.event.now (in_buffer c.carry_out-told.new.buffer c.carry_out-told.result) c.self.invariant.5)),
 )
 
 pub returns-in-Ok-Some-clause-booked : goal.returns-in-Ok-Some-clause-booked
