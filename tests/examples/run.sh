@@ -2,7 +2,8 @@
 # The programs of docs/GUIDE.md: proves those of examples/, runs each server, and its client against it over TCP on the
 # loopback, and compares what they print. Without blank lines and comments, those that the guide shows must have under 50
 # lines each, and those of examples/echo under 50 together. The history
-# that two hubs keep must be one run. The client of the guide must say so where a thread can't be made, and send nothing.
+# that two hubs keep must be one run, and both ends of the echo that are one program must say that all came back. The client
+# of the guide must say so where a thread can't be made, and send nothing. Proofs of examples end in .proof there.
 # The repository is left alone: the programs are crates in a copy, which takes over what was proved before. With `guide` it
 # is the client and the server of the guide alone. With YMX_FROM_GATE=yes they are proved over the libraries as `rt ci` has
 # proved and built them, by the compiler that it calls.
@@ -146,11 +147,11 @@ cmp "$scratch/input" "$scratch/client.out" || fail 'the echo is another text' "$
 
 prove history/main ymx_joined ymx_connect ymx_hub ymx_session ymx_seats ymx_model
 build
-"$program" > "$scratch/history.out"
+timeout 300 "$program" > "$scratch/history.out" || fail 'both hubs failed' "$scratch/history.out"
 printf 'the word has come: true\nboth histories are one run: true\n' | cmp - "$scratch/history.out" || fail 'the history is another' "$scratch/history.out"
 
 prove echoed ymx_joined ymx_connect ymx_seats ymx_headline ymx_machine ymx_model
 build
-timeout 60 "$program" > "$scratch/echoed.out"
+timeout 300 "$program" > "$scratch/echoed.out" || fail 'both ends of the echo failed' "$scratch/echoed.out"
 printf 'the same came back: true\none stream was echoed: true\n' | cmp - "$scratch/echoed.out" || fail 'the echo is another' "$scratch/echoed.out"
 echo '6 programs proved and run'
