@@ -283,7 +283,9 @@ func (st *Stream) WriteTo(writer io.Writer) (int64, error) {
 
 // ---- writing
 
-// Write writes all of it, and waits until the connection has taken it. The count is of bytes that the connection took.
+// Write writes all of it, and waits until the connection has taken it. The count is of bytes that the connection took. Where
+// the deadline passes it is of bytes that go out, also later, so who goes on from there repeats none; and where all of them
+// do, there is no ErrTimeout.
 func (st *Stream) Write(bytes []byte) (int, error) {
 	st.sending.Lock()
 	defer st.sending.Unlock()
@@ -305,6 +307,12 @@ func (st *Stream) Write(bytes []byte) (int, error) {
 	}
 	if err == nil {
 		err = st.unsent()
+	}
+	if err == ErrTimeout {
+		if st.taken == before+uint64(all) {
+			err = nil
+		}
+		return int(st.taken - before), err
 	}
 	if st.gone <= before {
 		return 0, err

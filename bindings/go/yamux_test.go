@@ -6,6 +6,7 @@ import (
 	"crypto/tls"
 	"encoding/binary"
 	"errors"
+	"fmt"
 	"io"
 	"math/rand"
 	"net"
@@ -1116,6 +1117,93 @@ func TestWriteBehindItsDeadlineSendsNothing(t *testing.T) {
 	came, err := io.ReadAll(far)
 	if good(t, err); string(came) != "in time" {
 		t.Fatal(string(came))
+	}
+}
+
+// insist writes all of it under deadlines of 1 to 5 ms, and goes on from what each Write says, as programs do with any net.Conn.
+func insist(stream *Stream, text []byte, chance *rand.Rand) error {
+	for len(text) > 0 {
+		stream.SetWriteDeadline(time.Now().Add(time.Duration(1+chance.Intn(5)) * time.Millisecond))
+		count, err := stream.Write(text)
+		if err != nil && err != ErrTimeout || err == nil && count < len(text) {
+			return fmt.Errorf("%d of %d: %v", count, len(text), err)
+		}
+		text = text[count:]
+	}
+	return stream.CloseWrite()
+}
+
+func TestNoByteIsSentTwiceBehindADeadline(t *testing.T) {
+	for name, connect := range map[string]func(*testing.T, *Config) (client, server *Session){"TCP": overTCP, "pipe": overPipe} {
+		t.Run(name, func(t *testing.T) {
+			client, server := connect(t, quiet())
+			var all sync.WaitGroup
+			for number := 0; number < 16; number++ {
+				near, far := pair(t, client, server)
+				text := random(number, 1<<20)
+				all.Add(2)
+				go func(chance *rand.Rand) {
+					defer all.Done()
+					if err := insist(near, text, chance); err != nil {
+						t.Error(err)
+					}
+				}(rand.New(rand.NewSource(int64(number))))
+				go func() {
+					defer all.Done()
+					var came []byte
+					block := make([]byte, 10000)
+					for {
+						count, err := far.Read(block)
+						if came = append(came, block[:count]...); err != nil {
+							if err != io.EOF || !bytes.Equal(came, text) {
+								t.Errorf("%d bytes came, %v", len(came), err)
+							}
+							return
+						}
+						if count < 3000 { // so that some deadlines pass
+							time.Sleep(time.Millisecond)
+						}
+					}
+				}()
+			}
+			all.Wait()
+		})
+	}
+}
+
+// slow is a connection that takes nothing while its lock is held.
+type slow struct {
+	net.Conn
+	sync.Mutex
+}
+
+func (s *slow) Write(bytes []byte) (int, error) {
+	s.Lock()
+	defer s.Unlock()
+	return s.Conn.Write(bytes)
+}
+
+func TestAWriteThatTheConnectionTakesLaterIsWhole(t *testing.T) {
+	near, far := net.Pipe()
+	connection := &slow{Conn: near}
+	client, err := Client(connection, quiet())
+	good(t, err)
+	defer client.Close()
+	server, err := Server(far, quiet())
+	good(t, err)
+	defer server.Close()
+	one, other := pair(t, client, server)
+	connection.Lock()
+	good(t, one.SetWriteDeadline(time.Now().Add(20*time.Millisecond)))
+	count, err := one.Write([]byte("0123456789"))
+	connection.Unlock()
+	if count != 10 || err != nil {
+		t.Fatal(count, err)
+	}
+	good(t, one.CloseWrite())
+	came, err := io.ReadAll(other)
+	if good(t, err); string(came) != "0123456789" {
+		t.Fatalf("%q", came)
 	}
 }
 

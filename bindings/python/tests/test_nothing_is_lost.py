@@ -3,6 +3,7 @@ import asyncio
 import fcntl
 import gc
 import os
+import random
 import socket
 import ssl
 import struct
@@ -226,6 +227,24 @@ class CutStreams(BothSides):
             await far_reader.read()
         self.assertTrue(far.is_closing())
         await self.gone()
+
+    async def test_a_drain_that_is_cancelled_sends_each_byte_once(self):
+        near, (far_reader, far) = await self.pair()
+        text, at = random.Random(7).randbytes(2000000), 0
+        reading = None
+        timeouts = 0
+        while at < len(text):
+            near[1].write(text[at : at + 100000])
+            at += 100000
+            try:
+                await asyncio.wait_for(near[1].drain(), 0.001)
+            except asyncio.TimeoutError:
+                timeouts += 1
+                reading = reading or asyncio.ensure_future(far_reader.read())
+        near[1].close()
+        self.assertGreater(timeouts, 0)
+        self.assertTrue(await reading == text)
+        far.close()
 
     async def test_a_read_that_is_cancelled_loses_nothing(self):
         (near_reader, near), (_, far) = await self.pair()

@@ -502,6 +502,39 @@ fn each_call_that_waits_can_time_out() {
 }
 
 #[test]
+fn a_write_that_times_out_sends_each_byte_once() {
+    let (client, server) = pair();
+    let (_reader, mut writer) = client.open().unwrap();
+    let (mut far_reader, _far) = server.accept().unwrap();
+    let sent = text(9, 2_000_000);
+    let reading = thread::spawn(move || {
+        let mut came = Vec::new();
+        let mut block = [0; 50_000];
+        loop {
+            match far_reader.read(&mut block).unwrap() {
+                0 => return came,
+                count => came.extend_from_slice(&block[..count]),
+            }
+            thread::sleep(Duration::from_millis(1));
+        }
+    });
+    writer.set_write_timeout(Some(Duration::from_micros(100)));
+    let (mut rest, mut timeouts) = (&sent[..], 0);
+    while !rest.is_empty() {
+        match writer.write(rest) {
+            Ok(count) => rest = &rest[count..],
+            Err(error) => {
+                assert_eq!(error.kind(), ErrorKind::TimedOut);
+                timeouts += 1;
+            }
+        }
+    }
+    writer.finish().unwrap();
+    assert!(timeouts > 0);
+    assert!(reading.join().unwrap() == sent);
+}
+
+#[test]
 fn pings_that_were_given_up_make_room_once_they_are_answered() {
     let (near, mut far) = sockets();
     let client = Connection::over(Role::Client, near).unwrap();
