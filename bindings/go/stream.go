@@ -19,6 +19,8 @@ type Stream struct {
 	stalled    bool // a write would wait
 	finished   bool // our end is on its way, or out
 	closed     bool
+	hasRead    bool  // a Read has begun before Close
+	isDoomed   bool  // it is looked at once the grace of late bytes is over
 	isUnacked  bool  // the peer has not acknowledged it
 	begins     bool  // its first frame is out
 	ends       bool  // our end is out
@@ -35,6 +37,7 @@ type Stream struct {
 	placed int    // how many are there
 	rest   []byte // what has come after Close, or before the session ended
 	end    error  // what Read returns behind that, once the library has forgotten the stream; nil before
+	last   error  // what it returns there in place of that, and at once, as Close has decided; or nil
 
 	closedAt time.Time
 	opening  waiting
@@ -84,26 +87,29 @@ func (st *Stream) Shrink() {
 
 // ---- reading
 
-// lateReads is how long behind Close a Read that begins there waits for bytes that are on their way already.
+// lateReads is how long behind Close bytes of the peer's may come before they reset the stream, and how long a Read that
+// begins there waits for them, if there was none before.
 const lateReads = 100 * time.Millisecond
 
 // Read reads what has come, and waits while there is nothing. io.EOF comes once the peer has ended the stream and all was
 // read, and for no other reason. Close ends a Read that waits, with ErrStreamClosed. A Read that begins behind Close gives
-// what has come, or comes within 100 milliseconds behind Close, and then ErrStreamClosed. Where the session ends before the
-// stream, Read gives what has come, and then ErrSessionShutdown. Behind a reset it is ErrConnectionReset, and ErrTimeout
-// where nothing is there and the deadline has passed.
+// what had come before, and then ErrStreamClosed, or io.EOF if that had come too: what comes later may be the peer's answer
+// to Close. Only where there was no Read before Close, as that of a request whose answer is read next, it gives also what
+// comes within 100 milliseconds. Where the session ends before the stream, Read gives what has come, and then
+// ErrSessionShutdown. Behind a reset it is ErrConnectionReset, and ErrTimeout where nothing is there and the deadline has
+// passed.
 func (st *Stream) Read(buffer []byte) (int, error) {
 	st.session.lock.Lock()
 	defer st.session.lock.Unlock()
-	return st.read(buffer, st.closed)
+	return st.read(buffer)
 }
 
-// read is Read. isLate says whether the call began behind Close.
-func (st *Stream) read(buffer []byte, isLate bool) (int, error) {
+func (st *Stream) read(buffer []byte) (int, error) {
 	if len(buffer) == 0 {
 		return 0, nil
 	}
 	s := st.session
+	st.hasRead = st.hasRead || !st.closed
 	for {
 		if len(st.rest) > 0 {
 			count := copy(buffer, st.rest)
@@ -112,6 +118,9 @@ func (st *Stream) read(buffer []byte, isLate bool) (int, error) {
 		}
 		if st.end != nil {
 			return 0, st.end
+		}
+		if st.last != nil {
+			return 0, st.last
 		}
 		if !st.nothing {
 			answer := s.core.read(st.id, buffer)
@@ -132,7 +141,7 @@ func (st *Stream) read(buffer []byte, isLate bool) (int, error) {
 		}
 		if st.closed {
 			left := lateReads - time.Since(st.closedAt)
-			if !isLate || left <= 0 {
+			if left <= 0 {
 				return 0, ErrStreamClosed
 			}
 			time.AfterFunc(left, st.wakeAll)
@@ -251,13 +260,10 @@ const copySize = 32 * 1024
 // that was broken off isn't taken for a whole one, and programs that pass over io.EOF, as go-plugin, log nothing.
 func (st *Stream) WriteTo(writer io.Writer) (int64, error) {
 	block := make([]byte, copySize)
-	st.session.lock.Lock()
-	isLate := st.closed
-	st.session.lock.Unlock()
 	var all int64
 	for {
 		st.session.lock.Lock()
-		count, err := st.read(block, isLate)
+		count, err := st.read(block)
 		st.session.lock.Unlock()
 		if count > 0 {
 			written, fault := writer.Write(block[:count])
@@ -529,7 +535,8 @@ func (st *Stream) CloseWrite() error {
 
 // Close ends both sides. The writing side ends behind the last byte, and Close waits until the connection has taken that
 // end. A Read or Write that waits returns ErrStreamClosed, but a Read gives what has come first. Who wants to read on calls
-// CloseWrite. The stream is gone once the peer has ended it, and is reset if that takes longer than StreamCloseTimeout.
+// CloseWrite. The stream is gone once the peer has ended it. It is reset if that takes longer than StreamCloseTimeout, or
+// bytes come behind Close, and 100 milliseconds are over: so a peer that goes on writing learns of it.
 //
 // Where it ends a Write that has bytes left for which the peer gave no credit, the stream is reset, so that the peer doesn't
 // take what has come for the whole.
@@ -544,14 +551,19 @@ func (st *Stream) Close() error {
 		return nil
 	}
 	st.closed, st.closedAt = true, time.Now()
+	news := s.core.look(st.id)
+	if news.hasUnread() {
+		st.rest = s.core.take(st.id, st.rest, widestWindow)
+	}
+	if news.hasEnded() {
+		st.last = io.EOF
+	} else if st.hasRead && !news.isReset() {
+		st.last = ErrStreamClosed
+		s.core.unseat(st.id)
+	}
 	st.wake()
 	if st.waiting > 0 && !st.finished {
-		reason := ErrStreamClosed
-		if s.core.look(st.id).hasEnded() {
-			reason = io.EOF // behind what has come
-		}
-		st.rest = s.core.take(st.id, st.rest, widestWindow)
-		st.breakOff(reason)
+		st.breakOff(ErrStreamClosed)
 		s.writeHere()
 		return nil
 	}
@@ -629,15 +641,38 @@ func (st *Stream) acknowledged() {
 // tidy lets a closed stream go, if that can be.
 func (st *Stream) tidy() { st.settle(st.session.core.look(st.id)) }
 
-// settle lets a closed stream go, once the peer has ended it. What has come waits for Read.
+// settle lets a closed stream go, once the peer has ended it, or sends bytes though the grace is over. What a Read may still
+// give waits for it.
 func (st *Stream) settle(news news) {
 	if news.isReset() {
 		st.leave(ErrConnectionReset)
 	} else if news.hasEnded() {
-		if news.hasUnread() {
+		if news.hasUnread() && st.last == nil {
 			st.rest = st.session.core.take(st.id, st.rest, widestWindow)
 		}
 		st.leave(io.EOF)
+	} else if news.hasUnread() && !st.isDoomed {
+		left := lateReads - time.Since(st.closedAt)
+		switch {
+		case left > 0:
+		case st.ends:
+			st.breakOff(ErrStreamClosed)
+			return
+		default:
+			left = lateReads // what was written isn't out yet
+		}
+		st.isDoomed = true
+		time.AfterFunc(left, st.graceIsOver)
+	}
+}
+
+// graceIsOver is called where bytes came behind Close.
+func (st *Stream) graceIsOver() {
+	st.session.lock.Lock()
+	defer st.session.lock.Unlock()
+	st.isDoomed = false
+	if st.end == nil {
+		st.tidy()
 	}
 }
 
@@ -660,7 +695,7 @@ func (st *Stream) leave(reason error) {
 func (st *Stream) abandon() {
 	core := st.session.core
 	news := core.look(st.id)
-	if news.hasUnread() {
+	if news.hasUnread() && st.last == nil {
 		st.rest = core.take(st.id, st.rest, widestWindow)
 	}
 	reason := ErrSessionShutdown
@@ -678,6 +713,9 @@ func (st *Stream) abandon() {
 
 func (st *Stream) over(reason error) {
 	st.end = reason
+	if st.last != nil {
+		st.end = st.last
+	}
 	st.session.opening.remove(&st.opening)
 	st.session.closing.remove(&st.closing)
 	st.wake()

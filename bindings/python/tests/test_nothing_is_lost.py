@@ -209,6 +209,42 @@ class CutStreams(BothSides):
         far.close()
         await self.gone()
 
+    async def test_who_writes_to_a_stream_that_is_closed_there_is_reset(self):
+        """Also of more downloads than a session has streams, that are given up early: none keeps its place."""
+        writing = []
+
+        async def write(writer):
+            for _ in range(10):
+                writer.write(bytes(100000))
+                await writer.drain()
+
+        for at in range(1100):
+            (near_reader, near), (_, far) = await self.pair()
+            writing.append((far, asyncio.ensure_future(write(far))))
+            await near_reader.readexactly(10)
+            if at % 2:
+                near.transport.pause_reading()
+                await asyncio.sleep(0.001)
+            near.close()
+            await near.wait_closed()
+        for far, task in writing:
+            with self.assertRaises(ymx.StreamReset):
+                await asyncio.wait_for(task, 30)
+            far.close()
+        await self.gone()
+
+    async def test_an_end_that_crosses_a_close_resets_nothing(self):
+        for _ in range(200):
+            (_, near), (far_reader, far) = await self.pair()
+            near.write(b"all")
+            far.write(b"x")
+            far.write_eof()
+            near.close()
+            self.assertEqual(await asyncio.wait_for(far_reader.read(), 5), b"all")
+            await near.wait_closed()
+            far.close()
+        await self.gone()
+
     async def test_a_stream_that_was_aborted_here_reads_no_end(self):
         (near_reader, near), (far_reader, far) = await self.pair()
         far.write(b"a beginning")

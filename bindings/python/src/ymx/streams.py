@@ -141,6 +141,7 @@ class StreamTransport(asyncio.Transport):
         self._ending = False  # no more is written here
         self._finished = False  # the session knows
         self._closing = False
+        self._deaf = False  # behind close, and what had come is thrown away
         self._disowned = False  # the writer is gone, behind write_eof
         self._why: Optional[Exception] = None  # why the stream is over
         self._told = False  # the protocol knows that it is over
@@ -194,7 +195,7 @@ class StreamTransport(asyncio.Transport):
 
     def _give(self, is_last: bool = False) -> None:
         """Gives what has come to the protocol, or throws it away behind close. The last time also to a reader that has
-        enough."""
+        enough. Bytes that come once both sides are closed here reset the stream, so that the peer learns of it."""
         while not self.is_gone and not self._at_end and (self._reading or self._closing or is_last):
             data = self._session.read(self._id)
             if data is None:
@@ -207,6 +208,14 @@ class StreamTransport(asyncio.Transport):
                 self._connection.plan()  # there may be credit to send
                 if not self._closing:
                     self._protocol.data_received(data)
+                elif self._is_unwanted():
+                    self._session.reset(self._id)
+                    self._leave()
+
+    def _is_unwanted(self) -> bool:
+        """Whether what comes tells of a peer that goes on to write though nobody reads, and who has all that was written."""
+        session, stream = self._session, self._id
+        return self._deaf and self._finished and session.unsent(stream) == 0 and not session.has_ended(stream)
 
     def pause_reading(self) -> None:
         self._reading = False
@@ -294,7 +303,7 @@ class StreamTransport(asyncio.Transport):
     # ---- the end
 
     def close(self) -> None:
-        """Ends the writing side behind the last byte. What the peer still sends is thrown away until its end comes."""
+        """Ends the writing side behind the last byte. Where the peer still sends something behind that, the stream is reset."""
         if self._closing or self.is_gone:
             return
         self._closing = True
@@ -302,7 +311,12 @@ class StreamTransport(asyncio.Transport):
         if self._finished:
             self.loop.call_soon(self._tell, None)
         self._ending = True
-        self._try_to_write()  # at once, as the connection may be closed next
+        try:
+            self._give()
+            self._write()  # at once, as the connection may be closed next
+        except Refused:
+            pass
+        self._deaf = True
         self.loop.call_soon(self.touch)
 
     def is_closing(self) -> bool:

@@ -128,7 +128,8 @@ struct Halves {
 /// The reading half of a stream.
 ///
 /// At the peer's end it reads 0 bytes. A reset is `ConnectionReset`, and a connection that ends before the stream
-/// `ConnectionAborted`, whose inner error is an [`Ended`]. Dropped, it throws away what still comes.
+/// `ConnectionAborted`, whose inner error is an [`Ended`]. Dropped, it throws away what still comes; and once this side is
+/// finished too, bytes that come reset the stream, so that the peer learns of it.
 pub struct ReadHalf {
     stream: Arc<Stream>,
     timeout: Option<Duration>,
@@ -579,7 +580,7 @@ impl Shared {
             if let Some(stream) = state.streams.get(&id).cloned() {
                 stream.readable.notify_all();
                 stream.writable.notify_all();
-                stream.tidy(state);
+                stream.tidy(state, true);
             }
         }
         if touched.has_pong() {
@@ -684,8 +685,8 @@ impl Stream {
     }
 
     /// Throws away what has come where the reading half is gone, and has the session forget the stream once both sides
-    /// have ended it: sooner would reset it.
-    fn tidy(&self, state: &mut State) {
+    /// have ended it: sooner would reset it. Bytes that are `new` do reset one that nobody reads or writes any more.
+    fn tidy(&self, state: &mut State, new: bool) {
         let mut halves = self.halves();
         if halves.forgotten || !halves.unread {
             return;
@@ -696,7 +697,13 @@ impl Stream {
             if count == 0 {
                 break session.consume(self.id, 1).is_err();
             }
-            if session.consume(self.id, count).is_err() {
+            let is_unwanted = new
+                && halves.finished
+                && session.unsent(self.id) == 0
+                && !session.has_ended(self.id);
+            if is_unwanted && session.reset(self.id).is_ok()
+                || session.consume(self.id, count).is_err()
+            {
                 break true;
             }
         };
@@ -726,7 +733,7 @@ impl Stream {
             self.shared.changed.notify_all();
             self.shared.sender.notify_one();
         }
-        self.tidy(state);
+        self.tidy(state, false);
     }
 
     fn finish(&self) -> io::Result<()> {
@@ -735,7 +742,7 @@ impl Stream {
         state.check()?; // an end that still got out would be taken for a good one
         let finished = state.session.finish(self.id);
         self.shared.sender.notify_one();
-        self.tidy(&mut state);
+        self.tidy(&mut state, false);
         if self.halves().reset {
             return Err(Refused { code: YMX_E_RESET }.into());
         }
@@ -790,7 +797,7 @@ impl Drop for ReadHalf {
     fn drop(&mut self) {
         let mut state = self.stream.shared.lock();
         self.stream.halves().unread = true;
-        self.stream.tidy(&mut state);
+        self.stream.tidy(&mut state, false);
     }
 }
 

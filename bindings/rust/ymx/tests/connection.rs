@@ -75,11 +75,62 @@ fn a_dropped_reader_throws_away_what_comes() {
     let (client, server) = pair();
     let (reader, writer) = client.open().unwrap();
     let (_, mut far) = server.accept().unwrap();
-    writer.finish().unwrap();
     drop(reader);
     far.write_all(&text(1, 1_000_000)).unwrap();
     far.finish().unwrap();
+    writer.finish().unwrap();
     soon(|| client.stream_count() == 0);
+}
+
+/// More downloads than a session has streams are given up early: each of their writers learns of it.
+#[test]
+fn who_writes_to_nobody_is_reset() {
+    let (client, server) = pair();
+    thread::scope(|threads| {
+        let server = &server;
+        threads.spawn(move || {
+            for _ in 0..1100 {
+                let (mut reader, mut writer) = server.accept().unwrap();
+                thread::spawn(move || {
+                    let error = writer.write_all(&[0; 1_000_000]).unwrap_err();
+                    assert_eq!(error.kind(), ErrorKind::ConnectionReset);
+                    assert!(reader.read(&mut [0]).is_err());
+                });
+            }
+        });
+        for round in 0..1100 {
+            let (mut reader, writer) = client.open().unwrap();
+            reader.read_exact(&mut [0; 10]).unwrap();
+            if round % 2 == 0 {
+                writer.finish().unwrap();
+                drop(reader);
+            } else {
+                drop(reader);
+                writer.finish().unwrap();
+            }
+        }
+    });
+    soon(|| client.stream_count() == 0 && server.stream_count() == 0);
+}
+
+/// What is on its way together with the peer's end resets nothing, so the peer still reads all that was written.
+#[test]
+fn an_end_that_crosses_is_no_reset() {
+    let (client, server) = pair();
+    for _ in 0..200 {
+        let (reader, mut writer) = client.open().unwrap();
+        let (mut far_reader, mut far) = server.accept().unwrap();
+        writer.write_all(b"all").unwrap();
+        far.write_all(b"x").unwrap();
+        far.finish().unwrap();
+        server.ping().unwrap();
+        writer.finish().unwrap();
+        drop(reader);
+        client.ping().unwrap();
+        let mut came = String::new();
+        far_reader.read_to_string(&mut came).unwrap();
+        assert_eq!(came, "all");
+    }
 }
 
 #[test]
