@@ -102,7 +102,7 @@ func broken(status int64) error {
 	case 2:
 		return ErrInvalidMsgType
 	case 3:
-		return errors.New("stream id of the wrong side initiated")
+		return errors.New("stream id of the wrong side initiated, as where both sides are servers")
 	case 4:
 		return ErrDuplicateStream
 	case 5:

@@ -147,6 +147,9 @@ func (s *Session) wake(cond *sync.Cond) {
 // feed feeds all of it, and says which rule the peer broke.
 func (s *Session) feed(bytes []byte, waits bool) (fault error) {
 	s.unfed = nil
+	if (!s.isSettled || s.early != nil) && !s.over {
+		bytes = s.settleRole(bytes)
+	}
 	passed := 0
 	for len(bytes) > 0 && !s.over {
 		taken := s.core.feed(bytes, passed)

@@ -34,6 +34,10 @@ type Session struct {
 
 	lock      sync.Mutex // guards all below, and each call of the core
 	core      core
+	isClient  bool
+	window    uint32
+	isSettled bool   // which side this is
+	early     []byte // a part of the first header that came, until that is so
 	over      bool
 	mute      bool  // nothing goes out any more, and what the peer has sent is still read
 	failure   error // why it is over, or will be once the last bytes are out
@@ -108,6 +112,8 @@ func newSession(config *Config, connection io.ReadWriteCloser, client bool) (*Se
 		readerDone: make(chan struct{}),
 		pingSeats:  make(chan struct{}, 16),
 		core:       core,
+		isClient:   client,
+		window:     window,
 		streams:    make(map[uint32]*Stream),
 		leaving:    make(map[uint32]*Stream),
 		pings:      make(map[uint32]*ping),
@@ -502,6 +508,7 @@ func (s *Session) OpenStream() (*Stream, error) {
 		if answer < 0 {
 			return nil, refusal(answer)
 		}
+		s.isSettled = true
 		stream := newStream(s, uint32(answer))
 		stream.isUnacked = true
 		s.unacked++
@@ -593,6 +600,7 @@ func (s *Session) GoAway() error {
 	if answer := s.core.goAway(); answer < 0 {
 		return refusal(answer)
 	}
+	s.isSettled = true
 	s.wakeWriter()
 	for since := time.Now(); !s.away; s.written.Wait() {
 		if s.isDown() {
