@@ -1,13 +1,35 @@
 """What the tests share: both sides of a connection over the loopback, in one event loop."""
 import asyncio
 import gc
+import os
+import ssl
+import subprocess
+import tempfile
 import unittest
 import warnings
 
 import ymx
 
+if os.environ.get("YMX_LOOP") == "uvloop":
+    import uvloop
+
+    uvloop.install()
 warnings.simplefilter("ignore", ResourceWarning)  # streams that a test leaves open
 gc.freeze()  # a collection then looks at what the tests make, and not at all that the modules have made
+
+
+def contexts(test):
+    """TLS for the side that calls, and for the one that is called."""
+    with tempfile.TemporaryDirectory() as folder:
+        key, certificate = os.path.join(folder, "key"), os.path.join(folder, "certificate")
+        words = "openssl req -x509 -newkey rsa:2048 -nodes -days 2 -subj /CN=localhost -addext subjectAltName=IP:127.0.0.1"
+        try:
+            subprocess.run([*words.split(), "-keyout", key, "-out", certificate], capture_output=True, check=True)
+        except FileNotFoundError:
+            test.skipTest("there is no openssl")
+        at_server = ssl.SSLContext(ssl.PROTOCOL_TLS_SERVER)
+        at_server.load_cert_chain(certificate, key)
+        return ssl.create_default_context(cafile=certificate), at_server
 
 
 class BothSides(unittest.IsolatedAsyncioTestCase):

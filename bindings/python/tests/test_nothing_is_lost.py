@@ -5,16 +5,13 @@ import gc
 import os
 import random
 import socket
-import ssl
 import struct
-import subprocess
-import tempfile
 import termios
 import time
 import unittest
 
 import ymx
-from both_sides import BothSides, Collecting
+from both_sides import BothSides, contexts, Collecting
 
 TEXT = os.urandom(300000)
 
@@ -427,16 +424,7 @@ class Leaving(unittest.IsolatedAsyncioTestCase):
             self.assertEqual(came.result(), texts)
 
     async def test_over_tls_all_is_sent_and_given_behind_the_end(self):
-        with tempfile.TemporaryDirectory() as folder:
-            key, certificate = os.path.join(folder, "key"), os.path.join(folder, "certificate")
-            words = "openssl req -x509 -newkey rsa:2048 -nodes -days 2 -subj /CN=localhost -addext subjectAltName=IP:127.0.0.1"
-            try:
-                subprocess.run([*words.split(), "-keyout", key, "-out", certificate], capture_output=True, check=True)
-            except FileNotFoundError:
-                self.skipTest("there is no openssl")
-            at_server = ssl.SSLContext(ssl.PROTOCOL_TLS_SERVER)
-            at_server.load_cert_chain(certificate, key)
-            at_client = ssl.create_default_context(cafile=certificate)
+        at_client, at_server = contexts(self)
         for before in True, False:
             for size in 1000, 200000, 1000000 if not before else 0:
                 came = asyncio.get_running_loop().create_future()

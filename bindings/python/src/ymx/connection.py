@@ -3,7 +3,7 @@ StreamWriter."""
 import asyncio
 import os
 import ssl
-from typing import Any, Awaitable, Callable, Dict, List, Optional, Set, Tuple, Type, Union
+from typing import Any, Awaitable, Callable, Dict, List, Optional, Set, Tuple, Type, Union, cast
 
 from . import _library
 from ._library import LEAST_WINDOW, Refused
@@ -15,6 +15,7 @@ Stream = Tuple[StreamReader, StreamWriter]
 Serve = Callable[["Connection"], Awaitable[None]]
 Answer = Callable[[StreamReader, StreamWriter], Awaitable[None]]
 LINGER = 10.0
+LIMIT = 65536
 
 
 async def open_connection(
@@ -53,11 +54,11 @@ async def start_server(
 
 
 async def start_stream_server(
-    answer: Answer, host: Optional[str], port: int, **how: Any
+    answer: Answer, host: Optional[str], port: int, *, limit: int = LIMIT, **how: Any
 ) -> asyncio.AbstractServer:
     """Listens, and runs `answer(reader, writer)` in a task of its own for each stream of each connection, as
     `asyncio.start_server` does for each connection. `how` is for `start_server`."""
-    return await start_server(lambda connection: connection.serve_streams(answer), host, port, **how)
+    return await start_server(lambda connection: connection.serve_streams(answer, limit=limit), host, port, **how)
 
 
 class _Waiters:
@@ -118,19 +119,19 @@ class Connection(asyncio.Protocol):
 
     # ---- for the user
 
-    async def open_stream(self) -> Stream:
-        """Opens a stream. It waits while 256 are not acknowledged. Refused("PEER_AWAY") where the peer takes no more,
+    async def open_stream(self, *, limit: int = LIMIT) -> Stream:
+        """Opens a stream. `limit` is as of `asyncio.open_connection`. It waits while 256 are not acknowledged. Refused("PEER_AWAY") where the peer takes no more,
         Refused("TOO_MANY") where 1,024 are there. ConnectionLost once the connection has ended."""
         while True:
             self._check()
             try:
-                return self._stream(self.session.open())
+                return self._stream(self.session.open(), limit)
             except Refused as refused:
                 if refused.code != _library.OPENS_PENDING:
                     raise
             await self._opening.wait()
 
-    async def accept_stream(self) -> Stream:
+    async def accept_stream(self, *, limit: int = LIMIT) -> Stream:
         """Waits for a stream of the peer's. Once the peer has hung up, or has broken a rule, it still gives the streams
         that came before, and then raises ConnectionLost. Closed here, it raises ConnectionLost at once."""
         while True:
@@ -138,17 +139,17 @@ class Connection(asyncio.Protocol):
                 self._check()
             stream = self.session.accept() if self.session.offered() > 0 else None
             if stream is not None:
-                return self._stream(stream)
+                return self._stream(stream, limit)
             self._check()
             await self._accepting.wait()
 
-    async def serve_streams(self, answer: Answer) -> None:
+    async def serve_streams(self, answer: Answer, *, limit: int = LIMIT) -> None:
         """Runs `answer(reader, writer)` in a task of its own for each stream of the peer's, until the connection has
         ended. The connection holds these tasks, and doesn't end them. Where one raises, or is cancelled, its stream is
         reset, so that the peer never takes it for whole."""
         try:
             while True:
-                self._hold(self._answer(answer, *await self.accept_stream()))
+                self._hold(self._answer(answer, *await self.accept_stream(limit=limit)))
         except ConnectionLost:
             pass
 
@@ -244,10 +245,9 @@ class Connection(asyncio.Protocol):
     # ---- asyncio calls these
 
     def connection_made(self, transport: asyncio.BaseTransport) -> None:
-        assert isinstance(transport, asyncio.Transport)
-        self._transport = transport
+        self._transport = cast(asyncio.Transport, transport)  # uvloop's is none by its type
         if self._over is not None:
-            transport.abort()
+            self._transport.abort()
         elif self._serve is not None:
             self._hold(self._run(self._serve))
 
@@ -367,8 +367,8 @@ class Connection(asyncio.Protocol):
 
     # ---- streams
 
-    def _stream(self, stream: int) -> Stream:
-        transport = StreamTransport(self, stream, self._loop)
+    def _stream(self, stream: int, limit: int) -> Stream:
+        transport = StreamTransport(self, stream, self._loop, limit)
         if self._over is None:
             self._streams[stream] = transport
         ends = transport.begin()

@@ -1,8 +1,11 @@
 """A stream: asyncio's StreamReader and StreamWriter, and the transport below them."""
 import asyncio
 import warnings
+from asyncio.constants import _SendfileMode
+from asyncio.protocols import _feed_data_to_buffered_proto  # type: ignore[attr-defined]
+from asyncio.transports import _FlowControlMixin
 from collections import deque
-from typing import TYPE_CHECKING, Any, Deque, List, Optional, Tuple
+from typing import TYPE_CHECKING, Any, Deque, List, Optional, Tuple, cast
 
 from . import _library
 from ._library import Bytes, Refused
@@ -20,8 +23,8 @@ class StreamReader(asyncio.StreamReader):
 
     _buffer: bytearray
 
-    def __init__(self, loop: asyncio.AbstractEventLoop) -> None:
-        super().__init__(loop=loop)
+    def __init__(self, loop: asyncio.AbstractEventLoop, limit: int) -> None:
+        super().__init__(limit=limit, loop=loop)
         self._ended = False  # the peer's end has come
         self._cut: Optional[Exception] = None  # why it won't come
         self._lost: Optional[Exception] = None  # why nothing can be written any more
@@ -43,6 +46,13 @@ class StreamReader(asyncio.StreamReader):
         if isinstance(exc, StreamReset) and not self._ended:
             self._buffer.clear()
         self.cut(exc)
+
+    def take_back(self) -> bytes:
+        """All that was not read, for another protocol."""
+        data = bytes(self._buffer)
+        self._buffer.clear()
+        self._maybe_resume_transport()  # type: ignore[attr-defined]
+        return data
 
     def exception(self) -> Any:
         """Why nothing can be written any more; None as long as that can be."""
@@ -96,23 +106,25 @@ class StreamWriter(asyncio.StreamWriter):
     """asyncio's, but that one which is dropped without `write_eof` or `close` resets the stream: nobody has said that what
     was written is whole."""
 
-    _transport: "StreamTransport"
+    def __init__(self, stream: "StreamTransport", *others: Any) -> None:
+        super().__init__(stream, *others)
+        self._stream = stream  # also once there is TLS over it
 
     def abort(self) -> None:
         """Resets the stream: the peer gets no end, and what is unsent is dropped."""
-        self._transport.abort()
+        self._stream.abort()
 
     async def drain(self) -> None:
         """Waits while more than 64 KiB are unsent for want of the peer's credit. StreamReset, ConnectionLost where the
         rest is never sent."""
         await super().drain()
-        lost = self._transport.reader.exception()
+        lost = self._stream.reader.exception()
         if lost is not None:
             raise lost
 
     def __del__(self) -> None:
-        transport = self._transport
-        if transport.is_closing() or transport.loop.is_closed():
+        transport = self._stream
+        if transport.is_closing() or transport.is_brought or transport.loop.is_closed():
             return
         warnings.warn(f"unclosed {self!r}", ResourceWarning, source=self)
         try:
@@ -121,23 +133,29 @@ class StreamWriter(asyncio.StreamWriter):
             pass  # the loop was closed meanwhile
 
 
-class StreamTransport(asyncio.Transport):
-    """One stream. It holds its reader, as asyncio's protocol does not."""
+class StreamTransport(_FlowControlMixin):
+    """One stream. It holds its reader, as asyncio's protocol does not. A program may bring a protocol of its own, which gets
+    what was not read yet, and is treated as asyncio's transports treat one."""
 
-    def __init__(self, connection: "Connection", stream: int, loop: asyncio.AbstractEventLoop) -> None:
-        super().__init__()
+    _start_tls_compatible = True
+    _sendfile_compatible = _SendfileMode.FALLBACK
+
+    def __init__(self, connection: "Connection", stream: int, loop: asyncio.AbstractEventLoop, limit: int) -> None:
+        super().__init__(None, loop)
         self.loop = loop
-        self.reader = StreamReader(loop)
-        self._protocol = asyncio.StreamReaderProtocol(self.reader, loop=loop)
+        self.reader = StreamReader(loop, limit)
+        self._streams = asyncio.StreamReaderProtocol(self.reader, loop=loop)
+        self._protocol: asyncio.BaseProtocol = self._streams
+        self.is_brought = False  # the protocol is a program's
         self._connection, self._session, self._id = connection, connection.session, stream
         self._unsent: Deque[bytes] = deque()  # what the peer gave no credit for
         self._start = 0  # where in the first of them
         self.unsent_size = 0
         self.taken_size = 0  # what the session has taken, since the beginning
-        self._high, self._low = _HIGH, _HIGH // 4
-        self._told_to_wait = False
         self._reading = True
+        self._back = b""  # what comes before all that the session has
         self._at_end = False  # the peer's end was read
+        self._end_is_told = False  # to the protocol
         self._ending = False  # no more is written here
         self._finished = False  # the session knows
         self._closing = False
@@ -148,9 +166,20 @@ class StreamTransport(asyncio.Transport):
         self.is_gone = False  # the session has no such stream any more, or has ended
 
     def begin(self) -> "Tuple[StreamReader, StreamWriter]":
-        self._protocol.connection_made(self)
+        self._streams.connection_made(self)
         self.touch()
-        return self.reader, StreamWriter(self, self._protocol, self.reader, self.loop)
+        return self.reader, StreamWriter(self, self._streams, self.reader, self.loop)
+
+    def get_protocol(self) -> asyncio.BaseProtocol:
+        return self._protocol
+
+    def set_protocol(self, protocol: asyncio.BaseProtocol) -> None:
+        """Who brings a protocol calls its `connection_made` behind this."""
+        if not self.is_brought:
+            self._back += self.reader.take_back()
+        self._protocol, self.is_brought = protocol, protocol is not self._streams
+        self._end_is_told = False
+        self.loop.call_soon(self.touch)
 
     # ---- the connection calls these
 
@@ -196,21 +225,36 @@ class StreamTransport(asyncio.Transport):
     def _give(self, is_last: bool = False) -> None:
         """Gives what has come to the protocol, or throws it away behind close. The last time also to a reader that has
         enough. Bytes that come once both sides are closed here reset the stream, so that the peer learns of it."""
-        while not self.is_gone and not self._at_end and (self._reading or self._closing or is_last):
-            data = self._session.read(self._id)
-            if data is None:
-                return
-            if data == b"":
-                self._at_end = True
-                if not self._closing:
-                    self._protocol.eof_received()
-            else:
+        while not self.is_gone and (self._reading or self._closing or is_last):
+            data: Optional[bytes] = self._back
+            self._back = b""
+            if not data and not self._at_end:
+                data = self._session.read(self._id)
+                if data is None:
+                    return
                 self._connection.plan()  # there may be credit to send
-                if not self._closing:
-                    self._protocol.data_received(data)
-                elif self._is_unwanted():
-                    self._session.reset(self._id)
-                    self._leave()
+                self._at_end = data == b""
+            if not data:
+                return self._tell_end()
+            if not self._closing:
+                self._pass(data)
+            elif self._is_unwanted():
+                self._session.reset(self._id)
+                self._leave()
+
+    def _pass(self, data: bytes) -> None:
+        if isinstance(self._protocol, asyncio.BufferedProtocol):
+            _feed_data_to_buffered_proto(self._protocol, data)
+        else:
+            cast(asyncio.Protocol, self._protocol).data_received(data)
+
+    def _tell_end(self) -> None:
+        if self._end_is_told or self._closing:
+            return
+        self._end_is_told = True
+        goes_on = cast(asyncio.Protocol, self._protocol).eof_received()
+        if self.is_brought and not goes_on:
+            self.close()
 
     def _is_unwanted(self) -> bool:
         """Whether what comes tells of a peer that goes on to write though nobody reads, and who has all that was written."""
@@ -234,7 +278,9 @@ class StreamTransport(asyncio.Transport):
 
         RuntimeError behind write_eof. StreamClosed behind close; StreamReset, ConnectionLost once it is over."""
         if not isinstance(data, (bytes, bytearray, memoryview)):
-            raise TypeError(f"data is to be bytes, a bytearray or a memoryview, and not {type(data).__name__}")
+            raise TypeError(f"data argument must be a bytes-like object, not {type(data).__name__!r}")
+        if self.is_brought and self.is_closing():
+            return  # which was told, or is told next
         if self._why is not None:
             raise again(self._why)
         if self._closing or self._told:
@@ -272,14 +318,9 @@ class StreamTransport(asyncio.Transport):
             self._connection.plan()
             if self._closing:
                 self.loop.call_soon(self._tell, None)
-        if self._told:
-            return
-        if self._told_to_wait and self.unsent_size <= self._low:
-            self._told_to_wait = False
-            self._protocol.resume_writing()
-        elif not self._told_to_wait and self.unsent_size > self._high:
-            self._told_to_wait = True
-            self._protocol.pause_writing()
+        if not self._told:
+            self._maybe_resume_protocol()  # type: ignore[attr-defined]
+            self._maybe_pause_protocol()  # type: ignore[attr-defined]
 
     def can_write_eof(self) -> bool:
         return True
@@ -292,13 +333,6 @@ class StreamTransport(asyncio.Transport):
 
     def get_write_buffer_size(self) -> int:
         return self.unsent_size
-
-    def get_write_buffer_limits(self) -> Tuple[int, int]:
-        return self._low, self._high
-
-    def set_write_buffer_limits(self, high: Optional[int] = None, low: Optional[int] = None) -> None:
-        self._high = high if high is not None else _HIGH if low is None else 4 * low
-        self._low = low if low is not None else self._high // 4
 
     # ---- the end
 
