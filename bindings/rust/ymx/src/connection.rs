@@ -3,8 +3,9 @@
 
 use crate::{Fault, Got, Refused, Role, Session, Touched};
 use std::collections::HashMap;
-use std::io::{self, ErrorKind, Read, Write};
+use std::io::{self, ErrorKind, IoSlice, Read, Write};
 use std::net::{Shutdown, TcpStream};
+use std::ops::Deref;
 use std::sync::{Arc, Condvar, Mutex, MutexGuard};
 use std::time::{Duration, Instant};
 use std::{fmt, thread};
@@ -21,6 +22,12 @@ pub struct Side {
     pub writer: Box<dyn Write + Send>,
     /// Ends the connection, so that a read or a write of it that waits ends too. It is called once.
     pub shut: Box<dyn Fn() + Send>,
+}
+
+impl fmt::Debug for Side {
+    fn fmt(&self, f: &mut fmt::Formatter<'_>) -> fmt::Result {
+        f.write_str("Side")
+    }
 }
 
 impl TryFrom<TcpStream> for Side {
@@ -49,6 +56,8 @@ pub enum Ended {
     Failed(ErrorKind),
     /// The peer broke a rule of yamux, or says that this side did.
     Broken(Fault),
+    /// The peer gave no sign of life.
+    Silent,
 }
 
 impl fmt::Display for Ended {
@@ -58,14 +67,44 @@ impl fmt::Display for Ended {
             Ended::Peer => f.write_str("the connection has ended"),
             Ended::Failed(kind) => write!(f, "the connection failed: {kind}"),
             Ended::Broken(fault) => write!(f, "the connection broke: {fault}"),
+            Ended::Silent => f.write_str("the peer gave no sign of life"),
         }
     }
 }
 
 impl std::error::Error for Ended {}
 
-/// One side of a connection. Dropped, it is closed.
-pub struct Connection(Arc<Shared>);
+/// One side of a connection. A clone is the same one. It is closed as the last is dropped.
+#[derive(Clone, Debug)]
+pub struct Connection(Arc<Closing>);
+
+struct Closing(Arc<Shared>);
+
+impl Deref for Closing {
+    type Target = Arc<Shared>;
+
+    fn deref(&self) -> &Arc<Shared> {
+        &self.0
+    }
+}
+
+impl Drop for Closing {
+    fn drop(&mut self) {
+        self.close();
+    }
+}
+
+impl fmt::Debug for Closing {
+    fn fmt(&self, f: &mut fmt::Formatter<'_>) -> fmt::Result {
+        let state = self.lock();
+        write!(
+            f,
+            "{} streams, ended: {:?}",
+            state.streams.len(),
+            state.over
+        )
+    }
+}
 
 struct Shared {
     state: Mutex<State>,
@@ -78,7 +117,7 @@ struct Shared {
 
 struct State {
     session: Session,
-    streams: HashMap<u32, Arc<Stream>>,
+    streams: HashMap<u32, Arc<Both>>,
     over: Option<Ended>,
     pings: HashMap<u32, Ping>,
     linger: Duration,
@@ -109,12 +148,18 @@ enum Farewell {
 }
 
 /// What the two halves of a stream have in common.
-struct Stream {
+struct Both {
     shared: Arc<Shared>,
     id: u32,
     readable: Condvar,
     writable: Condvar,
     halves: Mutex<Halves>, // locked behind the state, or alone
+}
+
+impl fmt::Debug for Both {
+    fn fmt(&self, f: &mut fmt::Formatter<'_>) -> fmt::Result {
+        write!(f, "stream {}", self.id)
+    }
 }
 
 #[derive(Default)]
@@ -130,8 +175,9 @@ struct Halves {
 /// At the peer's end it reads 0 bytes. A reset is `ConnectionReset`, and a connection that ends before the stream
 /// `ConnectionAborted`, whose inner error is an [`Ended`]. Dropped, it throws away what still comes; and once this side is
 /// finished too, bytes that come reset the stream, so that the peer learns of it.
+#[derive(Debug)]
 pub struct ReadHalf {
-    stream: Arc<Stream>,
+    stream: Arc<Both>,
     timeout: Option<Duration>,
 }
 
@@ -139,9 +185,37 @@ pub struct ReadHalf {
 ///
 /// A write waits until the peer grants credit, and takes as many bytes. Dropped without [`finish`](WriteHalf::finish), it
 /// resets the stream, both ways: nobody has said that what was written is whole.
+#[derive(Debug)]
 pub struct WriteHalf {
-    stream: Arc<Stream>,
+    stream: Arc<Both>,
     timeout: Option<Duration>,
+}
+
+/// Both halves of a stream in one: [`Connection::open`] gives the halves, and `into` joins them.
+///
+/// Dropped without [`finish`](Stream::finish), it resets the stream.
+#[derive(Debug)]
+pub struct Stream {
+    reader: ReadHalf,
+    writer: WriteHalf,
+}
+
+impl From<(ReadHalf, WriteHalf)> for Stream {
+    fn from((reader, writer): (ReadHalf, WriteHalf)) -> Stream {
+        Stream { reader, writer }
+    }
+}
+
+impl Stream {
+    /// The halves.
+    pub fn split(self) -> (ReadHalf, WriteHalf) {
+        (self.reader, self.writer)
+    }
+
+    /// Ends this side, as [`WriteHalf::finish`]. The stream is still read.
+    pub fn finish(&self) -> io::Result<()> {
+        self.writer.stream.finish()
+    }
 }
 
 fn lost(reason: Ended) -> io::Error {
@@ -265,7 +339,7 @@ impl Connection {
             shared.read_out(Ended::Failed(error.kind()));
             return Err(error);
         }
-        Ok(Connection(shared))
+        Ok(Connection(Arc::new(Closing(shared))))
     }
 
     /// Opens a stream. It waits while 256 are not acknowledged.
@@ -323,43 +397,29 @@ impl Connection {
 
     /// Asks the peer for a sign of life, and says how long its answer took. It waits while 16 answers are awaited.
     pub fn ping(&self) -> io::Result<Duration> {
-        self.ping_until(Until::ever())
+        self.0.ping(Until::ever())
     }
 
     /// The same, and `TimedOut` where it would wait longer than this. An answer that still comes is dropped.
     pub fn ping_within(&self, timeout: Duration) -> io::Result<Duration> {
-        self.ping_until(Until::within(timeout))
+        self.0.ping(Until::within(timeout))
     }
 
-    fn ping_until(&self, until: Until) -> io::Result<Duration> {
-        let began = Instant::now();
+    /// From now on pings the peer each time so long has passed, in a thread, and ends the connection as [`Ended::Silent`]
+    /// where no answer comes within as long.
+    pub fn keep_alive(&self, interval: Duration) -> io::Result<()> {
+        let shared = Arc::clone(&self.0);
+        let keeper = thread::Builder::new().name("ymx keepalive".into());
+        keeper.spawn(move || shared.keep_alive(interval)).map(drop)
+    }
+
+    /// Gives memory back that isn't needed now, as of a connection that is to be quiet for long.
+    pub fn shrink(&self) {
         let mut state = self.0.lock();
-        let number = loop {
-            state.check()?;
-            match state.session.ping() {
-                Ok(number) => break number,
-                Err(Refused {
-                    code: YMX_E_PINGS_PENDING,
-                }) => state = until.wait(&self.0.changed, state)?,
-                Err(refused) => return Err(refused.into()),
-            }
-        };
-        state.pings.insert(number, Ping::Awaited);
-        self.0.sender.notify_one();
-        loop {
-            if state.pings.get(&number) == Some(&Ping::Back) {
-                state.pings.remove(&number);
-                return Ok(began.elapsed());
-            }
-            state.check()?;
-            state = match until.wait(&self.0.changed, state) {
-                Ok(state) => state,
-                Err(error) => {
-                    self.0.give_ping_up(number);
-                    return Err(error);
-                }
-            };
+        for id in state.session.streams() {
+            let _ = state.session.shrink(id);
         }
+        state.session.shrink_spare();
     }
 
     /// Takes no more streams of the peer's, and tells it so. Streams that are there go on.
@@ -414,12 +474,6 @@ impl Connection {
     }
 }
 
-impl Drop for Connection {
-    fn drop(&mut self) {
-        self.close();
-    }
-}
-
 impl State {
     fn check(&self) -> io::Result<()> {
         self.over.map_or(Ok(()), |reason| Err(lost(reason)))
@@ -434,7 +488,7 @@ impl Shared {
     }
 
     fn stream(self: &Arc<Shared>, state: &mut State, id: u32) -> (ReadHalf, WriteHalf) {
-        let stream = Arc::new(Stream {
+        let stream = Arc::new(Both {
             shared: Arc::clone(self),
             id,
             readable: Condvar::new(),
@@ -454,6 +508,58 @@ impl Shared {
             timeout: None,
         };
         (reading, writing)
+    }
+
+    fn ping(&self, until: Until) -> io::Result<Duration> {
+        let began = Instant::now();
+        let mut state = self.lock();
+        let number = loop {
+            state.check()?;
+            match state.session.ping() {
+                Ok(number) => break number,
+                Err(Refused {
+                    code: YMX_E_PINGS_PENDING,
+                }) => state = until.wait(&self.changed, state)?,
+                Err(refused) => return Err(refused.into()),
+            }
+        };
+        state.pings.insert(number, Ping::Awaited);
+        self.sender.notify_one();
+        loop {
+            if state.pings.get(&number) == Some(&Ping::Back) {
+                state.pings.remove(&number);
+                return Ok(began.elapsed());
+            }
+            state.check()?;
+            state = match until.wait(&self.changed, state) {
+                Ok(state) => state,
+                Err(error) => {
+                    self.give_ping_up(number);
+                    return Err(error);
+                }
+            };
+        }
+    }
+
+    fn keep_alive(&self, interval: Duration) {
+        let mut until = Until::within(interval);
+        let mut state = self.lock();
+        while state.over.is_none() {
+            state = match until.wait(&self.changed, state) {
+                Ok(state) => state,
+                Err(_) => {
+                    let answer = self.ping(Until::within(interval));
+                    until = Until::within(interval);
+                    let mut state = self.lock();
+                    if answer.is_err() && state.over.is_none() {
+                        self.end(&mut state, Ended::Silent);
+                        drop(state);
+                        return self.shut();
+                    }
+                    state
+                }
+            };
+        }
     }
 
     fn give_ping_up(&self, number: u32) {
@@ -677,7 +783,7 @@ impl Shared {
     }
 }
 
-impl Stream {
+impl Both {
     fn halves(&self) -> MutexGuard<'_, Halves> {
         self.halves
             .lock()
@@ -765,10 +871,8 @@ impl ReadHalf {
     pub fn reset(self) {
         self.stream.reset();
     }
-}
 
-impl Read for ReadHalf {
-    fn read(&mut self, buffer: &mut [u8]) -> io::Result<usize> {
+    fn get(&self, buffer: &mut [u8]) -> io::Result<usize> {
         if buffer.is_empty() {
             return Ok(0);
         }
@@ -822,11 +926,9 @@ impl WriteHalf {
     pub fn reset(self) {
         self.stream.reset();
     }
-}
 
-impl Write for WriteHalf {
-    fn write(&mut self, bytes: &[u8]) -> io::Result<usize> {
-        if bytes.is_empty() {
+    fn put(&self, all: &[IoSlice<'_>]) -> io::Result<usize> {
+        if all.iter().all(|bytes| bytes.is_empty()) {
             return Ok(0);
         }
         let stream = &*self.stream;
@@ -837,17 +939,23 @@ impl Write for WriteHalf {
             if stream.halves().reset {
                 return Err(Refused { code: YMX_E_RESET }.into());
             }
-            if let Some(count) = state.session.write(stream.id, bytes)? {
+            let mut taken = 0;
+            for bytes in all {
+                let count = match state.session.write(stream.id, bytes) {
+                    Err(_) if taken > 0 => break, // the next call tells it
+                    count => count?.unwrap_or(0),
+                };
+                taken += count;
+                if count < bytes.len() {
+                    break;
+                }
+            }
+            if taken > 0 {
                 stream.shared.sender.notify_one();
-                return Ok(count);
+                return Ok(taken);
             }
             state = until.wait(&stream.writable, state)?;
         }
-    }
-
-    /// Does nothing: what was written goes out by itself.
-    fn flush(&mut self) -> io::Result<()> {
-        Ok(())
     }
 }
 
@@ -859,4 +967,34 @@ impl Drop for WriteHalf {
             self.stream.reset_in(&mut state);
         }
     }
+}
+
+// The halves and the stream, and references to them.
+macro_rules! read_and_write {
+    (Read: $($read:ty $(=> $reader:ident)?),*; Write: $($write:ty $(=> $writer:ident)?),*) => {
+        $(impl Read for $read {
+            fn read(&mut self, buffer: &mut [u8]) -> io::Result<usize> {
+                self$(.$reader)?.get(buffer)
+            }
+        })*
+        $(impl Write for $write {
+            fn write(&mut self, bytes: &[u8]) -> io::Result<usize> {
+                self$(.$writer)?.put(&[IoSlice::new(bytes)])
+            }
+
+            fn write_vectored(&mut self, all: &[IoSlice<'_>]) -> io::Result<usize> {
+                self$(.$writer)?.put(all)
+            }
+
+            /// Does nothing: what was written goes out by itself.
+            fn flush(&mut self) -> io::Result<()> {
+                Ok(())
+            }
+        })*
+    };
+}
+
+read_and_write! {
+    Read: ReadHalf, &ReadHalf, Stream => reader, &Stream => reader;
+    Write: WriteHalf, &WriteHalf, Stream => writer, &Stream => writer
 }

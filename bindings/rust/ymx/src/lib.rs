@@ -3,7 +3,7 @@
 
 mod connection;
 
-pub use connection::{Connection, Ended, ReadHalf, Side, WriteHalf};
+pub use connection::{Connection, Ended, ReadHalf, Side, Stream, WriteHalf};
 use std::{ffi::CStr, fmt, ptr};
 use ymx_sys::*;
 
@@ -84,61 +84,22 @@ pub enum Fault {
     PeerSawInternalError,
 }
 
-const FAULTS: [(Fault, i64, &str); 9] = [
-    (
-        Fault::BadVersion,
-        YMX_FAULT_BAD_VERSION,
-        "a frame's version is not 0",
-    ),
-    (
-        Fault::UnknownType,
-        YMX_FAULT_UNKNOWN_TYPE,
-        "a frame's type is above 3",
-    ),
-    (
-        Fault::BadSyn,
-        YMX_FAULT_BAD_SYN,
-        "a SYN for stream 0, or for an id of this side's",
-    ),
-    (
-        Fault::StreamInUse,
-        YMX_FAULT_STREAM_IN_USE,
-        "a SYN for a stream that is there",
-    ),
-    (
-        Fault::WindowExceeded,
-        YMX_FAULT_WINDOW_EXCEEDED,
-        "Data beyond the window",
-    ),
-    (
-        Fault::CreditOverflow,
-        YMX_FAULT_CREDIT_OVERFLOW,
-        "a credit above 4,294,967,295 bytes",
-    ),
-    (
-        Fault::BadGoAwayCode,
-        YMX_FAULT_BAD_GO_AWAY_CODE,
-        "a Go Away code above 2",
-    ),
-    (
-        Fault::PeerSawProtocolError,
-        YMX_FAULT_PEER_SAW_PROTOCOL_ERROR,
-        "the peer says that it found a protocol error",
-    ),
-    (
-        Fault::PeerSawInternalError,
-        YMX_FAULT_PEER_SAW_INTERNAL_ERROR,
-        "the peer says that it has an internal error",
-    ),
+const FAULTS: [Fault; 9] = [
+    Fault::BadVersion,
+    Fault::UnknownType,
+    Fault::BadSyn,
+    Fault::StreamInUse,
+    Fault::WindowExceeded,
+    Fault::CreditOverflow,
+    Fault::BadGoAwayCode,
+    Fault::PeerSawProtocolError,
+    Fault::PeerSawInternalError,
 ];
 
 impl Fault {
     /// The fault of this number, 1 to 9.
     pub fn of_number(number: i64) -> Option<Fault> {
-        FAULTS
-            .iter()
-            .find(|(_, of, _)| *of == number)
-            .map(|(fault, _, _)| *fault)
+        FAULTS.into_iter().find(|fault| fault.number() == number)
     }
 
     /// Its number in ymx.h, 1 to 9.
@@ -154,9 +115,22 @@ impl Fault {
 
 impl fmt::Display for Fault {
     fn fmt(&self, f: &mut fmt::Formatter<'_>) -> fmt::Result {
-        write!(f, "{} ({})", FAULTS[*self as usize].2, self.name())
+        let text = match self {
+            Fault::BadVersion => "a frame's version is not 0",
+            Fault::UnknownType => "a frame's type is above 3",
+            Fault::BadSyn => "a SYN for stream 0, or for an id of this side's",
+            Fault::StreamInUse => "a SYN for a stream that is there",
+            Fault::WindowExceeded => "Data beyond the window",
+            Fault::CreditOverflow => "a credit above 4,294,967,295 bytes",
+            Fault::BadGoAwayCode => "a Go Away code above 2",
+            Fault::PeerSawProtocolError => "the peer says that it found a protocol error",
+            Fault::PeerSawInternalError => "the peer says that it has an internal error",
+        };
+        write!(f, "{text} ({})", self.name())
     }
 }
+
+impl std::error::Error for Fault {}
 
 /// What a read gives.
 #[derive(Clone, Copy, Debug, PartialEq, Eq)]
@@ -170,6 +144,7 @@ pub enum Got {
 }
 
 /// One side of a connection.
+#[derive(Debug)]
 pub struct Session(ptr::NonNull<ymx_session>);
 
 // Each call takes the session by `&mut`, or only reads it, and the library has no variables of its own.
@@ -466,6 +441,7 @@ impl Drop for Session {
 }
 
 /// The streams that bytes have touched.
+#[derive(Debug)]
 pub struct Touched(ptr::NonNull<ymx_touched>);
 
 // As of a session.
