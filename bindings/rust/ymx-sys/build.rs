@@ -28,9 +28,7 @@ fn main() {
     let (kind, file) = match env::var("YMX_LINK").as_deref() {
         Ok("shared") => ("dylib", "libymx.so"),
         Ok("static") | Ok("") | Err(_) => ("static", "libymx.a"),
-        Ok(other) => fail(&format!(
-            "YMX_LINK is `{other}`, and not `static` or `shared`"
-        )),
+        Ok(other) => fail(&format!("YMX_LINK is `{other}`, and not `static` or `shared`")),
     };
     let library = folder.join(file);
     if !library.exists() {
@@ -56,10 +54,7 @@ fn by_feature() -> PathBuf {
         .join("bundled")
         .join(of("CARGO_CFG_TARGET_ARCH"));
     if of("CARGO_CFG_TARGET_OS") != "linux" || !place.exists() {
-        fail(&format!(
-            "the feature `bundled` has none for {}",
-            of("TARGET")
-        ));
+        fail(&format!("the feature `bundled` has none for {}", of("TARGET")));
     }
     place
 }
@@ -72,14 +67,9 @@ fn by_pkg_config() -> PathBuf {
         .args(["--variable=libdir", "--print-errors", &asked])
         .output();
     match said {
-        Ok(said) if said.status.success() => {
-            PathBuf::from(String::from_utf8_lossy(&said.stdout).trim())
-        }
+        Ok(said) if said.status.success() => PathBuf::from(String::from_utf8_lossy(&said.stdout).trim()),
         Ok(said) => fail(String::from_utf8_lossy(&said.stderr).trim()),
-        Err(error) => fail(&format!(
-            "{} can't be run: {error}",
-            program.to_string_lossy()
-        )),
+        Err(error) => fail(&format!("{} can't be run: {error}", program.to_string_lossy())),
     }
 }
 

@@ -42,7 +42,7 @@ fn constants_of_crate() -> BTreeMap<String, i64> {
         .filter_map(|rest| {
             let (name, rest) = rest.split_once(':')?;
             let value = rest.split_once("= ")?.1.strip_suffix(';')?;
-            Some((name.to_string(), plain(value)))
+            (!value.contains('*')).then(|| (name.to_string(), plain(value)))
         })
         .collect()
 }
@@ -74,10 +74,7 @@ fn calls<'a>(lines: impl Iterator<Item = &'a str>, head: &str) -> BTreeMap<Strin
 
 #[test]
 fn the_calls_are_those_of_the_header() {
-    let declared = calls(
-        HEADER.lines().filter(|line| !line.starts_with('#')),
-        "YMX_API ",
-    );
+    let declared = calls(HEADER.lines().filter(|line| !line.starts_with('#')), "YMX_API ");
     assert!(declared.len() > 40);
     assert_eq!(calls(CRATE.lines(), "pub fn "), declared);
 }

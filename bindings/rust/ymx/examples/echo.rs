@@ -31,7 +31,9 @@ fn main() {
         ["reset", address] => reset(address),
         ["count", address] => count(address),
         ["lost", address] => lost(address),
-        _ => Err("usage: echo serve | call ADDRESS STREAMS BYTES | reset ADDRESS | count ADDRESS | lost ADDRESS".into()),
+        _ => {
+            Err("usage: echo serve | call ADDRESS STREAMS BYTES | reset ADDRESS | count ADDRESS | lost ADDRESS".into())
+        }
     };
     match outcome {
         Ok(text) => println!("{text}"),
@@ -124,11 +126,7 @@ fn echoed(connection: &Connection, seed: usize, size: usize) -> Outcome {
 }
 
 fn call(address: &str, streams: &str, size: &str) -> Outcome {
-    let (connection, count, length) = (
-        dial(address)?,
-        streams.parse::<usize>()?,
-        size.parse::<usize>()?,
-    );
+    let (connection, count, length) = (dial(address)?, streams.parse::<usize>()?, size.parse::<usize>()?);
     let next = AtomicUsize::new(0);
     thread::scope(|threads| {
         let seats: Vec<_> = (0..count.min(100))
@@ -144,9 +142,7 @@ fn call(address: &str, streams: &str, size: &str) -> Outcome {
                 })
             })
             .collect();
-        seats
-            .into_iter()
-            .try_for_each(|seat| seat.join().unwrap().map(drop))
+        seats.into_iter().try_for_each(|seat| seat.join().unwrap().map(drop))
     })?;
     connection.ping()?;
     Ok(format!(
@@ -158,9 +154,7 @@ fn reset(address: &str) -> Outcome {
     let connection = dial(address)?;
     let (mut reader, _writer) = ask(&connection, b"reset")?;
     match reader.read(&mut [0; 9]) {
-        Err(error) if error.kind() == ErrorKind::ConnectionReset => {
-            echoed(&connection, 1, 100_000)?
-        }
+        Err(error) if error.kind() == ErrorKind::ConnectionReset => echoed(&connection, 1, 100_000)?,
         other => return Err(format!("a reset reads as {other:?}").into()),
     };
     Ok("the stream was reset, and another one goes on".into())

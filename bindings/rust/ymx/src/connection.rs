@@ -97,12 +97,7 @@ impl Drop for Closing {
 impl fmt::Debug for Closing {
     fn fmt(&self, f: &mut fmt::Formatter<'_>) -> fmt::Result {
         let state = self.lock();
-        write!(
-            f,
-            "{} streams, ended: {:?}",
-            state.streams.len(),
-            state.over
-        )
+        write!(f, "{} streams, ended: {:?}", state.streams.len(), state.over)
     }
 }
 
@@ -253,37 +248,24 @@ impl Until {
     }
 
     /// Waits for the condition, or fails with `TimedOut`.
-    fn wait<'a, T>(
-        self,
-        condition: &Condvar,
-        guard: MutexGuard<'a, T>,
-    ) -> io::Result<MutexGuard<'a, T>> {
+    fn wait<'a, T>(self, condition: &Condvar, guard: MutexGuard<'a, T>) -> io::Result<MutexGuard<'a, T>> {
         let end = match self.0 {
             None => return Ok(wait(condition, guard)),
             Some(end) => end,
         };
         let left = end.saturating_duration_since(Instant::now());
         if left.is_zero() {
-            return Err(io::Error::new(
-                ErrorKind::TimedOut,
-                "it took longer than was allowed",
-            ));
+            return Err(io::Error::new(ErrorKind::TimedOut, "it took longer than was allowed"));
         }
         Ok(wait_for(condition, guard, left))
     }
 }
 
 fn wait<'a, T>(condition: &Condvar, guard: MutexGuard<'a, T>) -> MutexGuard<'a, T> {
-    condition
-        .wait(guard)
-        .unwrap_or_else(|poisoned| poisoned.into_inner())
+    condition.wait(guard).unwrap_or_else(|poisoned| poisoned.into_inner())
 }
 
-fn wait_for<'a, T>(
-    condition: &Condvar,
-    guard: MutexGuard<'a, T>,
-    timeout: Duration,
-) -> MutexGuard<'a, T> {
+fn wait_for<'a, T>(condition: &Condvar, guard: MutexGuard<'a, T>, timeout: Duration) -> MutexGuard<'a, T> {
     match condition.wait_timeout(guard, timeout) {
         Ok((guard, _)) => guard,
         Err(poisoned) => poisoned.into_inner().0,
@@ -299,11 +281,7 @@ impl Connection {
     /// Begins one side. Its streams have at most `window` unread bytes each: 262,144 to 16,777,216.
     pub fn begin(role: Role, window: u32, side: Side) -> io::Result<Connection> {
         let touched = Touched::new()?;
-        let Side {
-            reader,
-            writer,
-            shut,
-        } = side;
+        let Side { reader, writer, shut } = side;
         let state = State {
             session: Session::new(role, window, 0)?,
             streams: HashMap::new(),
@@ -452,10 +430,7 @@ impl Connection {
             state = wait(&self.0.gone_on, state);
         }
         if state.gave_up {
-            return Err(io::Error::new(
-                ErrorKind::TimedOut,
-                "the peer did not take all in time",
-            ));
+            return Err(io::Error::new(ErrorKind::TimedOut, "the peer did not take all in time"));
         }
         match state.over {
             Some(reason) if state.is_short => Err(lost(reason)),
@@ -482,9 +457,7 @@ impl State {
 
 impl Shared {
     fn lock(&self) -> MutexGuard<'_, State> {
-        self.state
-            .lock()
-            .unwrap_or_else(|poisoned| poisoned.into_inner())
+        self.state.lock().unwrap_or_else(|poisoned| poisoned.into_inner())
     }
 
     fn stream(self: &Arc<Shared>, state: &mut State, id: u32) -> (ReadHalf, WriteHalf) {
@@ -503,10 +476,7 @@ impl Shared {
             stream: Arc::clone(&stream),
             timeout: None,
         };
-        let writing = WriteHalf {
-            stream,
-            timeout: None,
-        };
+        let writing = WriteHalf { stream, timeout: None };
         (reading, writing)
     }
 
@@ -617,11 +587,7 @@ impl Shared {
     }
 
     fn shut(&self) {
-        let shut = self
-            .shut
-            .lock()
-            .unwrap_or_else(|poisoned| poisoned.into_inner())
-            .take();
+        let shut = self.shut.lock().unwrap_or_else(|poisoned| poisoned.into_inner()).take();
         if let Some(shut) = shut {
             shut();
         }
@@ -679,10 +645,7 @@ impl Shared {
 
     /// Wakes those for whom the fed bytes have changed something.
     fn serve(&self, state: &mut State, touched: &Touched) {
-        for id in touched
-            .ids()
-            .unwrap_or_else(|| state.streams.keys().copied().collect())
-        {
+        for id in touched.ids().unwrap_or_else(|| state.streams.keys().copied().collect()) {
             if let Some(stream) = state.streams.get(&id).cloned() {
                 stream.readable.notify_all();
                 stream.writable.notify_all();
@@ -716,9 +679,7 @@ impl Shared {
     fn send(&self, mut writer: Box<dyn Write + Send>) {
         let mut block = vec![0; BLOCK];
         while let Some((count, carries)) = self.emit(&mut block) {
-            let written = writer
-                .write_all(&block[..count])
-                .and_then(|()| writer.flush());
+            let written = writer.write_all(&block[..count]).and_then(|()| writer.flush());
             let mut state = self.lock();
             state.moved = Instant::now();
             match written {
@@ -785,9 +746,7 @@ impl Shared {
 
 impl Both {
     fn halves(&self) -> MutexGuard<'_, Halves> {
-        self.halves
-            .lock()
-            .unwrap_or_else(|poisoned| poisoned.into_inner())
+        self.halves.lock().unwrap_or_else(|poisoned| poisoned.into_inner())
     }
 
     /// Throws away what has come where the reading half is gone, and has the session forget the stream once both sides
@@ -803,13 +762,8 @@ impl Both {
             if count == 0 {
                 break session.consume(self.id, 1).is_err();
             }
-            let is_unwanted = new
-                && halves.finished
-                && session.unsent(self.id) == 0
-                && !session.has_ended(self.id);
-            if is_unwanted && session.reset(self.id).is_ok()
-                || session.consume(self.id, count).is_err()
-            {
+            let is_unwanted = new && halves.finished && session.unsent(self.id) == 0 && !session.has_ended(self.id);
+            if is_unwanted && session.reset(self.id).is_ok() || session.consume(self.id, count).is_err() {
                 break true;
             }
         };

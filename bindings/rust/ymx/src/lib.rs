@@ -167,16 +167,10 @@ impl Session {
     /// A session with this window, 262,144 to 16,777,216 bytes; `first` is the first own stream id, or 0.
     pub fn new(role: Role, window: u32, first: u32) -> Result<Session, Refused> {
         let mut at = ptr::null_mut();
-        let role = if role == Role::Client {
-            YMX_CLIENT
-        } else {
-            YMX_SERVER
-        };
+        let role = if role == Role::Client { YMX_CLIENT } else { YMX_SERVER };
         let answer = unsafe { ymx_new(role, window, first, &mut at) };
         good(answer)?;
-        ptr::NonNull::new(at)
-            .map(Session)
-            .ok_or(Refused { code: answer })
+        ptr::NonNull::new(at).map(Session).ok_or(Refused { code: answer })
     }
 
     /// Feeds bytes of the peer's, and returns how many were taken.
@@ -186,14 +180,7 @@ impl Session {
 
     /// Feeds bytes as `feed` does, and notes the streams that they touch. A stream that isn't noted is as it was.
     pub fn feed_touching(&mut self, bytes: &[u8], touched: &mut Touched) -> Result<usize, Refused> {
-        good(unsafe {
-            ymx_feed_touching(
-                self.0.as_ptr(),
-                bytes.as_ptr().cast(),
-                bytes.len(),
-                touched.0.as_ptr(),
-            )
-        })
+        good(unsafe { ymx_feed_touching(self.0.as_ptr(), bytes.as_ptr().cast(), bytes.len(), touched.0.as_ptr()) })
     }
 
     /// The peer's bytes have ended.
@@ -248,14 +235,7 @@ impl Session {
 
     /// Reads from a stream. Into an empty buffer it reads nothing, and says `End`.
     pub fn read(&mut self, id: u32, buffer: &mut [u8]) -> Result<Got, Refused> {
-        let answer = unsafe {
-            ymx_read(
-                self.0.as_ptr(),
-                id,
-                buffer.as_mut_ptr().cast(),
-                buffer.len(),
-            )
-        };
+        let answer = unsafe { ymx_read(self.0.as_ptr(), id, buffer.as_mut_ptr().cast(), buffer.len()) };
         Ok(match unless_wait(answer)? {
             None => Got::Wait,
             Some(0) => Got::End,
@@ -356,12 +336,7 @@ impl Session {
 
     /// Writes these bytes to a stream and puts the frame that carries them into the buffer, and returns how many bytes that
     /// are; `None` where something else is due, or they don't fit, and then nothing has changed.
-    pub fn write_through(
-        &mut self,
-        id: u32,
-        bytes: &[u8],
-        buffer: &mut [u8],
-    ) -> Result<Option<usize>, Refused> {
+    pub fn write_through(&mut self, id: u32, bytes: &[u8], buffer: &mut [u8]) -> Result<Option<usize>, Refused> {
         let answer = unsafe {
             ymx_write_through(
                 self.0.as_ptr(),
@@ -376,19 +351,8 @@ impl Session {
     }
 
     /// Feeds bytes as `feed_touching` does, but no further than to the first payload that `pass` may take.
-    pub fn feed_to_payload(
-        &mut self,
-        bytes: &[u8],
-        touched: &mut Touched,
-    ) -> Result<usize, Refused> {
-        good(unsafe {
-            ymx_feed_to_payload(
-                self.0.as_ptr(),
-                bytes.as_ptr().cast(),
-                bytes.len(),
-                touched.0.as_ptr(),
-            )
-        })
+    pub fn feed_to_payload(&mut self, bytes: &[u8], touched: &mut Touched) -> Result<usize, Refused> {
+        good(unsafe { ymx_feed_to_payload(self.0.as_ptr(), bytes.as_ptr().cast(), bytes.len(), touched.0.as_ptr()) })
     }
 
     /// The stream of the payload that comes next, and how many bytes of it are to come, where it may be passed on.
@@ -453,9 +417,7 @@ impl Touched {
         let mut at = ptr::null_mut();
         let answer = unsafe { ymx_touched_new(&mut at) };
         good(answer)?;
-        ptr::NonNull::new(at)
-            .map(Touched)
-            .ok_or(Refused { code: answer })
+        ptr::NonNull::new(at).map(Touched).ok_or(Refused { code: answer })
     }
 
     /// The streams, the first touched first; `None` where there are more than can be named, so that any may have changed.
@@ -463,8 +425,7 @@ impl Touched {
         if unsafe { ymx_touched_is_all(self.0.as_ptr()) == 1 } {
             return None;
         }
-        let mut ids =
-            vec![0; unsafe { ymx_touched_ids(self.0.as_ptr(), ptr::null_mut(), 0) } as usize];
+        let mut ids = vec![0; unsafe { ymx_touched_ids(self.0.as_ptr(), ptr::null_mut(), 0) } as usize];
         unsafe { ymx_touched_ids(self.0.as_ptr(), ids.as_mut_ptr(), ids.len()) };
         Some(ids)
     }

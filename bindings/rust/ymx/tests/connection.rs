@@ -19,9 +19,7 @@ fn pair() -> (Connection, Connection) {
 }
 
 fn text(seed: usize, size: usize) -> Vec<u8> {
-    (0..size)
-        .map(|at| (at * 31 + at / 251 * 7 + seed) as u8)
-        .collect()
+    (0..size).map(|at| (at * 31 + at / 251 * 7 + seed) as u8).collect()
 }
 
 /// How long is waited for what must come: only what hangs comes to it.
@@ -138,18 +136,9 @@ fn a_reset_reaches_both_sides() {
     let (client, server) = pair();
     let (mut reader, mut writer) = client.open().unwrap();
     server.accept().unwrap().0.reset();
-    assert_eq!(
-        reader.read(&mut [0; 9]).unwrap_err().kind(),
-        ErrorKind::ConnectionReset
-    );
-    assert_eq!(
-        writer.write(b"x").unwrap_err().kind(),
-        ErrorKind::ConnectionReset
-    );
-    assert_eq!(
-        writer.finish().unwrap_err().kind(),
-        ErrorKind::ConnectionReset
-    );
+    assert_eq!(reader.read(&mut [0; 9]).unwrap_err().kind(), ErrorKind::ConnectionReset);
+    assert_eq!(writer.write(b"x").unwrap_err().kind(), ErrorKind::ConnectionReset);
+    assert_eq!(writer.finish().unwrap_err().kind(), ErrorKind::ConnectionReset);
     drop(reader);
     soon(|| client.stream_count() == 0 && server.stream_count() == 0);
 }
@@ -173,10 +162,7 @@ fn a_lost_connection_is_no_end() {
         ErrorKind::ConnectionAborted
     );
     assert_eq!(came, b"a beginning");
-    assert_eq!(
-        writer.write(b"x").unwrap_err().kind(),
-        ErrorKind::ConnectionAborted
-    );
+    assert_eq!(writer.write(b"x").unwrap_err().kind(), ErrorKind::ConnectionAborted);
     assert!(client.open().is_err() && client.accept().is_err() && client.ping().is_err());
 }
 
@@ -379,10 +365,7 @@ fn accepted(server: &Connection) -> Vec<(u8, io::Result<usize>)> {
 }
 
 fn assert_whole(came: Vec<(u8, io::Result<usize>)>, size: usize) {
-    let sizes: Vec<_> = came
-        .into_iter()
-        .map(|(byte, read)| (byte, read.unwrap()))
-        .collect();
+    let sizes: Vec<_> = came.into_iter().map(|(byte, read)| (byte, read.unwrap())).collect();
     assert_eq!(sizes, [(1, size), (3, size), (5, size)]);
 }
 
@@ -456,10 +439,7 @@ fn a_stream_that_did_not_come_whole_is_told_so() {
     let came = accepted(&server);
     assert_eq!(came.len(), 2);
     assert_eq!(*came[0].1.as_ref().unwrap(), 1000);
-    assert_eq!(
-        came[1].1.as_ref().unwrap_err().kind(),
-        ErrorKind::ConnectionAborted
-    );
+    assert_eq!(came[1].1.as_ref().unwrap_err().kind(), ErrorKind::ConnectionAborted);
 }
 
 #[test]
@@ -468,10 +448,7 @@ fn behind_a_close_nothing_is_accepted() {
     let kept = client.open().unwrap();
     client.ping().unwrap();
     server.close();
-    assert_eq!(
-        server.accept().err().unwrap().kind(),
-        ErrorKind::ConnectionAborted
-    );
+    assert_eq!(server.accept().err().unwrap().kind(), ErrorKind::ConnectionAborted);
     drop(kept);
 }
 
@@ -539,8 +516,7 @@ fn each_call_that_waits_can_time_out() {
     assert_times_out(|| writer.write(b"x"));
     // and it goes on: the answers to the pings, bytes and credit for stream 1
     for number in 1..4 {
-        deaf.write_all(&[0, 2, 0, 2, 0, 0, 0, 0, 0, 0, 0, number])
-            .unwrap();
+        deaf.write_all(&[0, 2, 0, 2, 0, 0, 0, 0, 0, 0, 0, number]).unwrap();
     }
     deaf.write_all(&[
         0, 1, 0, 2, 0, 0, 0, 1, 0, 0, 0, 1, 0, 0, 0, 0, 0, 0, 0, 1, 0, 0, 0, 1, 7,
@@ -711,11 +687,7 @@ fn a_close_loses_nothing_though_the_peer_still_sends() {
             let mut sizes = Vec::new();
             while let Ok((mut reader, mut writer)) = server.accept() {
                 let _ = writer.write_all(&[0; 262_144]); // all that it has credit for, if the client is still there
-                sizes.push(
-                    reader
-                        .read_to_end(&mut Vec::new())
-                        .map_err(|error| error.kind()),
-                );
+                sizes.push(reader.read_to_end(&mut Vec::new()).map_err(|error| error.kind()));
             }
             sizes
         });
@@ -740,8 +712,5 @@ fn refusals_are_told_by_their_names() {
     client.ping().unwrap();
     let error = client.open().err().unwrap();
     let refused = error.get_ref().unwrap().downcast_ref::<Refused>().unwrap();
-    assert_eq!(
-        (error.kind(), refused.name()),
-        (ErrorKind::Other, "PEER_AWAY")
-    );
+    assert_eq!((error.kind(), refused.name()), (ErrorKind::Other, "PEER_AWAY"));
 }

@@ -23,10 +23,7 @@ fn pair() -> (Connection, Connection) {
 }
 
 fn streams(client: &Connection, server: &Connection) -> (Stream, Stream) {
-    (
-        client.open().unwrap().into(),
-        server.accept().unwrap().into(),
-    )
+    (client.open().unwrap().into(), server.accept().unwrap().into())
 }
 
 #[test]
@@ -47,10 +44,7 @@ fn a_stream_is_read_and_written_through_references() {
         (&near).read_to_end(&mut back).unwrap();
     });
     assert!(back == text);
-    assert_eq!(
-        (&near).write(b"x").unwrap_err().kind(),
-        ErrorKind::BrokenPipe
-    );
+    assert_eq!((&near).write(b"x").unwrap_err().kind(), ErrorKind::BrokenPipe);
     echo.join().unwrap();
     drop(near);
     let (reader, writer) = streams(&client, &server).0.split();
@@ -102,10 +96,7 @@ fn a_clone_keeps_the_connection() {
     near.write_all(b"word").unwrap();
     far.read_exact(&mut [0; 4]).unwrap();
     drop(other);
-    assert_eq!(
-        server.accept().unwrap_err().kind(),
-        ErrorKind::ConnectionAborted
-    );
+    assert_eq!(server.accept().unwrap_err().kind(), ErrorKind::ConnectionAborted);
 }
 
 #[test]

@@ -20,17 +20,11 @@ fn a_word_goes_across() {
 
 #[test]
 fn refusals_have_names() {
-    assert_eq!(
-        Session::new(Role::Client, 1, 0).err().unwrap().name(),
-        "BAD_WINDOW"
-    );
+    assert_eq!(Session::new(Role::Client, 1, 0).err().unwrap().name(), "BAD_WINDOW");
     let mut session = Session::new(Role::Server, 262_144, 0).unwrap();
     assert_eq!(session.write(7, b"x").unwrap_err().name(), "NO_STREAM");
     assert_eq!(session.feed(&[1; 12]).unwrap(), 12);
-    assert_eq!(
-        (session.status(), session.open().unwrap_err().name()),
-        (101, "LOST")
-    );
+    assert_eq!((session.status(), session.open().unwrap_err().name()), (101, "LOST"));
     session.close();
     assert_eq!(session.open().unwrap_err().to_string(), "CLOSED");
 }
@@ -69,10 +63,7 @@ fn touched_streams_are_named() {
     let (busy, idle) = (client.open().unwrap(), client.open().unwrap());
     let count = client.emit(&mut wire).unwrap();
     server.feed_touching(&wire[..count], &mut touched).unwrap();
-    assert_eq!(
-        (touched.ids().unwrap(), server.offered()),
-        (vec![busy, idle], 2)
-    );
+    assert_eq!((touched.ids().unwrap(), server.offered()), (vec![busy, idle], 2));
     touched.clear();
     assert_eq!(client.room(busy), 262_144);
     client.write(busy, b"lent").unwrap();
@@ -80,10 +71,7 @@ fn touched_streams_are_named() {
     client.ping().unwrap();
     let count = client.emit(&mut wire).unwrap();
     server.feed_touching(&wire[..count], &mut touched).unwrap();
-    assert_eq!(
-        (touched.ids().unwrap(), touched.has_pong()),
-        (vec![busy], false)
-    );
+    assert_eq!((touched.ids().unwrap(), touched.has_pong()), (vec![busy], false));
     server.accept().unwrap();
     assert_eq!(server.unread(busy), b"lent");
     server.consume(busy, 4).unwrap();
