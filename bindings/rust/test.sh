@@ -1,6 +1,7 @@
 #!/bin/sh
 # The tests of the binding for Rust. YMX_LIB_DIR is the folder of the library. Then: both ways to find it and both to link
-# it, what is said where there is none, the packages, and clippy where it stands.
+# it, what is said where there is none, the packages, and clippy where it stands; and the crate for tokio, where Debian's
+# librust-tokio-dev and librust-hyper-dev stand.
 set -eu
 here=$(cd "$(dirname "$0")" && pwd)
 cd "$here"
@@ -67,4 +68,17 @@ fi
 if cargo clippy --version > /dev/null 2>&1; then
     cargo clippy --offline --workspace --all-targets -- -D warnings > "$scratch/said" 2>&1 || fail 'clippy finds something'
     echo 'clippy finds nothing'
+fi
+
+registry=/usr/share/cargo/registry
+if ls -d "$registry"/tokio-1.* "$registry"/hyper-0.14.* > /dev/null 2>&1; then
+    mkdir "$scratch/home"
+    printf '[source.crates-io]\nreplace-with = "debian"\n[source.debian]\ndirectory = "%s"\n' "$registry" > "$scratch/home/config.toml"
+    export CARGO_HOME="$scratch/home"
+    cp -r rustfmt.toml ymx ymx-sys ymx-tokio "$scratch/" # cargo writes a Cargo.lock
+    cd "$scratch/ymx-tokio"
+    cargo fmt --check > "$scratch/said" 2>&1 || fail 'cargo fmt would change something of ymx-tokio'
+    timeout 600 cargo test --offline
+else
+    echo 'no tokio: that crate was not tried'
 fi
