@@ -264,9 +264,12 @@ func (core core) forget(id uint32) { C.core_forget(core.c, C.uint32_t(id)) }
 func (core core) shrink(id uint32, all bool) {
 	C.ymx_shrink(core.c.session, C.uint32_t(id))
 	if all {
-		C.ymx_shrink_spare(core.c.session)
+		core.shrinkSpare()
 	}
 }
+
+// shrinkSpare gives that back alone, and says whether there was some.
+func (core core) shrinkSpare() bool { return C.ymx_shrink_spare(core.c.session) == 1 }
 
 // take appends the bytes that wait on a stream to some, by at most `most` bytes. They are copied from where they lie.
 func (core core) take(id uint32, some []byte, most int) []byte {

@@ -59,6 +59,7 @@ type Session struct {
 	passed    []*Stream   // of which a Read that waits has got bytes by the feed that is under way
 	turns     []*Stream   // of which a Write waits for the connection, the first to come first
 	away      bool        // our Go Away is out
+	isSparing bool        // memory is given back before long, if no stream comes
 	watching  bool        // a look at those who wait for the connection to take their bytes is planned
 	opening   patience    // own streams that the peer has not acknowledged
 	closing   patience    // streams that are closed here, and not ended by the peer
@@ -204,6 +205,35 @@ func (s *Session) end(reason error) {
 		s.socket.settle(most)
 	}
 	s.connection.Close()
+}
+
+// leftBy is io.EOF where either side has just ended the session, and ErrSessionShutdown where something went wrong.
+func (s *Session) leftBy() error {
+	s.lock.Lock()
+	defer s.lock.Unlock()
+	if s.failure == io.EOF || s.failure == ErrSessionShutdown {
+		return io.EOF
+	}
+	return ErrSessionShutdown
+}
+
+// idle is how long a session has had no stream, at least, before it gives back what it keeps for those to come.
+const idle = time.Second
+
+// spareMemory plans that, where the last stream has gone.
+func (s *Session) spareMemory() {
+	if len(s.streams) > 0 || s.isSparing {
+		return
+	}
+	s.isSparing = true
+	time.AfterFunc(idle, func() {
+		s.lock.Lock()
+		defer s.lock.Unlock()
+		s.isSparing = false
+		if !s.over && len(s.streams) == 0 {
+			s.core.shrinkSpare()
+		}
+	})
 }
 
 // keepOffered takes what the peer has sent of streams that nobody has accepted yet, so that AcceptStream still gives them.
@@ -493,9 +523,18 @@ func (s *Session) Open() (net.Conn, error) {
 // OpenStream opens a stream. It waits while AcceptBacklog streams are not acknowledged. Once the session is over it returns
 // ErrSessionShutdown, and ErrRemoteGoAway where the peer takes no more streams.
 func (s *Session) OpenStream() (*Stream, error) {
+	return s.OpenStreamWithContext(context.Background())
+}
+
+// OpenStreamWithContext is OpenStream, and stops waiting with the context's error once that is done.
+func (s *Session) OpenStreamWithContext(waits context.Context) (*Stream, error) {
+	defer s.wakeWith(waits, s.openable)()
 	s.lock.Lock()
 	defer s.lock.Unlock()
 	for !s.isDown() {
+		if err := waits.Err(); err != nil {
+			return nil, err
+		}
 		if s.unacked >= s.config.AcceptBacklog {
 			s.await(s.openable)
 			continue
@@ -540,21 +579,27 @@ func (s *Session) AcceptStream() (*Stream, error) {
 	return s.AcceptStreamWithContext(context.Background())
 }
 
+// wakeWith has the calls that wait for this look anew once the context is done, until what it gives is called.
+func (s *Session) wakeWith(waits context.Context, cond *sync.Cond) (end func()) {
+	if waits.Done() == nil {
+		return func() {}
+	}
+	stop := make(chan struct{})
+	go func() {
+		select {
+		case <-waits.Done():
+			s.lock.Lock()
+			s.wake(cond)
+			s.lock.Unlock()
+		case <-stop:
+		}
+	}()
+	return func() { close(stop) }
+}
+
 // AcceptStreamWithContext is AcceptStream, and stops waiting with the context's error once that is done.
 func (s *Session) AcceptStreamWithContext(waits context.Context) (*Stream, error) {
-	if waits.Done() != nil {
-		stop := make(chan struct{})
-		defer close(stop)
-		go func() {
-			select {
-			case <-waits.Done():
-				s.lock.Lock()
-				s.wake(s.acceptable)
-				s.lock.Unlock()
-			case <-stop:
-			}
-		}()
-	}
+	defer s.wakeWith(waits, s.acceptable)()
 	s.lock.Lock()
 	defer s.lock.Unlock()
 	for {

@@ -256,8 +256,9 @@ func (st *Stream) credit() error {
 const copySize = 32 * 1024
 
 // WriteTo has io.Copy write all that comes. It returns nil once the peer has ended the stream and all is written. Where
-// this side has closed the stream it returns io.EOF, which io.Copy then returns too, and never does at an end: so a copy
-// that was broken off isn't taken for a whole one, and programs that pass over io.EOF, as go-plugin, log nothing.
+// this side has closed the stream, or either has ended the session, it returns io.EOF, which io.Copy then returns too, and
+// never does at an end: so a copy that was broken off isn't taken for a whole one, and programs that pass over io.EOF, as
+// go-plugin, log nothing.
 func (st *Stream) WriteTo(writer io.Writer) (int64, error) {
 	block := make([]byte, copySize)
 	var all int64
@@ -281,6 +282,8 @@ func (st *Stream) WriteTo(writer io.Writer) (int64, error) {
 			return all, nil
 		case ErrStreamClosed:
 			return all, io.EOF
+		case ErrSessionShutdown:
+			return all, st.session.leftBy()
 		default:
 			return all, err
 		}
@@ -685,6 +688,7 @@ func (st *Stream) leave(reason error) {
 		s.wakeWriter() // there is a reset to send
 	}
 	delete(s.streams, st.id)
+	s.spareMemory()
 	if st.finished && !st.ends {
 		s.leaving[st.id] = st
 	}

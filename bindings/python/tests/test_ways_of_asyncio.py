@@ -154,6 +154,23 @@ class WaysOfAsyncio(BothSides):
         self.assertLess(len(near_reader._buffer), 300000)
         far.transport.abort()
 
+    async def test_memory_goes_back_where_the_last_stream_has_gone(self):
+        def resident():
+            with open("/proc/self/statm") as file:
+                return int(file.read().split()[1]) * 4096 / 1e6
+
+        before = resident()
+        ends = [await self.pair() for _ in range(600)]
+        for _, (_, far) in ends:
+            far.write(bytes(200000))
+        for (reader, near), (_, far) in ends:
+            await reader.readexactly(200000)
+            near.close()
+            far.close()
+        used = resident()
+        del ends, reader, near, far, _
+        await self.until(lambda: resident() < before + (used - before) / 4, f"{before} before, {used} with streams")
+
     async def test_connections_that_are_over_are_collected(self):
         alive = weakref.WeakSet()
         for _ in range(5):

@@ -16,6 +16,7 @@ Serve = Callable[["Connection"], Awaitable[None]]
 Answer = Callable[[StreamReader, StreamWriter], Awaitable[None]]
 LINGER = 10.0
 LIMIT = 65536
+IDLE = 1.0  # for how long there was no stream when memory goes back
 
 
 async def open_connection(
@@ -115,6 +116,7 @@ class Connection(asyncio.Protocol):
         self._is_short = False  # bytes that were to be sent were not when it ended
         self._gives_up = False  # nothing went on for too long
         self._watching: Optional[asyncio.TimerHandle] = None
+        self._sparing: Optional[asyncio.TimerHandle] = None
         self._closed: "asyncio.Future[None]" = self._loop.create_future()
 
     # ---- for the user
@@ -271,8 +273,9 @@ class Connection(asyncio.Protocol):
             self._feed()
         self._is_short |= self.session.unsent_total() > 0
         self._lose(ConnectionLost("the connection has ended" if error is None else str(error)))
-        if self._watching is not None:
-            self._watching.cancel()
+        for timer in self._watching, self._sparing:
+            if timer is not None:
+                timer.cancel()
         if not self._closed.done():
             self._closed.set_result(None)
 
@@ -388,6 +391,14 @@ class Connection(asyncio.Protocol):
         self._opening.wake()
         self._moving.wake()
         self.plan()
+        if not self._streams and self._sparing is None:
+            self._sparing = self._loop.call_later(IDLE, self._spare)
+
+    def _spare(self) -> None:
+        """Gives memory back where no stream has come since the last one went."""
+        self._sparing = None
+        if not self._streams:
+            self.session.shrink_spare()
 
     def _check(self) -> None:
         if self._over is not None:

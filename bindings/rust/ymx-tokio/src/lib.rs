@@ -14,6 +14,8 @@ use ymx::{Ended, Got, Role, Session, Touched};
 
 const BLOCK: usize = 65_536;
 const LINGER: Duration = Duration::from_secs(10);
+/// For how long nothing was due when memory goes back, if there is no stream.
+const IDLE: Duration = Duration::from_secs(1);
 
 /// One side of a connection. A clone is the same one. As the last is dropped all streams end for their users here. What was
 /// written is still sent, and the connection ends with the peer's end, or after 10 seconds.
@@ -176,7 +178,13 @@ impl Shared {
             if let Err(error) = sent {
                 return self.end(Ended::Failed(error.kind()));
             }
-            if count == 0 {
+            let next = self.due.notified();
+            if count == 0 && tokio::time::timeout(IDLE, next).await.is_err() {
+                let mut state = self.lock();
+                if state.streams.is_empty() {
+                    state.session.shrink_spare();
+                }
+                drop(state);
                 self.due.notified().await;
             }
         }

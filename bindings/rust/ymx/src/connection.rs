@@ -13,6 +13,8 @@ use ymx_sys::*;
 
 const BLOCK: usize = 65_536;
 const LINGER: Duration = Duration::from_secs(10);
+/// For how long there was no stream when memory goes back.
+const IDLE: Duration = Duration::from_secs(1);
 
 /// What a [`Connection`] runs over: bytes that come, bytes that go, and what ends both.
 pub struct Side {
@@ -116,6 +118,7 @@ struct State {
     over: Option<Ended>,
     pings: HashMap<u32, Ping>,
     linger: Duration,
+    is_spare: bool, // the session may keep memory for streams to come
     farewell: Farewell,
     is_read_out: bool,       // the reading thread is done
     is_done: bool,           // the writing thread is done
@@ -288,6 +291,7 @@ impl Connection {
             over: None,
             pings: HashMap::new(),
             linger: LINGER,
+            is_spare: false,
             farewell: Farewell::Unsaid,
             is_read_out: false,
             is_done: false,
@@ -391,13 +395,14 @@ impl Connection {
         keeper.spawn(move || shared.keep_alive(interval)).map(drop)
     }
 
-    /// Gives memory back that isn't needed now, as of a connection that is to be quiet for long.
-    pub fn shrink(&self) {
+    /// Gives memory back that isn't needed now, as of a connection that is to be quiet for long. Whether some was kept for
+    /// streams to come, which goes back by itself once there was no stream for a second.
+    pub fn shrink(&self) -> bool {
         let mut state = self.0.lock();
         for id in state.session.streams() {
             let _ = state.session.shrink(id);
         }
-        state.session.shrink_spare();
+        state.session.shrink_spare()
     }
 
     /// Takes no more streams of the peer's, and tells it so. Streams that are there go on.
@@ -470,6 +475,7 @@ impl Shared {
         });
         if state.over.is_none() {
             state.streams.insert(id, Arc::clone(&stream));
+            state.is_spare = true;
         }
         self.sender.notify_one();
         let reading = ReadHalf {
@@ -722,6 +728,13 @@ impl Shared {
                 } else {
                     state = wait_for(&self.sender, state, left);
                 }
+            } else if !state.session.due() && state.is_spare && state.streams.is_empty() {
+                let since = Instant::now();
+                state = wait_for(&self.sender, state, IDLE);
+                if state.streams.is_empty() && since.elapsed() >= IDLE {
+                    state.is_spare = false;
+                    state.session.shrink_spare();
+                }
             } else if !state.session.due() {
                 state = wait(&self.sender, state);
             }
@@ -774,7 +787,7 @@ impl Both {
             state.streams.remove(&self.id);
             self.shared.changed.notify_all();
         }
-        if state.session.due() {
+        if state.session.due() || state.streams.is_empty() {
             self.shared.sender.notify_one();
         }
     }

@@ -140,6 +140,26 @@ fn a_keepalive_ends_a_connection_whose_peer_is_silent() {
 }
 
 #[test]
+fn memory_goes_back_where_the_last_stream_has_gone() {
+    let (client, server) = pair();
+    for waits in [false, true] {
+        let (near, mut far) = streams(&client, &server);
+        (&near).write_all(&[1; 200_000]).unwrap();
+        near.finish().unwrap();
+        far.finish().unwrap();
+        io::copy(&mut far, &mut io::sink()).unwrap();
+        drop((near, far));
+        while client.stream_count() > 0 {
+            thread::sleep(Duration::from_millis(1));
+        }
+        if waits {
+            thread::sleep(Duration::from_secs(4));
+        }
+        assert_eq!(client.shrink(), !waits);
+    }
+}
+
+#[test]
 fn shrink_loses_no_byte() {
     let (client, server) = pair();
     let (mut near, mut far) = streams(&client, &server);
