@@ -64,6 +64,7 @@ try 'the program, installed' "$root/tests/release/installed.sh"
 try '500 random connections' "$root/tests/kill/random.sh" 500
 try 'scripts and what they print' "$root/tests/script/run.sh"
 try 'the C interface' "$root/tests/capi/run.sh"
+try 'the bindings, as programs of others use them' "$root/tests/cases.sh"
 if [ "${1-}" != --no-kit ]; then
     try 'wrong bodies and the sources' "$root/tests/wrong_bodies.sh" --fit
     try 'each allocation fails once' "$root/tests/no_memory/run.sh"
@@ -83,6 +84,7 @@ if [ "${1-}" = --all ]; then
         try "the tunnel and Go's yamux" "$root/tests/interop/run.sh"
         try 'the bindings, crosswise' "$root/tests/capi/interop.sh"
         try "HashiCorp's tests over the binding for Go" "$root/tests/hashicorp.sh"
+        try 'software of others over the bindings' "$root/tests/real.sh"
     else
         echo "--    the tunnel and the bindings with Go's yamux: left out: no Go, or not its yamux"
     fi

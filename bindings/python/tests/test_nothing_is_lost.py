@@ -216,6 +216,7 @@ class CutStreams(BothSides):
                 await writer.drain()
 
         for at in range(1100):
+            await self.until(lambda: self.client.stream_count < 500, "no place comes free")
             (near_reader, near), (_, far) = await self.pair()
             writing.append((far, asyncio.ensure_future(write(far))))
             await near_reader.readexactly(10)

@@ -1,0 +1,97 @@
+#!/bin/sh
+# Runs software of others over streams of the bindings, each test of it alone, beside TCP and HashiCorp's package: for Go the
+# tests of net/http, http2, crypto/tls, gRPC and ssh, with net.Listen and net.Dial of a copy of Go led over one session
+# (real/hook.go); for Python hypercorn and aiohttp; for Rust rustls and hyper. A suite that Debian's packages don't bring here
+# is left out with a word. Beside the gate: it takes an hour. With names it runs these alone: `tests/real.sh net/http`.
+# Ends with 'N passed, M failed'.
+set -eu
+here=$(cd "$(dirname "$0")" && pwd)
+. "$here/over.sh"
+PREFIX=$scratch/built "$root/c/build.sh" "$scratch/built" > "$scratch/log" 2>&1 || fail "libymx can't be built" "$scratch/log"
+export PKG_CONFIG_PATH="$scratch/built/lib/pkgconfig" LD_LIBRARY_PATH="$scratch/built/lib"
+export YMX_LIBRARY="$scratch/built/lib/libymx.so.0" YMX_LIB_DIR="$scratch/built/lib" PYTHONDONTWRITEBYTECODE=1
+wanted=" $* "
+
+# is_wanted NAME
+is_wanted() {
+    [ "$wanted" = '  ' ] || [ "${wanted#* "$1" }" != "$wanted" ]
+}
+
+# both_gos: two copies of Go whose net is led over streams, with ours and with HashiCorp's package in them
+both_gos() {
+    for one in ours theirs; do
+        go=$scratch/$one
+        mkdir "$go"
+        cp -rL "$(go env GOROOT)/." "$go" 2> "$scratch/log" || true
+        rm -rf "$go/pkg/linux_amd64_race"
+        python3 "$here/real/patched_net.py" "$go/src/net/dial.go"
+        mkdir -p "$go/src/ystream" "$go/src/github.com/hashicorp/yamux"
+        cp "$here/real/hook.go" "$go/src/ystream/"
+        if [ $one = ours ]; then from=$root/bindings/go; else from=/usr/share/gocode/src/github.com/hashicorp/yamux; fi
+        cp "$from"/*.go "$go/src/github.com/hashicorp/yamux/"
+        rm -f "$go"/src/github.com/hashicorp/yamux/*_test.go
+    done
+}
+
+# suite NAME FOLDER PACKAGE [TEST=REASON ..]: the tests of a package of Go's own (below its src), or of Debian's
+suite() {
+    name=$1 folder=$2 package=$3
+    shift 3
+    is_wanted "$name" || return 0
+    [ -d "$scratch/ours/src" ] || both_gos
+    for one in ours theirs; do
+        go=$scratch/$one
+        where=$go/src/$folder
+        if [ ! -d "$where" ]; then
+            [ -d "/usr/share/gocode/src/$folder" ] || { left_out "$name" "no /usr/share/gocode/src/$folder"; return 0; }
+            mkdir -p "$where"
+            cp -rL "/usr/share/gocode/src/$folder/." "$where"
+        fi
+        printf 'package %s\n\nimport _ "ystream"\n' "$package" > "$where/led_test.go"
+        (cd "$where" && GOROOT=$go GO111MODULE=off GOPATH=/usr/share/gocode GOCACHE=$scratch/cache GOFLAGS=-vet=off \
+            "$go/bin/go" test -c -o "$scratch/$one.test" .) > "$scratch/log" 2>&1 || { bad "$name can't be compiled" "$scratch/log"; return 0; }
+    done
+    if (cd "$scratch/ours/src/$folder" && GOROOT=$scratch/ours PATH=$scratch/ours/bin:$PATH GO111MODULE=off GOPATH=/usr/share/gocode \
+        GOCACHE=$scratch/cache python3 "$here/real/each.py" "$name" "$scratch/ours.test" "$scratch/theirs.test" "$@") > "$scratch/said" 2>&1; then
+        good
+    else
+        bad "$name"
+    fi
+    cat "$scratch/said"
+}
+
+# program NAME COMMAND..: one that says what it did in its last line
+program() {
+    name=$1
+    shift
+    is_wanted "$name" || return 0
+    if timeout 900 "$@" > "$scratch/said" 2>&1; then
+        good
+        echo "ok    $name: $(tail -n 1 "$scratch/said")"
+    else
+        bad "$name" "$scratch/said"
+    fi
+}
+
+if has_go; then
+    suite net/http net/http http_test
+    suite crypto/tls crypto/tls tls
+    suite net/rpc net/rpc rpc
+    suite net/http/httputil net/http/httputil httputil
+    suite http2 golang.org/x/net/http2 http2
+    suite ssh golang.org/x/crypto/ssh ssh
+    suite gRPC google.golang.org/grpc/test test
+else
+    left_out "Go's suites" "no Go, or not its yamux"
+fi
+for python in python3 /usr/bin/python3; do
+    if "$python" -c 'import hypercorn' 2> /dev/null && is_wanted hypercorn; then
+        program hypercorn "$python" "$here/real/served.py"
+        break
+    fi
+done
+[ "$python" != /usr/bin/python3 ] || "$python" -c 'import hypercorn' 2> /dev/null || left_out hypercorn 'no python3 has it'
+if command -v cargo > /dev/null; then
+    program 'the binding for Rust, with hyper' "$root/bindings/rust/test.sh"
+fi
+counted
