@@ -572,8 +572,8 @@ func (st *Stream) Close() error {
 	}
 	s.closing.add(&st.closing, st)
 	st.finish()
-	if st.end == nil {
-		st.tidy()
+	if st.end == nil && (news.hasEnded() || news.isReset()) { // what comes meanwhile touches the stream
+		st.settle(news)
 	}
 	return nil
 }
