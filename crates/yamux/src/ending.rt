@@ -1,0 +1,47 @@
+//! How a pump of a session ended, as whoever waits for it learns it.
+//!
+//! A `JoinHandle` can't be shared by threads, and a session is. So a pump leaves its end here, and its thread is let run out.
+
+use std::sync::{Condvar, Mutex, Wait};
+use ymx_connect::PumpWhy;
+
+/// Where a pump leaves its end.
+#[derive(Drop)]
+pub(crate) struct Ending {
+    /// `None` while the pump has a thread.
+    why: Mutex<Option<PumpWhy>>,
+    changed: Condvar,
+}
+
+impl Ending {
+    /// The pump has no thread yet.
+    pub(crate) fn new() -> Ending {
+        Ending {
+            why: Mutex::new(Some(PumpWhy::NoThread)),
+            changed: Condvar::new(),
+        }
+    }
+
+    /// The pump is about to get a thread.
+    pub(crate) fn begin<W: Wait>(&self, rt: &W) {
+        *self.why.lock(rt) = None;
+    }
+
+    /// The pump has ended so.
+    pub(crate) fn tell<W: Wait>(&self, rt: &W, why: PumpWhy) {
+        *self.why.lock(rt) = Some(why);
+        self.changed.notify_all();
+    }
+
+    /// Waits until the pump has no thread: why.
+    pub(crate) fn wait<W: Wait>(&self, rt: &W) -> PumpWhy {
+        let mut why = self.why.lock(rt);
+        for _ in rt.forever() {
+            if let Some(why) = *why {
+                return why;
+            }
+            why = self.changed.wait(rt, why);
+        }
+        unreachable!()
+    }
+}
