@@ -1,8 +1,7 @@
 #!/bin/sh
-# The programs of docs/GUIDE.md: proves those of examples/, runs each server, and its client against it over TCP on the
-# loopback, and compares what they print. Without blank lines and comments, those that the guide shows must have under 50
-# lines each, and those of examples/echo under 50 together. The history
-# that two hubs keep must be one run, and both ends of the echo that are one program must say that all came back. The client
+# The programs of docs/GUIDE.md: proves those of examples/, runs a server, and its client against it over TCP on the
+# loopback, and compares what they print. The client and the server that the guide shows must have at most 22 and 32 lines. The
+# history that two hubs keep must be one run, and both ends of the echo that are one program must say that all came back. The client
 # of the guide must say so where a thread can't be made, and send nothing. Proofs of examples end in .proof there.
 # The repository is left alone: the programs are crates in a copy, which takes over what was proved before. With `guide` it
 # is the client and the server of the guide alone. With YMX_FROM_GATE=yes they are proved over the libraries as `rt ci` has
@@ -15,7 +14,7 @@ is_from_gate=${YMX_FROM_GATE-no}
 # The examples name two ports from which a caller of another test may have one: they run at others.
 free_ports 2 > "$scratch/ports"
 port=$(sed -n 1p "$scratch/ports")
-echo_port=$(sed -n 2p "$scratch/ports")
+proxy_port=$(sed -n 2p "$scratch/ports")
 mkdir "$scratch/crates"
 cp "$root/crates.txt" "$root/HANDLES" "$scratch"
 if [ "$is_from_gate" = no ]; then
@@ -36,7 +35,7 @@ prove() {
     crate=$(crate_of "$source")
     shift
     mkdir -p "$scratch/crates/$crate/src"
-    sed "s/127\.0\.0\.1:47100/127.0.0.1:$port/; s/127\.0\.0\.1:47101/127.0.0.1:$echo_port/" \
+    sed "s/127\.0\.0\.1:47100/127.0.0.1:$port/; s/127\.0\.0\.1:47101/127.0.0.1:$proxy_port/" \
         "$root/examples/$source.rattle" > "$scratch/crates/$crate/src/main.rt"
     if [ -d "$root/examples/$source/proofs" ]; then
         (cd "$root/examples/$source" && find proofs -name '*.proof') | while read -r file; do
@@ -63,31 +62,20 @@ build() {
     [ -x "$program" ] || fail "$crate can't be built" "$scratch/run"
 }
 
-# pair SERVER CLIENT LIBRARY..: proves both over these libraries, and runs the client against the server until that can
-# be reached
-pair() {
-    serving=$1
-    asking=$2
-    shift 2
-    server=$(crate_of "$serving")
-    if [ "$is_from_gate" = yes ]; then
-        # both at once, as no proof is kept
-        prove "$serving" "$@" &
-        jobs=$!
-        prove "$asking" "$@"
-        wait "$jobs" || exit 1
-        jobs=
-    else
-        prove "$serving" "$@"
-        prove "$asking" "$@"
-    fi
-    build
+# serve: starts the server of the guide
+serve() {
+    server=$(crate_of server)
     if [ "$is_from_gate" = yes ]; then
         timeout 300 "$scratch/crates/$server/out/$server" < /dev/null > "$scratch/server.out" 2>&1 &
     else
         (cd "$scratch/crates/$server" && exec timeout 300 rt run < /dev/null > "$scratch/server.out" 2>&1) &
     fi
     jobs=$!
+}
+
+# ask: starts the server, and runs `program` against it until that can be reached
+ask() {
+    serve
     until "$program" < "$scratch/input" > "$scratch/client.out" 2> /dev/null; do
         kill -0 "$jobs" 2> /dev/null || fail 'the server failed' "$scratch/server.out"
         sleep 0.2
@@ -125,13 +113,23 @@ without_thread() {
     grep -qx 'bytes: 0' "$scratch/peer.out" || fail "bytes came without thread $1" "$scratch/peer.out"
 }
 
-for name in server client; do
-    [ "$(grep -cv '^ *\(//.*\)\{0,1\}$' "$root/examples/$name.rattle")" -lt 50 ] || fail "examples/$name.rattle has 50 lines or more"
-done
-[ "$(cat "$root"/examples/echo/*.rattle | grep -cv '^ *\(//.*\)\{0,1\}$')" -lt 50 ] || fail "examples/echo has 50 lines or more"
+[ "$(wc -l < "$root/examples/client.rattle")" -le 22 ] || fail 'examples/client.rattle has more than 22 lines'
+[ "$(wc -l < "$root/examples/server.rattle")" -le 32 ] || fail 'examples/server.rattle has more than 32 lines'
 
 : > "$scratch/input"
-pair server client ymx_connect
+if [ "$is_from_gate" = yes ]; then
+    # both at once, as no proof is kept
+    prove server yamux &
+    jobs=$!
+    prove client yamux
+    wait "$jobs" || exit 1
+    jobs=
+else
+    prove server yamux
+    prove client yamux
+fi
+build
+ask
 same_came_back
 # the threads of both pumps
 "${CC:-cc}" -O2 -Wall -shared -fPIC -o "$scratch/failing_malloc.so" "$root/tests/no_memory/failing_malloc.c"
@@ -142,8 +140,17 @@ if [ "${1-}" = guide ]; then
     exit 0
 fi
 printf 'one\n\nthree\n' > "$scratch/input"
-pair echo/server echo/client ymx_connect
+prove echo yamux
+build
+ask
 cmp "$scratch/input" "$scratch/client.out" || fail 'the echo is another text' "$scratch/client.out"
+grep -q 'streams served: 3$' "$scratch/server.out" || fail 'the server printed something else' "$scratch/server.out"
+
+prove proxy yamux
+build
+serve
+timeout 300 "$here/user.py" "$proxy_port" "$program" > "$scratch/user.out" 2>&1 || fail 'the proxy failed' "$scratch/user.out"
+stop
 
 prove history/main ymx_joined ymx_connect ymx_hub ymx_session ymx_seats ymx_model
 build
