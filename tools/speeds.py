@@ -1,8 +1,9 @@
 #!/usr/bin/env python3
 """speeds.py [--same]: draws docs/speeds.svg from the table of bench/README.md.
 
-It takes the rows `tunnel, ..: ymx; Go's yamux; plain copying`, and the day and the machine that the page tells of them.
-Each row has a scale of its own: its longest bar is its highest figure.
+It takes the rows `tunnel, ..: ymx; Go's yamux; plain copying`, and the day and the machine that the page tells of them;
+and below them the rows `latency, ..: ymx; Go's yamux; plain TCP`, of which a lower figure is better. Each row has a scale
+of its own: its longest bar is its highest figure.
 With --same it draws nothing: it fails where the picture is another one, or where what README.md says of the tunnel's
 speed isn't what bench/README.md says.
 """
@@ -12,21 +13,25 @@ from pathlib import Path
 
 ROOT = Path(__file__).resolve().parent.parent
 PICTURE = ROOT / "docs/speeds.svg"
-COLOURS = {"ymx": "#2b6cb0", "Go's yamux": "#d69e4a", "plain copying": "#a3aebb"}
+COLOURS = {"ymx": "#2b6cb0", "Go's yamux": "#d69e4a", "plain copying": "#a3aebb", "plain TCP": "#a3aebb"}
 LEFT, LONGEST, BAR, WIDTH = 110, 430, 13, 640
 
 
-def rows_of(page):
-    """(what is measured, the unit, [(who, the figure as it is written)]) for each row that compares."""
+def rows_of(page, kind="tunnel", others="Go's yamux; plain copying"):
+    """(what is measured, the unit, [(who, the figure as it is written)]) for each row of this kind that compares."""
     rows = []
     for line in page.splitlines():
-        row = re.fullmatch(r"\| tunnel, (.*): (ymx; Go's yamux; plain copying) \| (.*) \|", line)
+        row = re.fullmatch(rf"\| {kind}, (.*): (ymx; {others}) \| (.*) \|", line)
         if row:
             what, who, told = row.groups()
             figures = re.findall(r"\d[\d,]*", told)[:3]
             unit = told[told.rindex(figures[-1]) + len(figures[-1]) :].strip()
             rows.append((what, unit, list(zip(who.split("; "), figures))))
     return rows
+
+
+def latencies_of(page):
+    return rows_of(page, "latency", "Go's yamux; plain TCP")
 
 
 def taken_at(page):
@@ -55,6 +60,12 @@ def picture_of(page):
     runs, day, machine = taken_at(page)
     lines, y = [], 80
     for what, unit, pairs in rows_of(page):
+        more, y = bars(y, what, unit, pairs)
+        lines += more
+    if latencies_of(page):
+        lines.append(f'  <text x="{LEFT}" y="{y + 10}">64 bytes there and back, beside downloads over a slow line. A shorter bar is better.</text>')
+        y += 36
+    for what, unit, pairs in latencies_of(page):
         more, y = bars(y, what, unit, pairs)
         lines += more
     head = [
@@ -91,7 +102,7 @@ def main(words):
         wrong = list(strange_figures(page))
         if not PICTURE.exists() or PICTURE.read_text() != picture_of(page):
             wrong.append("docs/speeds.svg is not what tools/speeds.py draws: run it again")
-        print("\n".join(wrong) or f"{len(rows_of(page))} rows, as in bench/README.md")
+        print("\n".join(wrong) or f"{len(rows_of(page) + latencies_of(page))} rows, as in bench/README.md")
         return 1 if wrong else 0
     if words:
         sys.exit(__doc__)
