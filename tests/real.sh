@@ -17,8 +17,11 @@ is_wanted() {
     [ "$wanted" = '  ' ] || [ "${wanted#* "$1" }" != "$wanted" ]
 }
 
-# both_gos: two copies of Go whose net is led over streams, with ours and with HashiCorp's package in them
+# both_gos: two copies of Go whose net is led over streams, with ours and with HashiCorp's package in them; and a copy of
+# Debian's packages, as a test is added to them
 both_gos() {
+    mkdir "$scratch/path"
+    cp -rL /usr/share/gocode/src "$scratch/path" 2> "$scratch/log" || true
     for one in ours theirs; do
         go=$scratch/$one
         mkdir "$go"
@@ -33,26 +36,22 @@ both_gos() {
     done
 }
 
-# suite NAME FOLDER PACKAGE [TEST=REASON ..]: the tests of a package of Go's own (below its src), or of Debian's
+# suite NAME FOLDER PACKAGE: the tests of a package of Go's own (below its src), or of Debian's
 suite() {
     name=$1 folder=$2 package=$3
-    shift 3
     is_wanted "$name" || return 0
     [ -d "$scratch/ours/src" ] || both_gos
-    for one in ours theirs; do
+    for one in theirs ours; do
         go=$scratch/$one
         where=$go/src/$folder
-        if [ ! -d "$where" ]; then
-            [ -d "/usr/share/gocode/src/$folder" ] || { left_out "$name" "no /usr/share/gocode/src/$folder"; return 0; }
-            mkdir -p "$where"
-            cp -rL "/usr/share/gocode/src/$folder/." "$where"
-        fi
+        [ -d "$where" ] || where=$scratch/path/src/$folder
+        [ -d "$where" ] || { left_out "$name" "no /usr/share/gocode/src/$folder"; return 0; }
         printf 'package %s\n\nimport _ "ystream"\n' "$package" > "$where/led_test.go"
-        (cd "$where" && GOROOT=$go GO111MODULE=off GOPATH=/usr/share/gocode GOCACHE=$scratch/cache GOFLAGS=-vet=off \
+        (cd "$where" && GOROOT=$go GO111MODULE=off GOPATH=$scratch/path GOCACHE=$scratch/cache GOFLAGS=-vet=off \
             "$go/bin/go" test -c -o "$scratch/$one.test" .) > "$scratch/log" 2>&1 || { bad "$name can't be compiled" "$scratch/log"; return 0; }
     done
-    if (cd "$scratch/ours/src/$folder" && GOROOT=$scratch/ours PATH=$scratch/ours/bin:$PATH GO111MODULE=off GOPATH=/usr/share/gocode \
-        GOCACHE=$scratch/cache python3 "$here/real/each.py" "$name" "$scratch/ours.test" "$scratch/theirs.test" "$@") > "$scratch/said" 2>&1; then
+    if (cd "$where" && GOROOT=$scratch/ours PATH=$scratch/ours/bin:$PATH GO111MODULE=off GOPATH=$scratch/path \
+        GOCACHE=$scratch/cache python3 "$here/real/each.py" "$name" "$scratch/ours.test" "$scratch/theirs.test") > "$scratch/said" 2>&1; then
         good
     else
         bad "$name"
