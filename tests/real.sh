@@ -90,6 +90,29 @@ for python in python3 /usr/bin/python3; do
     fi
 done
 [ "$python" != /usr/bin/python3 ] || "$python" -c 'import hypercorn' 2> /dev/null || left_out hypercorn 'no python3 has it'
+registry=/usr/share/cargo/registry
+if ! command -v cargo > /dev/null; then
+    left_out 'rustls and hyper' 'no cargo'
+elif is_wanted rustls && ! { ls -d "$registry"/rustls-0.20.* && command -v openssl; } > /dev/null 2>&1; then
+    left_out rustls "no openssl, or no $registry/rustls-0.20"
+elif is_wanted rustls; then
+    mkdir -p "$scratch/tls/src" "$scratch/tls/.cargo"
+    cp "$here/real/tls.rs" "$scratch/tls/src/main.rs"
+    printf '[source.crates-io]\nreplace-with = "debian"\n[source.debian]\ndirectory = "%s"\n' "$registry" > "$scratch/tls/.cargo/config.toml"
+    cat > "$scratch/tls/Cargo.toml" <<END
+[package]
+name = "tls"
+version = "0.1.0"
+edition = "2021"
+
+[dependencies]
+rustls = { version = "0.20", features = ["dangerous_configuration"] }
+ymx = { path = "$root/bindings/rust/ymx" }
+END
+    openssl req -x509 -newkey rsa:2048 -nodes -subj /CN=localhost -keyout "$scratch/key" -outform der -out "$scratch/tls/certificate" 2> "$scratch/log"
+    openssl pkcs8 -topk8 -nocrypt -in "$scratch/key" -outform der -out "$scratch/tls/key"
+    program rustls env -C "$scratch/tls" CARGO_TARGET_DIR="$scratch/tls/target" cargo run -q --offline
+fi
 if command -v cargo > /dev/null; then
     program 'the binding for Rust, with hyper' "$root/bindings/rust/test.sh"
 fi
