@@ -1,7 +1,7 @@
 #!/bin/sh
 # Runs software of others over streams of the bindings, each test of it alone, beside TCP and HashiCorp's package: for Go the
 # tests of net/http, http2, crypto/tls, gRPC and ssh, with net.Listen and net.Dial of a copy of Go led over one session
-# (real/hook.go); for Python hypercorn and aiohttp; for Rust rustls and hyper. A suite that Debian's packages don't bring here
+# (real/hook.go); for Python hypercorn; for Rust rustls and hyper. A suite that Debian's packages don't bring here
 # is left out with a word. Beside the gate: it takes an hour. With names it runs these alone: `tests/real.sh net/http`.
 # Ends with 'N passed, M failed'.
 set -eu
