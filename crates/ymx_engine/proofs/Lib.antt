@@ -18,6 +18,7 @@ pub mod Entries
 pub mod Once
 pub mod Marking
 pub mod Queueing
+pub mod Sharing
 pub mod Turning
 mod Calling
 pub mod Quiet

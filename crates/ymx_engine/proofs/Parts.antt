@@ -637,19 +637,23 @@ pub record TellsStop (id : ℕ) (s t u : Session) (b : Seen) (x y z : Ways) : Ty
 part_status : {id : ℕ} {s t : Session} {out new : List ℕ} {a b : Seen} {w x : Ways} {m g : ℕ} → Part id s t out new a b w x m g → t.status ≡ s.status
 part_status {id} {s} {t} {out} {new} {a} {b} {w} {x} {m} {g} p = steady_all (is_of_turn id) (turn_steady id) p.moved.events s t p.moved.happen p.moved.own
 
--- Writes, then the question whether the stream takes bytes still, then reads. `more` is on where one of these says so, and where
+-- the most that it may give, by another name
+pub turn_with : {id n most g : ℕ} {s t : Session} {out new : List ℕ} {a b : Seen} {w x : Ways} {more : Bool} → n ≡ most → Turn id n s t out new a b w x more g → Turn id most s t out new a b w x more g
+turn_with {id} {n} {most} {g} {s} {t} {out} {new} {a} {b} {w} {x} {more} same turn = subst (λ (k : ℕ). Turn id k s t out new a b w x more g) same turn
+
+-- Writes, then the question whether the stream takes bytes still, then a read. `more` is on where one of these says so, and where
 -- a session that is over was not told.
-pub turn_of : {id g : ℕ} {reads : Bool} {r s t u : Session} {out new : List ℕ} {a b c d : Seen} {w x y z : Ways} → (pushes pulls more : Bool) → (p : Delivers id r s a b w x 8) → (q : Part id s t [] [] b c x y 1 0) → t ≡ s → (v : Part id t u out new c d y z 4 g) →
+pub turn_of : {id g most : ℕ} {r s t u : Session} {out new : List ℕ} {a b c d : Seen} {w x y z : Ways} → (pushes pulls more : Bool) → (p : Delivers id r s a b w x 8) → (q : Part id s t [] [] b c x y 1 0) → t ≡ s → (v : Part id t u out new c d y z 2 g) →
     (may_push x b.marks ≡ true → 0 < length (waiting id s) → pushes ≡ true) →
-    (reads ≡ true → may_pull y c.marks ≡ true → (0 < g) ⊎ ((may_pull z d.marks ≡ false) ⊎ (room_of id u ≡ 0))) →
-    (reads ≡ true → may_pull z d.marks ≡ true → 0 < room_of id u → pulls ≡ true) →
+    (0 < most → may_pull y c.marks ≡ true → (0 < g) ⊎ ((may_pull z d.marks ≡ false) ⊎ (room_of id u ≡ 0))) →
+    (0 < most → may_pull z d.marks ≡ true → 0 < room_of id u → pulls ≡ true) →
     (pushes ≡ true → may_push z d.marks ≡ true → more ≡ true) → (pulls ≡ true → more ≡ true) → (is_running u.status ≡ false → is_open z.to_peer ≡ true → more ≡ true) →
-    (reads ≡ false → g ≡ 0) → (reads ≡ true → GivesWhole g (room_of id u) z d.marks) → TellsEnd id s t u b x z pushes → TellsStop id s t u b x y z →
+    (g ≤ most) → (0 < most → GivesWhole g most (room_of id u) z d.marks) → TellsEnd id s t u b x z pushes → TellsStop id s t u b x y z →
     (pushes ≡ true → (may_push w a.marks ≡ true) × (0 < length (waiting id r)) × (may_push x b.marks ≡ true)) →
     (more ≡ true → ((pushes ≡ true) × (may_push z d.marks ≡ true)) ⊎ (((may_pull z d.marks ≡ true) × (0 < g)) ⊎ ((is_running u.status ≡ false) × (is_open z.to_peer ≡ true)))) →
-    Turn id reads r u out new a d w z more g
+    Turn id most r u out new a d w z more g
 unfolding part_beside
-turn_of {id} {g} {reads} {r} {s} {t} {u} {out} {new} {a} {b} {c} {d} {w} {x} {y} {z} pushes pulls more p q same v stays collects asks_on by-pushes by-pulls hears unread fills tells stops went rests =
+turn_of {id} {g} {most} {r} {s} {t} {u} {out} {new} {a} {b} {c} {d} {w} {x} {y} {z} pushes pulls more p q same v stays collects asks_on by-pushes by-pulls hears shared fills tells stops went rests =
     let first = part_beside out (part_then p.part q) in
     let all = part_then first v in
     let silent : may_push z d.marks ≡ true → is_silent id u ≡ true → pushes ≡ true = λ may h.
@@ -660,7 +664,7 @@ turn_of {id} {g} {reads} {r} {s} {t} {u} {out} {new} {a} {b} {c} {d} {w} {x} {y}
       few = all.few;
       ways = all.ways;
       gives = let e = all.gives in omega arith;
-      unread = unread;
+      within = shared;
       delivers = λ may. elim (p.delivers may) [
         | inl all ↦ inl (went_first (length (waiting id r)) first v (went_first (length (waiting id r)) p.part q all))
         | inr off ↦ inr (push_off v (push_off q off))

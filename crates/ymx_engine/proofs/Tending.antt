@@ -426,15 +426,15 @@ serving_turn id a b e same takes m held h =
 
 -- ---- a turn
 
-pub turn_calm : (id : ℕ) (reads : Bool) (s t : Session) (out out_new : List ℕ) (before after : Seen) (was now : Ways) (more : Bool) (gave : ℕ) → Turn id reads s t out out_new before after was now more gave → IsWithin s → CalmsBut id s t
-turn_calm id reads s t out out_new before after was now more gave x w =
+pub turn_calm : (id most : ℕ) (s t : Session) (out out_new : List ℕ) (before after : Seen) (was now : Ways) (more : Bool) (gave : ℕ) → Turn id most s t out out_new before after was now more gave → IsWithin s → CalmsBut id s t
+turn_calm id most s t out out_new before after was now more gave x w =
     let calm = exchanges_calm id s t out out_new before after x.moved w in
     record { within = calm.within; came = turn_gains id x.moved.events s t x.moved.happen x.moved.own w; runs = same_runs s t (steady_all (is_of_turn id) (turn_steady id) x.moved.events s t x.moved.happen x.moved.own) }
 
-part_served : (id : ℕ) (reads : Bool) (was : Line) (a b : Tunnel) (gave : ℕ) → TakesPart id reads was a.engine.session b.engine.session a.engine.outgoing b.engine.outgoing a.lines b.lines gave → IsWithin a.engine.session → IsServed id b
-part_served id reads was a b gave x w = record {
+part_served : (id most : ℕ) (was : Line) (a b : Tunnel) (gave : ℕ) → TakesPart id most was a.engine.session b.engine.session a.engine.outgoing b.engine.outgoing a.lines b.lines gave → IsWithin a.engine.session → IsServed id b
+part_served id most was a b gave x w = record {
   gets = λ l there may some. x.again (x.turn.stays w (subst (λ (v : Line). may_push v.ways v.seen.marks ≡ true) (is_now l there) may) some);
-  gives = λ l there may some. by reads refl (subst (λ (v : Line). may_pull v.ways v.seen.marks ≡ true) (is_now l there) may) some;
+  gives = λ l there may some. by (most == 0) refl (subst (λ (v : Line). may_pull v.ways v.seen.marks ≡ true) (is_now l there) may) some;
   hears = λ l there over opened. x.again (x.turn.hears over (subst (λ (v : Line). is_open v.ways.to_peer ≡ true) (is_now l there) opened));
   ends = λ l there may silent. x.again (x.turn.ends_on (subst (λ (v : Line). may_push v.ways v.seen.marks ≡ true) (is_now l there) may) silent);
   stops = λ l there opened stopped. x.again (x.turn.stops_on (subst (λ (v : Line). is_open v.ways.to_peer ≡ true) (is_now l there) opened) stopped);
@@ -443,13 +443,13 @@ part_served id reads was a b gave x w = record {
     is_now : (l : Line) → line_of id b.lines ≡ Some l → l ≡ x.now
     is_now l there = let e : Some l ≡ Some x.now = sym there ∙ line_put_at id (Some x.now) a.lines b.lines x.lines in cc
 
-    by : (r : Bool) → reads ≡ r → may_pull x.now.ways x.now.seen.marks ≡ true → 0 < room_of id b.engine.session → Attended id b.lines
-    by true e may some = inl (x.again (x.turn.asks_on e may some))
-    by false e may some = x.put_off e may
+    by : (none : Bool) → (most == 0) ≡ none → may_pull x.now.ways x.now.seen.marks ≡ true → 0 < room_of id b.engine.session → Attended id b.lines
+    by true e may some = x.put_off (grind (arith, nat_tests)) may
+    by false e may some = inl (x.again (x.turn.asks_on (grind (arith, nat_tests)) may some))
 
-pub serving_part : (id : ℕ) (reads : Bool) (was : Line) (a b : Tunnel) (gave : ℕ) → TakesPart id reads was a.engine.session b.engine.session a.engine.outgoing b.engine.outgoing a.lines b.lines gave → KeepsOthers id a.lines b.lines → ServingBut id a → Serving b
-serving_part id reads was a b gave x others =
-    serving_with id a b (turn_calm id reads a.engine.session b.engine.session a.engine.outgoing b.engine.outgoing was.seen x.now.seen was.ways x.now.ways x.more gave x.turn) others (λ w. part_served id reads was a b gave x w)
+pub serving_part : (id most : ℕ) (was : Line) (a b : Tunnel) (gave : ℕ) → TakesPart id most was a.engine.session b.engine.session a.engine.outgoing b.engine.outgoing a.lines b.lines gave → KeepsOthers id a.lines b.lines → ServingBut id a → Serving b
+serving_part id most was a b gave x others =
+    serving_with id a b (turn_calm id most a.engine.session b.engine.session a.engine.outgoing b.engine.outgoing was.seen x.now.seen was.ways x.now.ways x.more gave x.turn) others (λ w. part_served id most was a b gave x w)
 
 -- ---- what an event said of a device
 

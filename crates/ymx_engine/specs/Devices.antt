@@ -81,6 +81,10 @@ after_push result offered m = record m { may_push = m.may_push && may_take_more 
 abbrev pub one_read : ℕ
 one_read = 131072
 
+-- how many bytes of a payload a frame carries at most
+abbrev pub one_frame : ℕ
+one_frame = 16384
+
 -- The next bytes came into the front of a buffer, one at least where there was room; at the end none are left.
 pub record IsPulled (result : Pulled) (buffer : List ℕ) (old new : Seen) : Type 0 where
   pub within : pulled_count result ≤ length buffer

@@ -18,18 +18,18 @@ use Rattle.ymx_engine.specs.Work.{Writes}
 
 -- The connection of this stream had a turn. It waits for a further one exactly where it has more to move, or is held back where it
 -- was not to be read and may have bytes. Nobody else is touched.
-pub record TakesPart (id : ℕ) (reads : Bool) (was : Line) (s t : Session) (out out_new : List ℕ) (old new : Lines) (gave : ℕ) : Type 0 where
+pub record TakesPart (id most : ℕ) (was : Line) (s t : Session) (out out_new : List ℕ) (old new : Lines) (gave : ℕ) : Type 0 where
   pub now : Line
   pub lines : Puts id (Some now) old new
   pub more : Bool
-  pub turn : Turn id reads s t out out_new was.seen now.seen was.ways now.ways more gave
+  pub turn : Turn id most s t out out_new was.seen now.seen was.ways now.ways more gave
   pub queues : Extends old new
   pub missed : StaysMissed old new
   pub held : StaysOrAdds id old.held new.held
   pub again : more ≡ true → Awaits id new
   pub rests : more ≡ false → SameTurns old new
   pub alone : WaitsAlone id old new
-  pub put_off : reads ≡ false → may_pull now.ways now.seen.marks ≡ true → Attended id new
+  pub put_off : most ≡ 0 → may_pull now.ways now.seen.marks ≡ true → Attended id new
 
 -- Payload of this stream that waits was offered to its connection's device in one call.
 pub record OffersPart (id : ℕ) (was : Line) (waits : List ℕ) (s t : Session) (old new : Lines) (count : ℕ) : Type 0 where

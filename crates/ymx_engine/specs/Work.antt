@@ -3,7 +3,7 @@ use Rattle.std.specs.Prelude.{ℕ, ◌≡◌, ◌⊎◌, ◌+◌, ◌≤◌, ◌
 use Rattle.std.specs.List.{list_all}
 use Rattle.ymx_model.specs.session.Sessions.{is_running}
 use Rattle.ymx_model.specs.session.Emissions.{is_ready}
-use Rattle.ymx_engine.specs.Devices.{one_read}
+use Rattle.ymx_engine.specs.Devices.{one_frame, one_read}
 use Rattle.ymx_engine.specs.Engines.{Engine}
 use Rattle.ymx_engine.specs.Exchanges.{has_bytes}
 use Rattle.ymx_engine.specs.Joins.{Leaves}
@@ -46,6 +46,11 @@ eight_frames = 131168
 abbrev pub takes_more : Tunnel → Bool
 takes_more t = t.is_wire_over || (length t.engine.outgoing == 0) || t.wire.marks.may_push && nat_lt (length t.engine.outgoing) eight_frames
 
+-- How many bytes the connection that has its turn may give, while these wait: none where connections may not be read; one frame
+-- where another waits; and else a whole read.
+abbrev pub share : (waits : Lines) → Tunnel → ℕ
+share waits t = if takes_more t then (if is_idle waits then one_read else one_frame) else 0
+
 -- ---- one step
 
 -- the session was over somewhere between these two
@@ -76,13 +81,13 @@ pub record Writes (old new : Tunnel) : Type 0 where
   pub all : old.wire.marks.may_push ≡ true → (new.engine.outgoing ≡ []) ⊎ (new.wire.marks.may_push ≡ false)
   pub releases : old.wire.marks.may_push ≡ true → new.engine.outgoing ≡ [] → new.lines.held ≡ []
 
--- What a connection does in its turn, if it is still there: it is read where connections may be. Behind those that waited it waits
+-- What a connection does in its turn, if it is still there: it gives no more than its share. Behind those that waited it waits
 -- for a further turn only where it has more to move, and nobody else does.
 pub record HasItsTurn (id gave : ℕ) (was : Line) (waits : Lines) (old new : Tunnel) : Type 0 where
   pub now : Line
   pub there : line_of id new.lines ≡ Some now
   pub more : Bool
-  pub turn : Turn id (takes_more old) old.engine.session new.engine.session old.engine.outgoing new.engine.outgoing was.seen now.seen was.ways now.ways more gave
+  pub turn : Turn id (share waits old) old.engine.session new.engine.session old.engine.outgoing new.engine.outgoing was.seen now.seen was.ways now.ways more gave
   pub rests : more ≡ false → SameTurns waits new.lines
   pub alone : WaitsAlone id waits new.lines
 

@@ -11,6 +11,9 @@ use ymx_session::Touched;
 /// How many bytes are read from the peer, or from a device, at once.
 pub(crate) const BLOCK: usize = 131_072;
 
+/// How many bytes of a payload a frame carries at most.
+pub(crate) const FRAME: usize = 16_384;
+
 /// Eight whole frames of 16,384 bytes. Once so many bytes wait for the peer, no connection is read.
 pub(crate) const FRAMES: usize = 131_168;
 

@@ -1,6 +1,6 @@
 //! What the connection of a stream does in its turn, and with payload that is passed on.
 
-ghost use Rattle.std.specs.Prelude.{ℕ, ◌≡◌, ◌+◌, ◌<◌, ◌≤◌, ◌&&◌, not, length, nat_eq, false, None, Some, IfSome, IfNone};
+ghost use Rattle.std.specs.Prelude.{ℕ, ◌≡◌, ◌+◌, ◌<◌, ◌≤◌, ◌&&◌, ◌==◌, length, nat_eq, false, None, Some, IfSome, IfNone};
 ghost use Rattle.std.specs.Option.{option_map_or};
 ghost use Rattle.ymx_model.specs.session.Feeds.{is_stuck};
 ghost use Rattle.ymx_engine.specs.Devices.{one_read};
@@ -32,32 +32,33 @@ pub(crate) struct Part {
 
 impl Part {
     /// Whether it waits until nothing waits for the wire: it was not to be read, and its device may have bytes.
-    fn is_put_off(&self, reads: bool) -> bool
-        ensures { result ≡ (not reads && self.now.may_give) }
+    fn is_put_off(&self, most: usize) -> bool
+        ensures { result ≡ ((most == 0) && self.now.may_give) }
     {
-        !reads && self.may_give
+        most == 0 && self.may_give
     }
 }
 
 impl<D: Device + Drop> Lines<D> {
-    /// The connection of this stream has its turn, if it is there: it is read where this says so. It waits for a further turn
-    /// where it has more to move, or until nothing waits for the wire where it was not to be read and may have bytes. How
-    /// many bytes its device gave.
+    /// The connection of this stream has its turn, if it is there, and gives `most` bytes at most: with 0 it isn't read. It
+    /// waits for a further turn where it has more to move, or until nothing waits for the wire where it was not to be read and
+    /// may have bytes. How many bytes its device gave.
     pub(crate) fn serve(
         &mut self,
         id: u32,
         session: &mut Session,
         buffer: &mut [u8],
         outgoing: &mut Block,
-        reads: bool,
+        most: usize,
     ) -> usize
-        requires { one_read ≤ length buffer.old }
-        ensures served { (was : LineValue) → line_of id self.old ≡ Some was → TakesPart id reads was session.old session.new outgoing.old outgoing.new self.old self.new result }
+        requires room { one_read ≤ length buffer.old }
+        requires bounded { most ≤ one_read }
+        ensures served { (was : LineValue) → line_of id self.old ≡ Some was → TakesPart id most was session.old session.new outgoing.old outgoing.new self.old self.new result }
         ensures none { line_of id self.old ≡ None → (self.new ≡ self.old) × (session.new ≡ session.old) × (outgoing.new ≡ outgoing.old) × (result ≡ 0) }
     {
-        match self.take_part(id, session, buffer, outgoing, reads) {
+        match self.take_part(id, session, buffer, outgoing, most) {
             Some(part) => {
-                self.end_turn(id, part.more, part.is_put_off(reads));
+                self.end_turn(id, part.more, part.is_put_off(most));
                 part.gave
             }
             None => 0,
@@ -71,10 +72,11 @@ impl<D: Device + Drop> Lines<D> {
         session: &mut Session,
         buffer: &mut [u8],
         outgoing: &mut Block,
-        reads: bool,
+        most: usize,
     ) -> Option<Part>
-        requires { one_read ≤ length buffer.old }
-        ensures some { IfSome result (λ part. (was : LineValue) × (line_of id self.old ≡ Some was) × (now : LineValue) × Puts id (Some now) self.old self.new × Turn id reads session.old session.new outgoing.old outgoing.new was.seen now.seen was.ways now.ways part.more part.gave × (part.may_give ≡ may_pull now.ways now.seen.marks)) }
+        requires room { one_read ≤ length buffer.old }
+        requires bounded { most ≤ one_read }
+        ensures some { IfSome result (λ part. (was : LineValue) × (line_of id self.old ≡ Some was) × (now : LineValue) × Puts id (Some now) self.old self.new × Turn id most session.old session.new outgoing.old outgoing.new was.seen now.seen was.ways now.ways part.more part.gave × (part.may_give ≡ may_pull now.ways now.seen.marks)) }
         ensures none { IfNone result (line_of id self.old ≡ None) }
         ensures same { IfNone result (self.new ≡ self.old) }
         ensures idle { IfNone result ((session.new ≡ session.old) × (outgoing.new ≡ outgoing.old)) }
@@ -89,9 +91,8 @@ impl<D: Device + Drop> Lines<D> {
             id,
             &mut line.ways,
             &mut line.device,
-            buffer,
+            &mut buffer[..most],
             outgoing,
-            reads,
         );
         Some(Part {
             more: turn.more,

@@ -1,7 +1,6 @@
-use Rattle.std.proofs.Common.{min, arith}
+use Rattle.std.proofs.Common.{length, min, arith}
 use Rattle.std.proofs.lemmas.Grind.{common_steps}
 use Rattle.ymx_session.specs.Streams.{room_of}
-use Rattle.ymx_engine.specs.Devices.{one_read}
 use Rattle.ymx_engine.proofs.Parts.{part_within, part_beside, pulled_none, pull_failed, finished, gave_sent, gave_lost, broken_from, broken_to}
 use Rattle.ymx_engine.proofs.Ending.{finish_gives}
 use Rattle.ymx_engine.proofs.Filling.{filled, filled_whole}
@@ -65,6 +64,6 @@ returns-in-Failed-clause-stops g c = λ open_. absurd (never _ open_ (broken_to 
 pub returns-then-send-clause-fills : goal.returns-then-send-clause-fills
 returns-then-send-clause-fills g c = λ may near some.
     let p = c.in-Gave.ensures in
-    let all = filled c.args.ways.now c.in-Gave.count (min (room_of c.args.id c.args.session.now) one_read) _ _ _ p may near (grind (arith, common_steps)) in
+    let all = filled c.args.ways.now c.in-Gave.count (min (room_of c.args.id c.args.session.now) (length c.args.buffer.now)) _ _ _ p may near (grind (arith, common_steps)) in
     let left = c.send.ensures.left c.if-send.true in
-    filled_whole (room_of c.args.id c.args.session.now) (room_of c.args.id c.send.new.session) c.in-Gave.count one_read all (grind (arith, common_steps)) some
+    filled_whole (room_of c.args.id c.args.session.now) (room_of c.args.id c.send.new.session) c.in-Gave.count (length c.args.buffer.now) all (grind (arith, common_steps)) some

@@ -9,7 +9,7 @@ returns-then-read-clause-turn g c =
     let p = c.deliver-writes.ensures in
     let q = c.hear_stop.ensures in
     let v = c.collect-read.ensures in
-    turn_of c.deliver-writes.result c.collect-read.result.more _ p.delivered q.part q.same v.part p.stays v.collects v.asks_on (λ h may. c.if-read.true) (λ h. c.if-read.true) (λ over open_. c.if-read.true) v.unread v.fills (record { heard = p.ends; ends = v.ends }) (record { takes = p.takes; told = q.tells; stops = v.stops })
+    turn_of c.deliver-writes.result c.collect-read.result.more _ p.delivered q.part q.same v.part p.stays v.collects v.asks_on (λ h may. c.if-read.true) (λ h. c.if-read.true) (λ over open_. c.if-read.true) v.within v.fills (record { heard = p.ends; ends = v.ends }) (record { takes = p.takes; told = q.tells; stops = v.stops })
     (λ on. ((p.some on).0, (p.some on).1, p.goes_on on))
     (λ h. elim c.if-may_push.branch [
       | then-may_push w ↦ elim c.if-writes.branch [
@@ -36,7 +36,7 @@ returns-else-read-clause-turn g c =
       ]
     ])
     (λ h. elim c.if-may_push.branch [ then-may_push w ↦ absurd (let e = w.value-is in cc) | else-may_push w ↦ absurd (let e = w.value-is in cc) ])
-    (λ over open_. c.is_untold.ensures ∙ rw (over, open_) refl) v.unread v.fills (record { heard = p.ends; ends = v.ends }) (record { takes = p.takes; told = q.tells; stops = v.stops })
+    (λ over open_. c.is_untold.ensures ∙ rw (over, open_) refl) v.within v.fills (record { heard = p.ends; ends = v.ends }) (record { takes = p.takes; told = q.tells; stops = v.stops })
     (λ on. ((p.some on).0, (p.some on).1, p.goes_on on))
     (λ h. inr (inr (untold _ _ _ c.is_untold.ensures h)))
 

@@ -1,3 +1,4 @@
+use Rattle.ymx_engine.proofs.Sharing.{among}
 use Rattle.ymx_engine.proofs.Turned.{FirstHasTurn, first_has_turn, none_runs}
 use Rattle.ymx_engine.proofs.tunnel.Tunnel.serve_next.Goals as goal
 
@@ -27,3 +28,6 @@ returns-clause-rests g c = (served g c).rests
 
 pub returns-clause-turn : goal.returns-clause-turn
 returns-clause-turn g c = (served g c).turn
+
+pub returns-clause-among : goal.returns-clause-among
+returns-clause-among g c = λ id n. among c.in_ok-id.id c.serve-gave.result _ _ (served g c).turn id n
