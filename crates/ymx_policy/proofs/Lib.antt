@@ -1,16 +1,3 @@
-pub mod Coming
-pub mod Partings
-pub mod Endings
 pub mod Keeping
-pub mod PoolComing
-pub mod PoolKeeping
-pub mod Ports
-pub mod Reasons
-pub mod Visits
-pub mod Waits
-pub mod Counting
-pub mod Crowds
-pub mod ReasonsTold
-pub mod PoolReasons
-pub mod Leaving
+pub mod Meeting
 pub mod Sparing

@@ -14,7 +14,7 @@ use Rattle.ymx_policy.specs.declared.asks.Deed.TheVariants as deed
 use Rattle.ymx_policy.specs.declared.asks.Ask.{Ask}
 use Rattle.ymx_policy.specs.declared.asks.SessionEnd.{SessionEnd}
 use Rattle.ymx_policy.specs.declared.asks.Happened.{Happened}
-use Rattle.ymx_policy.specs.declared.asks.Happened.TheVariants.{Listening, Failed, LackedMemory, PeerCame, AllCame, NoUsers, SessionEnded}
+use Rattle.ymx_policy.specs.declared.asks.Happened.TheVariants.{Listening, LackedMemory, PeerCame, UserCame, AllCame, NoUsers, SessionEnded}
 
 -- ---- what is said
 
@@ -27,10 +27,6 @@ is_some_fault (f ∷ others) = true
 abbrev pub status_of : List Fault → ℕ
 status_of [] = 0
 status_of (f ∷ others) = 1
-
--- these words say a fault
-abbrev pub says_fault : Words → Bool
-says_fault words = is_some words.fault || is_some words.ending
 
 -- nothing went wrong in the session
 abbrev pub is_clean : SessionEnd → Bool
@@ -167,22 +163,28 @@ explains (fault.CannotListen address) (deed.Serve session) (SessionEnded how) =
     how.accept_failed || (how.is_unwatched && not (is_some how.broken || how.lacked_memory))
 explains (fault.CannotListen address) (deed.Serve session) LackedMemory = false
 explains (fault.CannotListen address) (deed.Serve session) other = true
+explains (fault.CannotListen address) deed.CloseUsers (NoUsers why) = true
+explains (fault.CannotListen address) deed.CloseUsers other = false
+explains (fault.CannotListen address) d AllCame = false
 explains (fault.CannotListen address) (deed.ListenForUsers users) (Listening heard) = false
+explains (fault.CannotListen address) (deed.ListenForUsers users) LackedMemory = false
 explains (fault.CannotListen address) (deed.ListenForUsers users) other = true
 explains (fault.CannotListen address) (deed.ListenForPeer wanted) (Listening heard) = false
+explains (fault.CannotListen address) (deed.ListenForPeer wanted) LackedMemory = false
 explains (fault.CannotListen address) (deed.ListenForPeer wanted) other = true
 explains (fault.CannotListen address) deed.AwaitPeer PeerCame = false
 explains (fault.CannotListen address) deed.AwaitPeer other = true
+explains (fault.CannotListen address) deed.AwaitUser UserCame = false
 explains (fault.CannotListen address) deed.AwaitUser other = true
-explains (fault.CannotListen address) deed.CloseUser (NoUsers why) = true
-explains (fault.CannotListen address) deed.CloseUsers (NoUsers why) = true
 explains (fault.CannotReach address) (deed.Call peer) PeerCame = false
+explains (fault.CannotReach address) (deed.Call peer) AllCame = false
 explains (fault.CannotReach address) (deed.Call peer) other = true
 explains (fault.CannotReach address) (deed.Serve session) (SessionEnded how) =
     how.is_unwatched && not (how.accept_failed || is_some how.broken || how.lacked_memory)
 explains (fault.CannotReach address) (deed.Serve session) LackedMemory = false
 explains (fault.CannotReach address) (deed.Serve session) other = true
 explains fault.OutOfMemory (deed.Serve session) (SessionEnded how) = how.lacked_memory && not (how.accept_failed || is_some how.broken)
+explains fault.OutOfMemory (deed.Call peer) LackedMemory = false
 explains fault.OutOfMemory other LackedMemory = true
 explains f other happened = false
 
@@ -207,7 +209,7 @@ told_there other before = before
 
 -- the same behind these words
 abbrev pub told_by : Words → Bool → Bool
-told_by words before = told_there words.last (told_there words.reason (told_there words.first before))
+told_by words before = told_there words.last (told_there words.first before)
 
 -- a session that another follows has told that its peer has come, where it ended so
 abbrev pub tells_coming : Deed → Happened → Bool → Bool
@@ -226,7 +228,7 @@ is_gone other = false
 
 -- these words tell that
 abbrev pub tells_gone : Words → Bool
-tells_gone words = is_gone words.first || is_gone words.reason || is_gone words.last || is_gone words.cause
+tells_gone words = is_gone words.first || is_gone words.last
 
 -- where the peer of the last session was, behind what happened at this deed: nobody knows it of one that could not begin
 abbrev pub last_peer_after : Deed → Happened → (before : Option SocketAddrV4) → Option SocketAddrV4

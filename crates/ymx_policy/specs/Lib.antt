@@ -1,12 +1,5 @@
-pub mod Endings
 pub mod Laws
 pub mod Machine
 pub mod Networks
 pub mod Past
 pub mod Plans
-pub mod PoolLaws
-pub mod PoolPast
-pub mod PoolTable
-pub mod Table
-pub mod Texts
-pub mod Voices

@@ -1,150 +1,243 @@
 -- An end of a tunnel as a machine: at each stage it asks for one thing, and what happened leads to the next (this project's own).
-use Rattle.std.specs.Prelude.{◌-◌, ◌==◌, ◌||◌, ℕ, Bool, true, false, is_some, if◌then◌else◌, Option, Some, None}
+use Rattle.std.specs.Prelude.{◌*◌, ◌-◌, ◌==◌, ◌||◌, ℕ, Bool, true, false, not, if◌then◌else◌, is_some, min, Option, Some, None}
 use Rattle.std.specs.declared.net.socket_addr.SocketAddrV4.{SocketAddrV4}
 use Rattle.ymx_policy.specs.declared.plan.Role.{Role}
-use Rattle.ymx_policy.specs.declared.plan.Role.TheVariants.{RemoteCalls}
+use Rattle.ymx_policy.specs.declared.plan.Role.TheVariants.{LocalCalls, LocalAwaits, RemoteCalls, RemoteAwaits}
 use Rattle.ymx_policy.specs.declared.plan.Terms.{Terms}
 use Rattle.ymx_policy.specs.declared.reason.Reason.{Reason}
+use Rattle.ymx_policy.specs.declared.asks.Named.{Named}
 use Rattle.ymx_policy.specs.declared.asks.Named.TheVariants as option
 use Rattle.ymx_policy.specs.declared.asks.Notice.{Notice}
 use Rattle.ymx_policy.specs.declared.asks.Notice.TheVariants as notice
 use Rattle.ymx_policy.specs.declared.asks.Fault.{Fault}
 use Rattle.ymx_policy.specs.declared.asks.Fault.TheVariants as fault
 use Rattle.ymx_policy.specs.declared.asks.Words.{Words}
+use Rattle.ymx_policy.specs.declared.asks.SessionEnd.{SessionEnd}
 use Rattle.ymx_policy.specs.declared.asks.Deed.{Deed}
 use Rattle.ymx_policy.specs.declared.asks.Deed.TheVariants as deed
 use Rattle.ymx_policy.specs.declared.asks.Ask.{Ask}
 use Rattle.ymx_policy.specs.declared.asks.Happened.{Happened}
-use Rattle.ymx_policy.specs.declared.asks.Happened.TheVariants.{Listening, Failed, LackedMemory, PeerCame, TurnedAway, UserCame, AllCame, NoUsers, SessionEnded}
-use Rattle.ymx_policy.specs.declared.state.Stage.{Stage}
-use Rattle.ymx_policy.specs.declared.state.Stage.TheVariants as stage
-use Rattle.ymx_policy.specs.declared.state.State.{State}
-use Rattle.ymx_policy.specs.Table.{begins, begins_with_users, behind_peers, behind_users, behind_call, behind_session, behind_user, longer, spared, silence, tells, refusal, opened, gone_if, owes_gone, parting, serving, cannot_meet, first_fault, first_reason}
+use Rattle.ymx_policy.specs.declared.asks.Happened.TheVariants.{Listening, Failed, LackedMemory, PeerCame, UserCame, AllCame, NoUsers, SessionEnded}
+use Rattle.ymx_policy.specs.declared.machine.Stage.{Stage}
+use Rattle.ymx_policy.specs.declared.machine.Stage.TheVariants as stage
+use Rattle.ymx_policy.specs.declared.machine.State.{State}
+
+-- ---- where it goes
+
+-- Where it begins, without --keep and with it: a mistake at a port of its own comes first, but a `local` without --keep calls first.
+abbrev pub begins : Role → (kept : Bool) → Stage
+begins LocalCalls true = stage.OpeningUsers
+begins LocalCalls false = stage.Calling
+begins RemoteCalls kept = stage.Calling
+begins role kept = stage.OpeningPeers
+
+-- Where it goes on once what a stage is for is there. A `local` without --keep that calls listens for users once its peer is there.
+abbrev pub next : Stage → Role → (kept : Bool) → Stage
+next stage.OpeningPeers LocalAwaits kept = stage.OpeningUsers
+next stage.OpeningPeers role kept = stage.AwaitingPeer
+next stage.OpeningUsers LocalCalls true = stage.AwaitingUser
+next stage.OpeningUsers LocalCalls false = stage.Serving
+next stage.OpeningUsers role kept = stage.AwaitingPeer
+next stage.Calling LocalCalls false = stage.OpeningUsers
+next stage.Calling role kept = stage.Serving
+next stage.AwaitingPeer role kept = stage.Serving
+next stage.AwaitingUser role kept = stage.Calling
+next stage.Refusing role kept = stage.AwaitingUser
+next stage.Pausing role kept = stage.Calling
+next at role kept = stage.Over
+
+-- Behind a session: without --keep nothing. A `local` that calls waits for its next user, but closes those who wait where its peer gave no
+-- sign of life and hadn't gone away. A `remote` that calls does so at once where no pause is due. Who awaits its peer awaits the next.
+abbrev pub behind_session : Role → (kept : Bool) → (is_lost : Bool) → (pause : ℕ) → Stage
+behind_session role false is_lost pause = stage.Over
+behind_session LocalCalls true is_lost pause = if is_lost then stage.Refusing else stage.AwaitingUser
+behind_session RemoteCalls true is_lost pause = if pause == 0 then stage.Calling else stage.Pausing
+behind_session role true is_lost pause = stage.AwaitingPeer
+
+-- the pause behind a pause of so many seconds: 1 behind none, and then 2, 4, 8, 16, 30
+abbrev pub longer : ℕ → ℕ
+longer seconds = if seconds == 0 then 1 else min 30 (2 * seconds)
+
+-- ---- what it says
+
+-- nothing
+abbrev pub silence : Words
+silence = record { first = None; reason = None; fault = None; last = None }
+
+-- that the system refused what an option asks for, where the reason is known
+abbrev pub refusal : Named → Option Reason → Option Notice
+refusal named (Some reason) = Some (notice.Refused named reason)
+refusal named None = None
+
+-- this fault, if there is one, behind its reason
+abbrev pub fails : (why : Option Notice) → Option Fault → Words
+fails why f = record silence { reason = why; fault = f }
+
+-- What is said behind a session with this fault, for this reason: without --keep no more. With it also that the peer has gone, and from
+-- where: at last, but by a `local` that calls at first, which tells whether the peer was told to have come.
+abbrev pub parting : Role → (kept came : Bool) → (peer : Option SocketAddrV4) → Words → Words
+parting role false came peer words = words
+parting LocalCalls true true peer words = record words { first = Some (notice.PeerGone peer) }
+parting LocalCalls true false peer words = record words { first = Some (notice.PeerGoneSilent peer) }
+parting role true came peer words = record words { last = Some (notice.PeerGone peer) }
+
+-- ---- which fault it is
+
+-- where a session can't be had, the option is named that says where the peer is met, but by `local` the one where its users come from
+abbrev pub serving : Role → (users peer peers : SocketAddrV4) → Named
+serving RemoteCalls users peer peers = option.Peer peer
+serving RemoteAwaits users peer peers = option.Bind peers
+serving role users peer peers = option.Listen users
+
+-- the peer can't be had: it is called there, or calls here
+abbrev pub cannot_meet : Role → (peer peers : SocketAddrV4) → Fault
+cannot_meet LocalCalls peer peers = fault.CannotReach peer
+cannot_meet RemoteCalls peer peers = fault.CannotReach peer
+cannot_meet role peer peers = fault.CannotListen peers
+
+-- that this rule was broken, by the peer at this address if it is known, or else this
+abbrev pub broken_or : Option ℕ → (peer : Option SocketAddrV4) → Words → Words
+broken_or (Some rule) peer other = fails (Some (notice.Broke rule peer)) (Some (fault.Broken rule))
+broken_or None peer other = other
+
+-- What is said of a session that ended so: of a failed accept, a broken rule and want of memory the first in this order, and behind these
+-- a peer that can't be watched. Users come to `users`; where the peer can't be had, `unmet` says so.
+abbrev pub fault_of : (users : SocketAddrV4) → (unmet : Fault) → SessionEnd → Words
+fault_of users unmet s =
+    if s.accept_failed then fails (refusal (option.Listen users) s.accept_reason) (Some (fault.CannotListen users))
+    else broken_or s.broken s.peer (if s.lacked_memory then fails None (Some fault.OutOfMemory) else if s.is_unwatched then fails None (Some unmet) else silence)
+
+-- ---- the machine
 
 -- an end that has done nothing yet
 abbrev pub fresh : Terms → State
-fresh t = record {
-  stage = begins t.role t.goes_on;
-  words = silence;
-  has_users = begins_with_users t.role;
-  pause = 0;
-  peers = t.peer;
-  last_peer = None;
-  spares = 0;
-  has_faulted = false;
-}
+fresh t = record { stage = begins t.role t.goes_on; words = silence; peers = t.peer; pause = 0; spares = 0; has_faulted = false }
 
 -- what each stage asks for
-abbrev pub deed_at : Stage → Terms → (pause : ℕ) → (peers : SocketAddrV4) → (has_faulted : Bool) → Deed
-deed_at stage.OpeningPeers t pause peers bad = deed.ListenForPeer (record { address = peers; from = t.from })
-deed_at stage.OpeningUsers t pause peers bad = deed.ListenForUsers t.users
-deed_at stage.Calling t pause peers bad = deed.Call (record { address = t.peer; limit = t.limit })
-deed_at stage.AwaitingPeer t pause peers bad = deed.AwaitPeer
-deed_at stage.AwaitingUser t pause peers bad = deed.AwaitUser
-deed_at stage.Serving t pause peers bad = deed.Serve t.session
-deed_at stage.Closing t pause peers bad = deed.CloseUser
-deed_at stage.Refusing t pause peers bad = deed.CloseUsers
-deed_at stage.Pausing t pause peers bad = deed.Pause pause
-deed_at stage.Over t pause peers bad = deed.End (if bad then 1 else 0)
+abbrev pub deed_at : Stage → Terms → State → Deed
+deed_at stage.OpeningPeers t s = deed.ListenForPeer (record { address = t.peer; from = t.from })
+deed_at stage.OpeningUsers t s = deed.ListenForUsers t.users
+deed_at stage.Calling t s = deed.Call (record { address = t.peer; limit = t.limit })
+deed_at stage.AwaitingPeer t s = deed.AwaitPeer
+deed_at stage.AwaitingUser t s = deed.AwaitUser
+deed_at stage.Serving t s = deed.Serve t.session
+deed_at stage.Refusing t s = deed.CloseUsers
+deed_at stage.Pausing t s = deed.Pause s.pause
+deed_at stage.Over t s = deed.End (if s.has_faulted then 1 else 0)
 
 -- what is asked for now: what is to be said, and then what is to be done
 abbrev pub asked : Terms → State → Ask
-asked t s = record { words = s.words; deed = deed_at s.stage t s.pause s.peers s.has_faulted }
+asked t s = record { words = s.words; deed = deed_at s.stage t s }
 
 -- it goes on here, and says this
 abbrev pub goes : State → Stage → Words → State
-goes s next words = record s { stage = next; words = words }
+goes s to words = record s { stage = to; words = words }
 
--- it says this, and this fault with its reason, and ends
-abbrev pub ends : State → (first why : Option Notice) → Fault → State
-ends s first why f =
-    record s { stage = stage.Over; words = record { first = first; reason = why; fault = Some f; last = None; cause = None; ending = None }; has_faulted = true }
+-- what it was to do is done: it goes on, and says this
+abbrev pub goes_on : Terms → State → Words → State
+goes_on t s words = goes s (next s.stage t.role t.goes_on) words
+
+-- it says this fault behind its reason, and ends
+abbrev pub ends : State → (why : Option Notice) → Fault → State
+ends s why f = record s { stage = stage.Over; words = fails why (Some f); has_faulted = true }
 
 -- nobody can be accepted where users come in
-abbrev pub no_users : Terms → State → (gone : Option Notice) → Option Reason → State
-no_users t s gone why = ends s gone (refusal (option.Listen t.users.address) why) (fault.CannotListen t.users.address)
+abbrev pub no_users : Terms → State → Option Reason → State
+no_users t s why = ends s (refusal (option.Listen t.users.address) why) (fault.CannotListen t.users.address)
 
 -- nobody can be accepted where peers come in
-abbrev pub no_peers : State → (gone : Option Notice) → Option Reason → State
-no_peers s gone why = ends s gone (refusal (option.Bind s.peers) why) (fault.CannotListen s.peers)
+abbrev pub no_peers : State → Option Reason → State
+no_peers s why = ends s (refusal (option.Bind s.peers) why) (fault.CannotListen s.peers)
 
 -- it listens for its peer, or can't
 abbrev pub after_opening_peers : Terms → State → Happened → State
-after_opening_peers t s (Listening address) =
-    record s { stage = behind_peers t.role s.has_users; words = opened s.has_users s.last_peer address; peers = address }
-after_opening_peers t s LackedMemory = ends s (gone_if s.has_users s.last_peer) None fault.OutOfMemory
-after_opening_peers t s (Failed why) = no_peers s (gone_if s.has_users s.last_peer) why
-after_opening_peers t s other = no_peers s (gone_if s.has_users s.last_peer) None
+after_opening_peers t s (Listening address) = record (goes_on t s (record silence { first = Some (notice.Listening address) })) { peers = address }
+after_opening_peers t s AllCame = goes s stage.Over silence
+after_opening_peers t s LackedMemory = ends s None fault.OutOfMemory
+after_opening_peers t s (Failed why) = no_peers s why
+after_opening_peers t s other = no_peers s None
 
 -- it listens for users, or can't
 abbrev pub after_opening_users : Terms → State → Happened → State
-after_opening_users t s (Listening address) =
-    record s { stage = behind_users t.role t.goes_on; words = tells (notice.Listening address); has_users = true }
-after_opening_users t s LackedMemory = ends s None None fault.OutOfMemory
-after_opening_users t s (Failed why) = no_users t s None why
-after_opening_users t s other = no_users t s None None
+after_opening_users t s (Listening address) = goes_on t s (record silence { first = Some (notice.Listening address) })
+after_opening_users t s AllCame = goes s stage.Over silence
+after_opening_users t s LackedMemory = ends s None fault.OutOfMemory
+after_opening_users t s (Failed why) = no_users t s why
+after_opening_users t s other = no_users t s None
 
--- it calls again after a second, and users wait, though for one call fewer than before
-abbrev pub calls_again : (peer : SocketAddrV4) → Words → State → State
-calls_again peer words s = record s { stage = stage.Pausing; words = record words { last = Some (notice.Unreached peer) }; pause = 1; spares = s.spares - 1 }
-
--- A call that failed ends all but with --keep. There `local` closes its user and all others that wait, unless it spares them behind a
--- peer that had gone away; `remote` pauses.
-abbrev pub after_no_call : Role → (kept : Bool) → (peer : SocketAddrV4) → (refused : Option Notice) → State → State
-after_no_call role false peer refused s = ends s None refused (fault.CannotReach peer)
-after_no_call RemoteCalls true peer refused s =
-    record s { stage = stage.Pausing; words = record silence { first = refused; last = Some (notice.Unreached peer) }; pause = longer s.pause }
-after_no_call role true peer refused s =
-    if s.spares == 0 then goes s stage.Refusing (record silence { first = refused }) else calls_again peer (record silence { first = refused }) s
+-- A call that failed ends all but with --keep. There a `local` closes all users that wait, or spares them once more and calls again after
+-- a second; a `remote` pauses.
+abbrev pub unreached : Role → (kept : Bool) → (peer : SocketAddrV4) → (why : Option Notice) → State → State
+unreached role false peer why s = ends s why (fault.CannotReach peer)
+unreached RemoteCalls true peer why s =
+    record s { stage = stage.Pausing; words = record silence { first = why; last = Some (notice.Unreached peer) }; pause = longer s.pause }
+unreached role true peer why s =
+    if s.spares == 0 then goes s stage.Refusing (record silence { first = why })
+    else record s { stage = stage.Pausing; words = record silence { first = why; last = Some (notice.Unreached peer) }; pause = 1; spares = s.spares - 1 }
 
 -- the peer that it called is there, can't be reached, or is to come no more
 abbrev pub after_calling : Terms → State → Happened → State
-after_calling t s PeerCame = goes s (behind_call t.role s.has_users) silence
+after_calling t s PeerCame = goes_on t s silence
 after_calling t s AllCame = goes s stage.Over silence
-after_calling t s (Failed why) = after_no_call t.role t.goes_on t.peer (refusal (option.Peer t.peer) why) s
-after_calling t s other = after_no_call t.role t.goes_on t.peer None s
+after_calling t s (Failed why) = unreached t.role t.goes_on t.peer (refusal (option.Peer t.peer) why) s
+after_calling t s other = unreached t.role t.goes_on t.peer None s
 
--- the peer that it awaited is there, or none comes; who was turned away is told, and it goes on
+-- the peer that it awaited is there, or none comes
 abbrev pub after_awaiting_peer : Terms → State → Happened → State
-after_awaiting_peer t s PeerCame = goes s stage.Serving silence
-after_awaiting_peer t s (TurnedAway from) = goes s stage.AwaitingPeer (tells (notice.Stranger from))
+after_awaiting_peer t s PeerCame = goes_on t s silence
 after_awaiting_peer t s AllCame = goes s stage.Over silence
-after_awaiting_peer t s (NoUsers why) = no_users t s None why
-after_awaiting_peer t s (Failed why) = no_peers s None why
-after_awaiting_peer t s other = no_peers s None None
+after_awaiting_peer t s (NoUsers why) = no_users t s why
+after_awaiting_peer t s (Failed why) = no_peers s why
+after_awaiting_peer t s other = no_peers s None
 
 -- a user waits, or none comes
 abbrev pub after_awaiting_user : Terms → State → Happened → State
-after_awaiting_user t s UserCame = goes s stage.Calling silence
+after_awaiting_user t s UserCame = goes_on t s silence
 after_awaiting_user t s AllCame = goes s stage.Over silence
-after_awaiting_user t s (NoUsers why) = no_users t s None why
-after_awaiting_user t s other = no_users t s None None
+after_awaiting_user t s (NoUsers why) = no_users t s why
+after_awaiting_user t s other = no_users t s None
 
--- the user that waited is closed, or all are
-abbrev pub after_closing : Terms → State → Happened → State
-after_closing t s AllCame = goes s stage.Over (record silence { first = gone_if (owes_gone t.role) s.last_peer })
-after_closing t s (NoUsers why) = no_users t s (gone_if (owes_gone t.role) s.last_peer) why
-after_closing t s other = goes s (behind_user t.role) silence
+-- all users that waited are closed
+abbrev pub after_refusing : Terms → State → Happened → State
+after_refusing t s AllCame = goes s stage.Over silence
+after_refusing t s (NoUsers why) = no_users t s why
+after_refusing t s other = goes_on t s silence
 
--- Behind a session with this fault, for this reason, whose peer was told to have come or wasn't, was there, if that is known, and had
--- gone away or hadn't: this pause is due before the next call.
-abbrev pub parted : Terms → State → (came : Bool) → (peer : Option SocketAddrV4) → (why : Option Notice) → Option Fault → (away : Bool) → (pause : ℕ) → State
-parted t s came peer why f away pause = record s {
-  stage = behind_session t.role t.goes_on away pause;
-  words = parting t.role t.goes_on came peer why f;
-  pause = pause;
-  last_peer = peer;
-  spares = spared away;
-  has_faulted = s.has_faulted || is_some f;
+-- the pause that is due behind a session: none where it lasted, for a second at least
+abbrev pub pause_behind : SessionEnd → (pause : ℕ) → ℕ
+pause_behind how pause = if how.has_lasted then 0 else longer pause
+
+-- Behind a session that ended so, and this is said of it. Ten calls may fail before users are closed where its peer had gone away, as it is
+-- to be there again soon, and else none.
+abbrev pub parted : Terms → State → SessionEnd → Words → State
+parted t s how words = record s {
+  stage = behind_session t.role t.goes_on (not (how.is_coming_told || how.is_peer_away)) (pause_behind how s.pause);
+  words = parting t.role t.goes_on how.is_coming_told how.peer words;
+  pause = pause_behind how s.pause;
+  spares = if how.is_peer_away then 10 else 0;
+  has_faulted = s.has_faulted || is_some words.fault;
+}
+
+-- a session in which nothing went wrong
+abbrev pub clean : SessionEnd
+clean = record {
+  accept_failed = false;
+  accept_reason = None;
+  broken = None;
+  peer = None;
+  lacked_memory = false;
+  is_unwatched = false;
+  has_lasted = false;
+  is_peer_away = false;
+  is_coming_told = false;
 }
 
 -- the session has ended, or could not begin
 abbrev pub after_serving : Terms → State → Happened → State
-after_serving t s (SessionEnded how) =
-    parted t s how.is_coming_told how.peer (first_reason t.users.address None how) (first_fault t.users.address (cannot_meet t.role s.peers) how) how.is_peer_away (if how.has_lasted then 0 else longer s.pause)
-after_serving t s LackedMemory = parted t s false None None (Some fault.OutOfMemory) false (longer s.pause)
-after_serving t s (Failed why) = parted t s false None (refusal (serving t.role t.users.address s.peers) why) (Some (cannot_meet t.role s.peers)) false (longer s.pause)
-after_serving t s other = parted t s false None None (Some (cannot_meet t.role s.peers)) false (longer s.pause)
+after_serving t s (SessionEnded how) = parted t s how (fault_of t.users.address (cannot_meet t.role t.peer s.peers) how)
+after_serving t s LackedMemory = parted t s clean (fails None (Some fault.OutOfMemory))
+after_serving t s (Failed why) = parted t s clean (fails (refusal (serving t.role t.users.address t.peer s.peers) why) (Some (cannot_meet t.role t.peer s.peers)))
+after_serving t s other = parted t s clean (fails None (Some (cannot_meet t.role t.peer s.peers)))
 
 -- what happened at this stage leads here
 abbrev pub after_at : Stage → Terms → State → Happened → State
@@ -154,9 +247,8 @@ after_at stage.Calling t s h = after_calling t s h
 after_at stage.AwaitingPeer t s h = after_awaiting_peer t s h
 after_at stage.AwaitingUser t s h = after_awaiting_user t s h
 after_at stage.Serving t s h = after_serving t s h
-after_at stage.Closing t s h = after_closing t s h
-after_at stage.Refusing t s h = after_closing t s h
-after_at stage.Pausing t s h = goes s stage.Calling silence
+after_at stage.Refusing t s h = after_refusing t s h
+after_at stage.Pausing t s h = goes_on t s silence
 after_at stage.Over t s h = s
 
 -- what happened leads here

@@ -1,7 +1,7 @@
-//! What an end of a tunnel, or a pool of sessions, asks for, and what it is told.
+//! What an end of a tunnel asks for, and what it is told.
 
 ghost use Rattle.std.specs.Prelude.{◌≡◌};
-ghost use Rattle.ymx_policy.specs.PoolTable.{clean};
+ghost use Rattle.ymx_policy.specs.Machine.{clean};
 
 use crate::options::Networks;
 use crate::reason::Reason;
@@ -134,8 +134,7 @@ pub enum Fault {
     OutOfMemory,
 }
 
-/// What is told and said before something is done, in this order: notices where `-v` asks for them, reasons and faults
-/// always.
+/// What is told and said before something is done, in this order.
 #[derive(Clone, Copy)]
 pub struct Words {
     /// Told at first, where `-v` asks for it.
@@ -146,10 +145,6 @@ pub struct Words {
     pub fault: Option<Fault>,
     /// Told behind that, where `-v` asks for it.
     pub last: Option<Notice>,
-    /// Told behind that, always: why it ends, where that is a fault of its own.
-    pub cause: Option<Notice>,
-    /// Said at last: what ends it, where that is a fault of its own.
-    pub ending: Option<Fault>,
 }
 
 /// How a session ended. If nothing here is so, it was over by the peer's end or its own.
@@ -203,16 +198,13 @@ pub enum Deed {
     ListenForUsers(Users),
     /// Call the peer there.
     Call(Callee),
-    /// Wait until the peer calls, after which nobody listens for it. Who calls and isn't let in is closed, and so are users
-    /// that come meanwhile and can't wait.
+    /// Wait until the peer calls. Who calls and isn't let in is closed, and so are users that come meanwhile and can't wait.
     AwaitPeer,
-    /// Wait until a user comes.
+    /// Wait until a user is there, who isn't accepted yet.
     AwaitUser,
     /// Run a session with the peer that is there.
     Serve(Session),
-    /// Close the user that waits, if one does.
-    CloseUser,
-    /// Close the user that waits, and all others that have come and wait now.
+    /// Close all users that have come and wait now.
     CloseUsers,
     /// Let so many seconds go by.
     Pause(u64),
@@ -240,8 +232,6 @@ pub enum Happened {
     LackedMemory,
     /// The peer is there.
     PeerCame,
-    /// Somebody called from this address, if it is known, and was closed. Of those in a second one is told.
-    TurnedAway(Option<SocketAddrV4>),
     /// A user waits.
     UserCame,
     /// All have come that were to: users or, at a `remote`, peers.
@@ -250,75 +240,6 @@ pub enum Happened {
     NoUsers(Option<Reason>),
     /// The session ended so.
     SessionEnded(SessionEnd),
-    /// It is done.
-    Done,
-}
-
-// ---- a pool
-
-/// What is to be done for a pool.
-#[derive(Clone, Copy)]
-pub enum PoolDeed {
-    /// Listen for peers.
-    ListenForPeers(Peers),
-    /// Listen for users.
-    ListenForUsers(Users),
-    /// Call the peer there once more, for one more link.
-    Call(Callee),
-    /// Make a thread that runs such a session, with the peer that came, or of the next link.
-    Start(Session),
-    /// Wait until somebody comes, or a session ends. Peers that call and aren't let in are closed.
-    Await,
-    /// Wait until a session ends, and close the peers that call meanwhile.
-    RefusePeers,
-    /// Wait until a session ends.
-    AwaitLeaving,
-    /// Bring the user that came to the link that has the fewest.
-    PlaceUser,
-    /// Bring no more users to any link.
-    CloseLinks,
-    /// Let so many seconds go by.
-    Pause(u64),
-    /// Nothing any more: end with this status.
-    End(u8),
-}
-
-/// What a pool asks for: to say something, if there is something to be said, and then to do this.
-#[derive(Clone, Copy)]
-pub struct PoolAsk {
-    /// What is said.
-    pub words: Words,
-    /// What is done then.
-    pub deed: PoolDeed,
-}
-
-/// What happened.
-#[derive(Clone, Copy)]
-pub enum PoolHappened {
-    /// It listens, at this address.
-    Listening(SocketAddrV4),
-    /// It can't be done: the system refuses it, for this reason if one is known.
-    Failed(Option<Reason>),
-    /// There was no memory for it.
-    LackedMemory,
-    /// Somebody is there: a peer, or a user.
-    Came,
-    /// Somebody could not be let in now, for this reason.
-    Delayed(Reason),
-    /// A peer that called from this address, if it is known, was closed. Of those in a second one is told.
-    TurnedAway(Option<SocketAddrV4>),
-    /// All have come that were to: users, or peers.
-    AllCame,
-    /// Nobody can come in any more, for this reason if one is known.
-    NobodyComes(Option<Reason>),
-    /// No link takes users any more.
-    NoLinks,
-    /// The thread runs.
-    Started,
-    /// A session has ended so, and its thread with it.
-    Left(SessionEnd),
-    /// A link, which goes on, has met this fault, for this reason if one is known.
-    Met(Fault, Option<Notice>),
     /// It is done.
     Done,
 }

@@ -1,36 +1,29 @@
 //! What an end of a tunnel decides: whom it calls, when it listens, what follows a session, how long it pauses, what it
 //! says, and with which status it ends. A machine that is told what happened, and says what to do next; and the loop that
-//! does it.
+//! has it done.
 #![tactic(auto)]
 
 mod asks;
 mod driver;
 mod laws;
+mod machine;
 mod options;
 mod plan;
-mod pool;
 mod reason;
-mod rules;
-mod state;
-mod table;
-mod telling;
-mod world;
+mod texts;
 
 pub use asks::{
-    Ask, Callee, Deed, Fault, Happened, Keepalive, Named, Notice, Peers, PoolAsk, PoolDeed,
-    PoolHappened, Session, SessionEnd, Side, Users, Words,
+    Ask, Callee, Deed, Fault, Happened, Keepalive, Named, Notice, Peers, Session, SessionEnd, Side,
+    Users, Words,
 };
-pub use driver::{PoolEnd, run, run_pool, run_pool_to_end};
+pub use driver::{World, run};
 pub use laws::{
-    calls_forever, does_as_told, each_fault_is_said, faults_have_reasons, keepalives, keeps_on,
-    lines, link_options, local_options, one_fault, own_port_first, pauses, pool_counts_faults,
-    pool_does_as_told, pool_links, pool_places, pool_reasons_are_told, pool_refuses,
-    pool_says_late, pool_statuses, pools, reasons_are_told, remote_options, serves_peers, statuses,
+    calls_forever, does_as_told, each_fault_is_said, ends_where_all_came, faults_have_reasons,
+    keepalives, keeps_on, lines, local_options, one_fault, own_port_first, pauses,
+    reasons_are_told, remote_options, serves_peers, statuses, users_wait_for_the_next_session,
 };
+pub use machine::{Stage, State};
 pub use options::{LocalOptions, Network, Networks, PeerAddress, RemoteOptions};
 pub use plan::{Plan, Role, Terms};
-pub use pool::{Pool, PoolStage};
 pub use reason::Reason;
-pub use state::{Stage, State};
-pub use telling::{Text, fault_text, notice_text, reason_text, source_text};
-pub use world::{Errors, Lines, PoolWorld, World};
+pub use texts::{Text, fault_text, notice_text, reason_text, source_text};

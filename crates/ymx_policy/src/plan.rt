@@ -1,7 +1,7 @@
 //! What an end is told to do, and what follows of it.
 
 ghost use Rattle.std.specs.Prelude.{◌≡◌};
-ghost use Rattle.ymx_policy.specs.Plans.{address_of, call_limit, has_pool, is_called, keepalive_of, local_role, local_terms, remote_role, remote_terms, terms_of};
+ghost use Rattle.ymx_policy.specs.Plans.{address_of, call_limit, keepalive_of, local_places, local_role, local_terms, remote_places, remote_role, remote_terms, terms_of};
 
 use crate::asks::{Keepalive, Session, Side, Users};
 use crate::options::{LocalOptions, Networks, PeerAddress, RemoteOptions};
@@ -23,8 +23,6 @@ pub enum Plan {
     Local(LocalOptions),
     /// `ymx remote`
     Remote(RemoteOptions),
-    /// One of the links of `ymx local --links N --keep`: users are brought to it.
-    Link(LocalOptions),
 }
 
 /// Which end of a tunnel it is, and whether it calls its peer or awaits it.
@@ -34,8 +32,6 @@ pub enum Role {
     LocalCalls,
     /// `ymx local --bind`
     LocalAwaits,
-    /// A link of `ymx local --peer --links N --keep`
-    Link,
     /// `ymx remote --peer`
     RemoteCalls,
     /// `ymx remote --bind`
@@ -59,10 +55,8 @@ pub struct Terms {
     pub users: Users,
     /// What its sessions are like.
     pub session: Session,
-    /// How many sessions it may have at once.
+    /// How many sessions it may have at once, each in a place of its own.
     pub places: u32,
-    /// Notices are told.
-    pub is_verbose: bool,
 }
 
 impl PeerAddress {
@@ -74,16 +68,6 @@ impl PeerAddress {
             PeerAddress::Connect(address) | PeerAddress::Listen(address) => address,
         }
     }
-
-    /// Whether the peer is called.
-    fn is_called(self) -> bool
-        ensures { result ≡ is_called self }
-    {
-        match self {
-            PeerAddress::Connect(_) => true,
-            PeerAddress::Listen(_) => false,
-        }
-    }
 }
 
 impl Plan {
@@ -92,43 +76,9 @@ impl Plan {
         ensures { result ≡ terms_of self }
     {
         match self {
-            Plan::Local(options) => local_terms(options, local_role(options.peer)),
-            Plan::Link(options) => local_terms(options, Role::Link),
+            Plan::Local(options) => local_terms(options),
             Plan::Remote(options) => remote_terms(options),
         }
-    }
-
-    /// Whether it has several sessions at once, each in a thread of its own.
-    pub fn has_pool(self) -> bool
-        ensures { result ≡ has_pool self }
-    {
-        match self {
-            Plan::Local(options) => options.peer.is_called() && options.links > 1,
-            Plan::Remote(options) => {
-                !options.peer.is_called() && (options.is_kept || options.peers.is_some())
-            }
-            Plan::Link(_) => false,
-        }
-    }
-}
-
-/// Which end a `local` is that meets its peer so.
-fn local_role(peer: PeerAddress) -> Role
-    ensures { result ≡ local_role peer }
-{
-    match peer {
-        PeerAddress::Connect(_) => Role::LocalCalls,
-        PeerAddress::Listen(_) => Role::LocalAwaits,
-    }
-}
-
-/// Which end a `remote` is that meets its peer so.
-fn remote_role(peer: PeerAddress) -> Role
-    ensures { result ≡ remote_role peer }
-{
-    match peer {
-        PeerAddress::Connect(_) => Role::RemoteCalls,
-        PeerAddress::Listen(_) => Role::RemoteAwaits,
     }
 }
 
@@ -157,16 +107,21 @@ fn call_limit(is_awaited: bool, timeout: Option<u32>) -> Option<u32>
     }
 }
 
-/// What follows of the options of `local`, or of a link.
-fn local_terms(options: LocalOptions, role: Role) -> Terms
-    ensures { result ≡ local_terms options role }
+/// What follows of the options of `local`.
+fn local_terms(options: LocalOptions) -> Terms
+    ensures { result ≡ local_terms options }
 {
+    let has_links = options.links > 1;
+    let (role, places) = match options.peer {
+        PeerAddress::Connect(_) => (Role::LocalCalls, options.links),
+        PeerAddress::Listen(_) => (Role::LocalAwaits, 1),
+    };
     Terms {
         role,
         goes_on: options.is_kept,
         peer: options.peer.address(),
         from: options.from,
-        limit: call_limit(options.is_kept || options.links > 1, options.timeout),
+        limit: call_limit(options.is_kept || has_links, options.timeout),
         users: Users {
             address: options.listen,
             count: options.count,
@@ -177,11 +132,10 @@ fn local_terms(options: LocalOptions, role: Role) -> Terms
             window: options.window,
             ping: options.ping,
             keepalive: keepalive_of(options.keepalive),
-            is_sounded: options.ping.is_some() || options.links > 1,
+            is_sounded: options.ping.is_some() || has_links || options.is_kept,
             is_followed: options.is_kept,
         },
-        places: options.links,
-        is_verbose: options.is_verbose,
+        places,
     }
 }
 
@@ -189,9 +143,16 @@ fn local_terms(options: LocalOptions, role: Role) -> Terms
 fn remote_terms(options: RemoteOptions) -> Terms
     ensures { result ≡ remote_terms options }
 {
+    let goes_on = options.is_kept || options.peers.is_some();
+    let (role, places) = match (options.peer, options.peers) {
+        (PeerAddress::Connect(_), _) => (Role::RemoteCalls, 1),
+        (PeerAddress::Listen(_), Some(peers)) => (Role::RemoteAwaits, peers),
+        (PeerAddress::Listen(_), None) if options.is_kept => (Role::RemoteAwaits, PEERS),
+        (PeerAddress::Listen(_), None) => (Role::RemoteAwaits, 1),
+    };
     Terms {
-        role: remote_role(options.peer),
-        goes_on: options.is_kept,
+        role,
+        goes_on,
         peer: options.peer.address(),
         from: options.from,
         limit: call_limit(options.is_kept, options.timeout),
@@ -209,9 +170,8 @@ fn remote_terms(options: RemoteOptions) -> Terms
             ping: options.ping,
             keepalive: keepalive_of(options.keepalive),
             is_sounded: options.ping.is_some(),
-            is_followed: options.is_kept || options.peers.is_some(),
+            is_followed: goes_on,
         },
-        places: options.peers.unwrap_or(PEERS),
-        is_verbose: options.is_verbose,
+        places,
     }
 }

@@ -1,10 +1,7 @@
 //! Why the system refused, as `-v` tells it.
 
-ghost use Rattle.std.specs.Prelude.{◌≡◌};
-ghost use Rattle.ymx_policy.specs.Texts.{reason_words};
-
-use std::io;
 use std::io::ErrorKind;
+use std::{fmt, io};
 
 /// The system's numbers for: no descriptor left in the system, none left in this process.
 const NO_DESCRIPTOR: [i32; 2] = [23, 24];
@@ -67,23 +64,22 @@ impl Reason {
         }
         Reason::Other(number)
     }
+}
 
-    /// The words for it. That of a number without a name is not among them.
-    pub fn words(self) -> &'static str
-        ensures { result.now ≡ reason_words self }
-    {
+impl fmt::Display for Reason {
+    fn fmt<W: fmt::Write>(&self, f: &mut fmt::Formatter<W>) -> fmt::Result {
         match self {
-            Reason::InUse => "address in use",
-            Reason::NotPermitted => "permission denied",
-            Reason::NotHere => "no address of this machine",
-            Reason::Refused => "refused",
-            Reason::Unreachable => "unreachable",
-            Reason::TimedOut => "timed out",
-            Reason::Reset => "reset",
-            Reason::NoDescriptor => "no descriptor left",
-            Reason::NoMemory => "no memory",
-            Reason::NoThread => "no thread",
-            Reason::Other(_) => "error",
+            Reason::InUse => write!(f, "address in use"),
+            Reason::NotPermitted => write!(f, "permission denied"),
+            Reason::NotHere => write!(f, "no address of this machine"),
+            Reason::Refused => write!(f, "refused"),
+            Reason::Unreachable => write!(f, "unreachable"),
+            Reason::TimedOut => write!(f, "timed out"),
+            Reason::Reset => write!(f, "reset"),
+            Reason::NoDescriptor => write!(f, "no descriptor left"),
+            Reason::NoMemory => write!(f, "no memory"),
+            Reason::NoThread => write!(f, "no thread"),
+            Reason::Other(number) => write!(f, "error {number}"),
         }
     }
 }

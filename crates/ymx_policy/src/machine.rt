@@ -1,0 +1,453 @@
+//! An end of a tunnel as a machine: at each stage it asks for one thing, and what happened leads to the next.
+
+ghost use Rattle.std.specs.Prelude.{◌≡◌, Some};
+ghost use Rattle.ymx_policy.specs.Machine.{after, after_awaiting_peer, after_awaiting_user, after_calling, after_opening_peers, after_opening_users, after_refusing, after_serving, asked, begins, behind_session, cannot_meet, deed_at, ends, fails, fault_of, fresh, goes, goes_on, longer, next, no_peers, no_users, parted, parting, refusal, serving, silence, unreached};
+
+use crate::asks::{Ask, Callee, Deed, Fault, Happened, Named, Notice, Peers, SessionEnd, Words};
+use crate::plan::{Role, Terms};
+use crate::reason::Reason;
+use std::net::SocketAddrV4;
+
+/// What an end waits for.
+#[derive(Clone, Copy)]
+pub enum Stage {
+    /// It is to listen for its peer.
+    OpeningPeers,
+    /// It is to listen for users.
+    OpeningUsers,
+    /// It calls its peer.
+    Calling,
+    /// Its peer is to call.
+    AwaitingPeer,
+    /// A user is to come.
+    AwaitingUser,
+    /// A session runs.
+    Serving,
+    /// All users that wait are closed, as their peer can't be reached.
+    Refusing,
+    /// It lets time go by.
+    Pausing,
+    /// It has ended.
+    Over,
+}
+
+/// Where an end has come to.
+#[derive(Clone, Copy)]
+pub struct State {
+    /// What it waits for.
+    pub stage: Stage,
+    /// What is to be said now.
+    pub words: Words,
+    /// Where its peer is called, or calls: at port 0 the port that the system chose.
+    pub peers: SocketAddrV4,
+    /// How many seconds are to go by before the next call, or 0.
+    pub pause: u64,
+    /// How many calls may fail before users are closed.
+    pub spares: u64,
+    /// It has said a fault, or does so now.
+    pub has_faulted: bool,
+}
+
+// ---- where it goes
+
+/// Where it begins: a mistake at a port of its own comes first, but a `local` without `--keep` calls first.
+fn begins(role: Role, is_kept: bool) -> Stage
+    ensures { result ≡ begins role is_kept }
+{
+    match role {
+        Role::LocalCalls if is_kept => Stage::OpeningUsers,
+        Role::LocalCalls | Role::RemoteCalls => Stage::Calling,
+        Role::LocalAwaits | Role::RemoteAwaits => Stage::OpeningPeers,
+    }
+}
+
+/// Where it goes on once what a stage is for is there.
+fn next(stage: Stage, role: Role, is_kept: bool) -> Stage
+    ensures { result ≡ next stage role is_kept }
+{
+    match (stage, role) {
+        (Stage::OpeningPeers, Role::LocalAwaits) => Stage::OpeningUsers,
+        (Stage::OpeningUsers, Role::LocalCalls) if is_kept => Stage::AwaitingUser,
+        (Stage::OpeningUsers, Role::LocalCalls) => Stage::Serving,
+        (Stage::OpeningPeers | Stage::OpeningUsers, _) => Stage::AwaitingPeer,
+        (Stage::Calling, Role::LocalCalls) if !is_kept => Stage::OpeningUsers,
+        (Stage::Calling | Stage::AwaitingPeer, _) => Stage::Serving,
+        (Stage::AwaitingUser | Stage::Pausing, _) => Stage::Calling,
+        (Stage::Refusing, _) => Stage::AwaitingUser,
+        (Stage::Serving | Stage::Over, _) => Stage::Over,
+    }
+}
+
+/// Where it goes on behind a session.
+fn behind_session(role: Role, is_kept: bool, is_lost: bool, pause: u64) -> Stage
+    ensures { result ≡ behind_session role is_kept is_lost pause }
+{
+    match role {
+        _ if !is_kept => Stage::Over,
+        Role::LocalCalls if is_lost => Stage::Refusing,
+        Role::LocalCalls => Stage::AwaitingUser,
+        Role::RemoteCalls if pause == 0 => Stage::Calling,
+        Role::RemoteCalls => Stage::Pausing,
+        Role::LocalAwaits | Role::RemoteAwaits => Stage::AwaitingPeer,
+    }
+}
+
+/// The pause behind a pause of so many seconds.
+fn longer(seconds: u64) -> u64
+    ensures { result ≡ longer seconds }
+{
+    match seconds {
+        0 => 1,
+        _ if seconds > 15 => 30,
+        _ => 2 * seconds,
+    }
+}
+
+// ---- what it says
+
+/// Nothing.
+const SILENCE: Words = Words {
+    first: None,
+    reason: None,
+    fault: None,
+    last: None,
+};
+
+/// That the system refused what an option asks for, where the reason is known.
+fn refusal(named: Named, why: Option<Reason>) -> Option<Notice>
+    ensures { result ≡ refusal named why }
+{
+    Some(Notice::Refused(named, why?))
+}
+
+/// This fault, behind its reason.
+fn fails(reason: Option<Notice>, fault: Fault) -> Words
+    ensures { result ≡ fails reason (Some fault) }
+{
+    Words {
+        reason,
+        fault: Some(fault),
+        ..SILENCE
+    }
+}
+
+/// What it says behind a session besides this, whose peer was told to have come or wasn't, and was at this address.
+fn parting(terms: &Terms, is_coming_told: bool, peer: Option<SocketAddrV4>, words: Words) -> Words
+    ensures { result ≡ parting terms.now.role terms.now.goes_on is_coming_told peer words }
+{
+    match terms.role {
+        _ if !terms.goes_on => words,
+        Role::LocalCalls if is_coming_told => Words {
+            first: Some(Notice::PeerGone(peer)),
+            ..words
+        },
+        Role::LocalCalls => Words {
+            first: Some(Notice::PeerGoneSilent(peer)),
+            ..words
+        },
+        Role::LocalAwaits | Role::RemoteCalls | Role::RemoteAwaits => Words {
+            last: Some(Notice::PeerGone(peer)),
+            ..words
+        },
+    }
+}
+
+// ---- which fault it is
+
+/// What it says of a session that ended so: of a failed accept, a broken rule and want of memory the first, and behind these
+/// a peer that can't be watched.
+fn fault_of(users: SocketAddrV4, unmet: Fault, how: SessionEnd) -> Words
+    ensures { result ≡ fault_of users unmet how }
+{
+    if how.accept_failed {
+        return fails(
+            refusal(Named::Listen(users), how.accept_reason),
+            Fault::CannotListen(users),
+        );
+    }
+    match how.broken {
+        Some(rule) => fails(Some(Notice::Broke(rule, how.peer)), Fault::Broken(rule)),
+        None if how.lacked_memory => fails(None, Fault::OutOfMemory),
+        None if how.is_unwatched => fails(None, unmet),
+        None => SILENCE,
+    }
+}
+
+// ---- the machine
+
+impl State {
+    /// An end that has done nothing yet.
+    pub fn new(terms: &Terms) -> State
+        ensures { result ≡ fresh terms.now }
+    {
+        State {
+            stage: begins(terms.role, terms.goes_on),
+            words: SILENCE,
+            peers: terms.peer,
+            pause: 0,
+            spares: 0,
+            has_faulted: false,
+        }
+    }
+
+    /// What is asked for now.
+    pub fn asked(&self, terms: &Terms) -> Ask
+        ensures { result ≡ asked terms.now self.now }
+    {
+        let deed = match self.stage {
+            Stage::OpeningPeers => Deed::ListenForPeer(Peers {
+                address: terms.peer,
+                from: terms.from,
+            }),
+            Stage::OpeningUsers => Deed::ListenForUsers(terms.users),
+            Stage::Calling => Deed::Call(Callee {
+                address: terms.peer,
+                limit: terms.limit,
+            }),
+            Stage::AwaitingPeer => Deed::AwaitPeer,
+            Stage::AwaitingUser => Deed::AwaitUser,
+            Stage::Serving => Deed::Serve(terms.session),
+            Stage::Refusing => Deed::CloseUsers,
+            Stage::Pausing => Deed::Pause(self.pause),
+            Stage::Over => Deed::End(if self.has_faulted { 1 } else { 0 }),
+        };
+        Ask {
+            words: self.words,
+            deed,
+        }
+    }
+
+    /// Hears what happened.
+    pub fn hear(&mut self, terms: &Terms, happened: Happened)
+        ensures { self.new ≡ after terms.now self.old happened }
+    {
+        match self.stage {
+            Stage::OpeningPeers => self.hear_opening_peers(terms, happened),
+            Stage::OpeningUsers => self.hear_opening_users(terms, happened),
+            Stage::Calling => self.hear_call(terms, happened),
+            Stage::AwaitingPeer => self.hear_peer(terms, happened),
+            Stage::AwaitingUser => self.hear_user(terms, happened),
+            Stage::Serving => self.hear_session(terms, happened),
+            Stage::Refusing => self.hear_refusing(terms, happened),
+            Stage::Pausing => self.go_on(terms, SILENCE),
+            Stage::Over => {}
+        }
+    }
+
+    /// The option that is named where a session can't be had.
+    fn serving(&self, terms: &Terms) -> Named
+        ensures { result ≡ serving terms.now.role terms.now.users.address terms.now.peer self.now.peers }
+    {
+        match terms.role {
+            Role::RemoteCalls => Named::Peer(terms.peer),
+            Role::RemoteAwaits => Named::Bind(self.peers),
+            Role::LocalCalls | Role::LocalAwaits => Named::Listen(terms.users.address),
+        }
+    }
+
+    /// The peer can't be had.
+    fn unmet(&self, terms: &Terms) -> Fault
+        ensures { result ≡ cannot_meet terms.now.role terms.now.peer self.now.peers }
+    {
+        match terms.role {
+            Role::LocalCalls | Role::RemoteCalls => Fault::CannotReach(terms.peer),
+            Role::LocalAwaits | Role::RemoteAwaits => Fault::CannotListen(self.peers),
+        }
+    }
+
+    /// Goes on here, and says this.
+    fn go(&mut self, stage: Stage, words: Words)
+        ensures { self.new ≡ goes self.old stage words }
+    {
+        self.stage = stage;
+        self.words = words;
+    }
+
+    /// Goes on, as what it was to do is done, and says this.
+    fn go_on(&mut self, terms: &Terms, words: Words)
+        ensures { self.new ≡ goes_on terms.now self.old words }
+    {
+        self.go(next(self.stage, terms.role, terms.goes_on), words);
+    }
+
+    /// Says this fault behind its reason, and ends.
+    fn end(&mut self, reason: Option<Notice>, fault: Fault)
+        ensures { self.new ≡ ends self.old reason fault }
+    {
+        self.go(Stage::Over, fails(reason, fault));
+        self.has_faulted = true;
+    }
+
+    /// Nobody can be accepted where users come in.
+    fn end_users(&mut self, terms: &Terms, why: Option<Reason>)
+        ensures { self.new ≡ no_users terms.now self.old why }
+    {
+        let users = terms.users.address;
+        self.end(
+            refusal(Named::Listen(users), why),
+            Fault::CannotListen(users),
+        );
+    }
+
+    /// Nobody can be accepted where peers come in.
+    fn end_peers(&mut self, why: Option<Reason>)
+        ensures { self.new ≡ no_peers self.old why }
+    {
+        let peers = self.peers;
+        self.end(refusal(Named::Bind(peers), why), Fault::CannotListen(peers));
+    }
+
+    /// It listens for its peer, or can't.
+    fn hear_opening_peers(&mut self, terms: &Terms, happened: Happened)
+        ensures { self.new ≡ after_opening_peers terms.now self.old happened }
+    {
+        match happened {
+            Happened::Listening(address) => {
+                self.go_on(terms, listening(address));
+                self.peers = address;
+            }
+            Happened::AllCame => self.go(Stage::Over, SILENCE),
+            Happened::LackedMemory => self.end(None, Fault::OutOfMemory),
+            Happened::Failed(why) => self.end_peers(why),
+            _ => self.end_peers(None),
+        }
+    }
+
+    /// It listens for users, or can't.
+    fn hear_opening_users(&mut self, terms: &Terms, happened: Happened)
+        ensures { self.new ≡ after_opening_users terms.now self.old happened }
+    {
+        match happened {
+            Happened::Listening(address) => self.go_on(terms, listening(address)),
+            Happened::AllCame => self.go(Stage::Over, SILENCE),
+            Happened::LackedMemory => self.end(None, Fault::OutOfMemory),
+            Happened::Failed(why) => self.end_users(terms, why),
+            _ => self.end_users(terms, None),
+        }
+    }
+
+    /// The peer that it called is there, can't be reached, or is to come no more.
+    fn hear_call(&mut self, terms: &Terms, happened: Happened)
+        ensures { self.new ≡ after_calling terms.now self.old happened }
+    {
+        match happened {
+            Happened::PeerCame => self.go_on(terms, SILENCE),
+            Happened::AllCame => self.go(Stage::Over, SILENCE),
+            Happened::Failed(why) => self.hear_no_call(
+                terms,
+                refusal(Named::Peer(terms.peer), why),
+            ),
+            _ => self.hear_no_call(terms, None),
+        }
+    }
+
+    /// The peer that it called can't be reached.
+    fn hear_no_call(&mut self, terms: &Terms, reason: Option<Notice>)
+        ensures { self.new ≡ unreached terms.now.role terms.now.goes_on terms.now.peer reason self.old }
+    {
+        if !terms.goes_on {
+            self.end(reason, Fault::CannotReach(terms.peer));
+            return;
+        }
+        let refused = Words {
+            first: reason,
+            ..SILENCE
+        };
+        let unreached = Words {
+            last: Some(Notice::Unreached(terms.peer)),
+            ..refused
+        };
+        match terms.role {
+            Role::RemoteCalls => {
+                self.go(Stage::Pausing, unreached);
+                self.pause = longer(self.pause);
+            }
+            _ if self.spares == 0 => self.go(Stage::Refusing, refused),
+            _ => {
+                self.go(Stage::Pausing, unreached);
+                self.pause = 1;
+                self.spares -= 1;
+            }
+        }
+    }
+
+    /// The peer that it awaited is there, or none comes.
+    fn hear_peer(&mut self, terms: &Terms, happened: Happened)
+        ensures { self.new ≡ after_awaiting_peer terms.now self.old happened }
+    {
+        match happened {
+            Happened::PeerCame => self.go_on(terms, SILENCE),
+            Happened::AllCame => self.go(Stage::Over, SILENCE),
+            Happened::NoUsers(why) => self.end_users(terms, why),
+            Happened::Failed(why) => self.end_peers(why),
+            _ => self.end_peers(None),
+        }
+    }
+
+    /// A user waits, or none comes.
+    fn hear_user(&mut self, terms: &Terms, happened: Happened)
+        ensures { self.new ≡ after_awaiting_user terms.now self.old happened }
+    {
+        match happened {
+            Happened::UserCame => self.go_on(terms, SILENCE),
+            Happened::AllCame => self.go(Stage::Over, SILENCE),
+            Happened::NoUsers(why) => self.end_users(terms, why),
+            _ => self.end_users(terms, None),
+        }
+    }
+
+    /// All users that waited are closed.
+    fn hear_refusing(&mut self, terms: &Terms, happened: Happened)
+        ensures { self.new ≡ after_refusing terms.now self.old happened }
+    {
+        match happened {
+            Happened::AllCame => self.go(Stage::Over, SILENCE),
+            Happened::NoUsers(why) => self.end_users(terms, why),
+            _ => self.go_on(terms, SILENCE),
+        }
+    }
+
+    /// The session has ended, or could not begin.
+    fn hear_session(&mut self, terms: &Terms, happened: Happened)
+        ensures { self.new ≡ after_serving terms.now self.old happened }
+    {
+        let users = terms.users.address;
+        let unmet = self.unmet(terms);
+        let clean = SessionEnd::clean();
+        match happened {
+            Happened::SessionEnded(how) => self.part(terms, how, fault_of(users, unmet, how)),
+            Happened::LackedMemory => self.part(terms, clean, fails(None, Fault::OutOfMemory)),
+            Happened::Failed(why) => {
+                let reason = refusal(self.serving(terms), why);
+                self.part(terms, clean, fails(reason, unmet));
+            }
+            _ => self.part(terms, clean, fails(None, unmet)),
+        }
+    }
+
+    /// Goes on behind a session that ended so, of which it says this.
+    fn part(&mut self, terms: &Terms, how: SessionEnd, words: Words)
+        ensures { self.new ≡ parted terms.now self.old how words }
+    {
+        let is_lost = !(how.is_coming_told || how.is_peer_away);
+        self.pause = if how.has_lasted {
+            0
+        } else {
+            longer(self.pause)
+        };
+        self.spares = if how.is_peer_away { 10 } else { 0 };
+        self.stage = behind_session(terms.role, terms.goes_on, is_lost, self.pause);
+        self.words = parting(terms, how.is_coming_told, how.peer, words);
+        self.has_faulted = self.has_faulted || words.fault.is_some();
+    }
+}
+
+/// It listens here.
+fn listening(address: SocketAddrV4) -> Words
+    ensures { result ≡ record silence { first = Some (Notice.Listening address) } }
+{
+    Words {
+        first: Some(Notice::Listening(address)),
+        ..SILENCE
+    }
+}
