@@ -1,12 +1,10 @@
 //! Which connection it is, how it ended, and why it got no stream.
 
-ghost use Rattle.std.specs.Prelude.{◌≡◌, ◌||◌, None, Some};
-ghost use Rattle.ymx_page.specs.Counts.{ended_with_nothing, is_for_want_of_memory};
-
+use std::fmt;
 use std::net::SocketAddrV4;
 use std::time::Instant;
 use ymx_model::CallFault;
-use ymx_policy::Reason;
+use ymx_policy::{Reason, source_text};
 
 /// Why one direction of a connection ended.
 #[derive(Clone, Copy, PartialEq, Eq)]
@@ -25,6 +23,19 @@ pub enum Ending {
     Refused,
 }
 
+impl fmt::Display for Ending {
+    fn fmt<W: fmt::Write>(&self, f: &mut fmt::Formatter<W>) -> fmt::Result {
+        f.write_str(match self {
+            Ending::Ended => "ended",
+            Ending::ConnectionFailed => "connection failed",
+            Ending::Reset => "reset",
+            Ending::Lost => "lost",
+            Ending::OutOfMemory => "no memory",
+            Ending::Refused => "refused",
+        })
+    }
+}
+
 /// What went one way through a connection that has ended.
 #[derive(Clone, Copy)]
 pub struct Passed {
@@ -37,37 +48,22 @@ pub struct Passed {
 /// Which connection it is.
 #[derive(Clone, Copy)]
 pub struct Origin {
-    /// Its number: 1, 2, 3, .., or 0 where nobody reads it.
+    /// Its number: 1, 2, 3, ..
     pub number: u64,
     /// Who it is from: a user, or the peer that has opened its stream. None where that isn't known.
     pub from: Option<SocketAddrV4>,
-    /// The number of the link that carries it: 1, 2, 3, .. None where there is one connection to the peer alone, and where no
-    /// link has it.
+    /// The number of the link that carries it: 1, 2, 3, .. None where there is one connection to the peer alone.
     pub link: Option<u32>,
     /// When it began. None where that isn't known.
     pub began: Option<Instant>,
 }
 
-impl Origin {
-    /// That of a connection of which nobody is told.
-    pub fn untold() -> Origin
-        ensures { result ≡ record { number = 0; from = None; link = None; began = None } }
-    {
-        Origin {
-            number: 0,
-            from: None,
-            link: None,
-            began: None,
-        }
-    }
-
-    /// The same connection, by the link of this number.
-    pub fn by_link(self, number: u32) -> Origin
-        ensures { result ≡ record self { link = Some number } }
-    {
-        Origin {
-            link: Some(number),
-            ..self
+impl fmt::Display for Origin {
+    fn fmt<W: fmt::Write>(&self, f: &mut fmt::Formatter<W>) -> fmt::Result {
+        write!(f, "connection {}{}", self.number, source_text(self.from))?;
+        match self.link {
+            Some(link) => write!(f, " by link {link}"),
+            None => Ok(()),
         }
     }
 }
@@ -85,9 +81,7 @@ pub struct EndedConnection {
 
 impl EndedConnection {
     /// Nothing was passed on, for this reason.
-    pub fn of_nothing(ending: Ending, reason: Option<Reason>) -> EndedConnection
-        ensures { result ≡ ended_with_nothing ending reason }
-    {
+    pub fn of_nothing(ending: Ending, reason: Option<Reason>) -> EndedConnection {
         let passed = Passed { bytes: 0, ending };
         EndedConnection {
             to_peer: passed,
@@ -97,10 +91,16 @@ impl EndedConnection {
     }
 
     /// Whether it ended for want of memory.
-    pub fn lacked_memory(&self) -> bool
-        ensures { result ≡ (is_for_want_of_memory self.now.to_peer.ending || is_for_want_of_memory self.now.from_peer.ending) }
-    {
+    pub fn lacked_memory(&self) -> bool {
         self.to_peer.ending == Ending::OutOfMemory || self.from_peer.ending == Ending::OutOfMemory
+    }
+
+    /// Why it ended: as the first of its ways that didn't end well.
+    pub(crate) fn ending(&self) -> Ending {
+        match self.to_peer.ending {
+            Ending::Ended => self.from_peer.ending,
+            bad => bad,
+        }
     }
 }
 
@@ -113,4 +113,23 @@ pub enum Declined {
     OutOfMemory,
     /// The system refused to watch the connection.
     Unwatched,
+}
+
+impl fmt::Display for Declined {
+    fn fmt<W: fmt::Write>(&self, f: &mut fmt::Formatter<W>) -> fmt::Result {
+        f.write_str(match self {
+            Declined::BySession(CallFault::NoStream) => "NoStream",
+            Declined::BySession(CallFault::Finished) => "Finished",
+            Declined::BySession(CallFault::Reset) => "Reset",
+            Declined::BySession(CallFault::Lost) => "Lost",
+            Declined::BySession(CallFault::Closed) => "Closed",
+            Declined::BySession(CallFault::PeerAway) => "PeerAway",
+            Declined::BySession(CallFault::OpensPending) => "OpensPending",
+            Declined::BySession(CallFault::TooMany) => "TooMany",
+            Declined::BySession(CallFault::Exhausted) => "Exhausted",
+            Declined::BySession(CallFault::PingsPending) => "PingsPending",
+            Declined::BySession(CallFault::OutOfMemory(_)) | Declined::OutOfMemory => "Memory",
+            Declined::Unwatched => "Unwatched",
+        })
+    }
 }

@@ -1,178 +1,138 @@
 //! What is counted of an end since it began.
 
-ghost use Rattle.std.specs.Prelude.{◌≡◌};
-ghost use Rattle.ymx_page.specs.Counts.{first_bad, more, no_counts, with_begun, with_cause, with_declined, with_ended, with_ending, with_peer, with_rejected, with_system_refusal};
-
-use crate::connections::{Declined, EndedConnection, Ending};
+use crate::connections::{Declined, Ending};
+use crate::event::Event;
+use std::alloc::Global;
+use std::collections::BTreeMap;
+use std::time::Instant;
 use ymx_model::CallFault;
 
 /// What is counted. Each count stays at the greatest `u64`.
-#[derive(Clone, Copy)]
+#[derive(Drop)]
 pub struct Counts {
-    /// How many bytes connections had passed to the peer once they ended.
-    pub to_peer: u64,
-    /// How many from the peer.
-    pub from_peer: u64,
-    /// How many connections have begun.
-    pub begun: u64,
-    /// How many are open.
-    pub there: u64,
-    /// How many ended well, both ways.
-    pub ended: u64,
-    /// How many ended as the connection failed.
-    pub failed: u64,
-    /// How many ended as the stream was reset.
-    pub reset: u64,
-    /// How many ended as the session was lost.
-    pub lost: u64,
-    /// How many ended for want of memory.
-    pub starved: u64,
-    /// How many ended as the stream refused.
-    pub refused: u64,
-    /// How many got no stream, as the session was over.
-    pub declined_lost: u64,
-    /// How many got none as the peer takes none.
-    pub declined_away: u64,
-    /// How many got none for want of memory.
-    pub declined_starved: u64,
-    /// How many got none as the system refused to watch them.
-    pub declined_unwatched: u64,
-    /// How many got none for another reason.
-    pub declined_other: u64,
-    /// How many sessions with a peer have begun.
-    pub come: u64,
-    /// How many of them have ended.
-    pub gone: u64,
-    /// How often the system refused what an option asks for.
-    pub failures: u64,
-    /// How many streams of the peer's were rejected for want of memory.
-    pub rejected: u64,
+    /// When each connection began that is open, by its number.
+    open_since: BTreeMap<u64, Instant>,
+    pub(crate) to_peer: u64,
+    pub(crate) from_peer: u64,
+    pub(crate) begun: u64,
+    pub(crate) open: u64,
+    pub(crate) ended: u64,
+    pub(crate) failed: u64,
+    pub(crate) reset: u64,
+    pub(crate) lost: u64,
+    pub(crate) lacked_memory: u64,
+    pub(crate) refused: u64,
+    pub(crate) declined_lost: u64,
+    pub(crate) declined_away: u64,
+    pub(crate) declined_memory: u64,
+    pub(crate) declined_unwatched: u64,
+    pub(crate) declined_other: u64,
+    pub(crate) sessions_begun: u64,
+    pub(crate) sessions_ended: u64,
+    pub(crate) rejected: u64,
+    pub(crate) system_refusals: u64,
 }
 
 impl Counts {
     /// Nothing has been counted.
-    pub fn new() -> Counts
-        ensures { result ≡ no_counts }
-    {
+    pub fn new(alloc: Global) -> Counts {
         Counts {
+            open_since: BTreeMap::new(alloc),
             to_peer: 0,
             from_peer: 0,
             begun: 0,
-            there: 0,
+            open: 0,
             ended: 0,
             failed: 0,
             reset: 0,
             lost: 0,
-            starved: 0,
+            lacked_memory: 0,
             refused: 0,
             declined_lost: 0,
             declined_away: 0,
-            declined_starved: 0,
+            declined_memory: 0,
             declined_unwatched: 0,
             declined_other: 0,
-            come: 0,
-            gone: 0,
-            failures: 0,
+            sessions_begun: 0,
+            sessions_ended: 0,
             rejected: 0,
+            system_refusals: 0,
         }
     }
 
-    /// A connection has begun.
-    pub fn count_begun(&mut self)
-        ensures { self.new ≡ with_begun self.old }
-    {
+    /// A connection begins, now if the time is known. Its number: 1, 2, 3, ..
+    pub fn begin(&mut self, now: Option<Instant>) -> u64 {
         add(&mut self.begun, 1);
-        add(&mut self.there, 1);
+        add(&mut self.open, 1);
+        if let Some(now) = now {
+            // Where there is no memory for it, this one's age is not told.
+            let _ = self.open_since.insert(self.begun, now);
+        }
+        self.begun
     }
 
-    /// A connection that had a stream has ended.
-    pub fn count_ended(&mut self, ended: &EndedConnection)
-        ensures { self.new ≡ with_ended ended.now self.old }
-    {
-        self.there = self.there.saturating_sub(1);
-        add(&mut self.to_peer, ended.to_peer.bytes);
-        add(&mut self.from_peer, ended.from_peer.bytes);
-        self.count_ending(first_bad(ended.to_peer.ending, ended.from_peer.ending));
+    /// Counts this.
+    pub fn count(&mut self, event: &Event) {
+        match event {
+            Event::Ended(origin, ended) => {
+                self.end(origin.number);
+                add(&mut self.to_peer, ended.to_peer.bytes);
+                add(&mut self.from_peer, ended.from_peer.bytes);
+                add(self.ended_so(ended.ending()), 1);
+            }
+            Event::Declined(origin, why) => {
+                self.end(origin.number);
+                add(self.declined_so(*why), 1);
+            }
+            Event::SessionBegan => add(&mut self.sessions_begun, 1),
+            Event::SessionEnded => add(&mut self.sessions_ended, 1),
+            Event::Rejected(count, _) => add(&mut self.rejected, *count),
+            Event::Refused(_, _) => add(&mut self.system_refusals, 1),
+            Event::Fault(_) | Event::Reason(_) | Event::Notice(_) => {}
+        }
     }
 
-    /// One has ended so.
-    fn count_ending(&mut self, ending: Ending)
-        ensures { self.new ≡ with_ending ending self.old }
-    {
+    /// When the oldest connection began that is open. None where none is.
+    pub fn oldest(&self) -> Option<Instant> {
+        match self.open_since.first_key_value() {
+            Some((_, began)) => Some(*began),
+            None => None,
+        }
+    }
+
+    /// The connection of this number is open no more.
+    fn end(&mut self, number: u64) {
+        let _ = self.open_since.remove(&number);
+        self.open = self.open.saturating_sub(1);
+    }
+
+    /// The count of connections that ended so.
+    fn ended_so(&mut self, ending: Ending) -> &mut u64 {
         match ending {
-            Ending::Ended => add(&mut self.ended, 1),
-            Ending::ConnectionFailed => add(&mut self.failed, 1),
-            Ending::Reset => add(&mut self.reset, 1),
-            Ending::Lost => add(&mut self.lost, 1),
-            Ending::OutOfMemory => add(&mut self.starved, 1),
-            Ending::Refused => add(&mut self.refused, 1),
+            Ending::Ended => &mut self.ended,
+            Ending::ConnectionFailed => &mut self.failed,
+            Ending::Reset => &mut self.reset,
+            Ending::Lost => &mut self.lost,
+            Ending::OutOfMemory => &mut self.lacked_memory,
+            Ending::Refused => &mut self.refused,
         }
     }
 
-    /// A connection got no stream, for this reason.
-    pub fn count_declined(&mut self, why: Declined)
-        ensures { self.new ≡ with_declined why self.old }
-    {
-        self.there = self.there.saturating_sub(1);
-        self.count_cause(why);
-    }
-
-    /// A session with a peer begins, or has ended.
-    pub fn count_peer(&mut self, is_there: bool)
-        ensures { self.new ≡ with_peer is_there self.old }
-    {
-        if is_there {
-            add(&mut self.come, 1);
-        } else {
-            add(&mut self.gone, 1);
-        }
-    }
-
-    /// The system refused what an option asks for.
-    pub fn count_system_refusal(&mut self)
-        ensures { self.new ≡ with_system_refusal self.old }
-    {
-        add(&mut self.failures, 1);
-    }
-
-    /// So many streams of the peer's were rejected for want of memory.
-    pub fn count_rejected(&mut self, count: u64)
-        ensures { self.new ≡ with_rejected count self.old }
-    {
-        add(&mut self.rejected, count);
-    }
-
-    /// One got none for this reason.
-    fn count_cause(&mut self, why: Declined)
-        ensures { self.new ≡ with_cause why self.old }
-    {
+    /// The count of connections that got no stream for this reason.
+    fn declined_so(&mut self, why: Declined) -> &mut u64 {
         match why {
-            Declined::BySession(CallFault::Lost | CallFault::Closed) => {
-                add(&mut self.declined_lost, 1)
-            }
-            Declined::BySession(CallFault::PeerAway) => add(&mut self.declined_away, 1),
+            Declined::BySession(CallFault::Lost | CallFault::Closed) => &mut self.declined_lost,
+            Declined::BySession(CallFault::PeerAway) => &mut self.declined_away,
             Declined::BySession(CallFault::OutOfMemory(_)) | Declined::OutOfMemory => {
-                add(&mut self.declined_starved, 1)
+                &mut self.declined_memory
             }
-            Declined::Unwatched => add(&mut self.declined_unwatched, 1),
-            Declined::BySession(_) => add(&mut self.declined_other, 1),
+            Declined::Unwatched => &mut self.declined_unwatched,
+            Declined::BySession(_) => &mut self.declined_other,
         }
     }
 }
 
 /// Counts so many more.
-fn add(count: &mut u64, added: u64)
-    ensures { count.new ≡ more count.old added }
-{
+fn add(count: &mut u64, added: u64) {
     *count = count.saturating_add(added);
-}
-
-/// Why a connection ended whose two ways did so: for the first that didn't end well.
-fn first_bad(one: Ending, other: Ending) -> Ending
-    ensures { result ≡ first_bad one other }
-{
-    match one {
-        Ending::Ended => other,
-        bad => bad,
-    }
 }

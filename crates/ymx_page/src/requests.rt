@@ -1,7 +1,47 @@
-//! Which request is answered how.
+//! Which request is answered how: its first line, as it comes in pieces, the answer to it, and the answer's text.
 
-ghost use Rattle.std.specs.Prelude.{◌≡◌, ◌≤◌, ◌||◌, ◌&&◌, Bool, true, length};
-ghost use Rattle.ymx_page.specs.Requests.{answer_of, answer_of_line, answer_to, asks_to_drain, ends_in, heeded, wanted, without_return};
+use crate::counts::Counts;
+use crate::page::page;
+use std::alloc::{AllocError, Global};
+
+/// How many bytes of a line are kept at most.
+const MOST: usize = 8_192;
+
+/// What has come of the first line of a request.
+#[derive(Drop)]
+pub struct RequestLine {
+    bytes: Vec<u8>,
+}
+
+impl RequestLine {
+    /// Nothing has come. `AllocError` where there is no memory for the longest line.
+    pub fn new(alloc: Global) -> Result<RequestLine, AllocError> {
+        let bytes = Vec::with_capacity(alloc, MOST)?;
+        Ok(RequestLine { bytes })
+    }
+
+    /// What has come.
+    pub fn bytes(&self) -> &[u8] {
+        self.bytes.as_slice()
+    }
+
+    /// Hears these bytes. Whether the line is there: it ends before the first line feed. One of more than 8,192 bytes
+    /// counts as an empty one, which is there.
+    pub fn hear(&mut self, bytes: &[u8]) -> bool {
+        let end = bytes.iter().position(|byte| *byte == b'\n');
+        let more = match end {
+            Some(end) => &bytes[..end],
+            None => bytes,
+        };
+        let is_too_long = self.bytes.len() > MOST || more.len() > MOST - self.bytes.len();
+        if is_too_long {
+            self.bytes.clear();
+        } else {
+            let _ = self.bytes.extend_from_slice(more);
+        }
+        is_too_long || end.is_some()
+    }
+}
 
 /// What a request is answered.
 #[derive(Clone, Copy, PartialEq, Eq)]
@@ -10,7 +50,7 @@ pub enum Answer {
     Metrics,
     /// 200 or 503: whether connections are taken.
     Health,
-    /// 202: no more are taken from now on.
+    /// 202: no more are taken from now on. Where nobody can be asked for that the caller answers [`Answer::NotFound`].
     Drain,
     /// 404: there is nothing at this path.
     NotFound,
@@ -22,101 +62,68 @@ pub enum Answer {
     Bad,
 }
 
-/// An end that may be asked to take no more connections.
-pub trait Drainable {
-    /// It can be asked.
-    ghost can_drain: { Self → Bool };
-
-    /// It was asked.
-    ghost is_asked: { Self → Bool };
-
-    /// From now on it takes no more connections, if it can be asked. Whether it can.
-    fn ask(&mut self) -> bool
-        ensures told { result ≡ can_drain self.old }
-        ensures asked { is_asked self.new ≡ (is_asked self.old || can_drain self.old) };
-}
-
-/// Does what a request asks for whose first line this is, without the line feed at its end: a drain. The answer to it.
-pub fn heed<D: Drainable>(line: &[u8], end: &mut D) -> Answer
-    ensures answer { result ≡ heeded (D.can_drain end.old) (answer_of line.now) }
-    ensures drained { D.is_asked end.new ≡ (D.is_asked end.old || (D.can_drain end.old && asks_to_drain (answer_of line.now))) }
-{
-    let answer = answer_of(line);
-    if answer != Answer::Drain {
-        return answer;
-    }
-    if !end.ask() {
-        return Answer::NotFound;
-    }
-    Answer::Drain
-}
-
 /// The answer to a request whose first line this is, without the line feed at its end.
-pub fn answer_of(line: &[u8]) -> Answer
-    ensures { result ≡ answer_of line.now }
-{
-    answer_of_line(without_return(line))
-}
-
-/// The line without the carriage return at its end.
-fn without_return(line: &[u8]) -> &[u8]
-    ensures { result.now ≡ without_return line.now }
-{
-    if ends_in(line, b"\r".as_slice()) {
-        &line[..line.len() - 1]
-    } else {
-        line
-    }
-}
-
-/// The answer to a line that ends in a version of HTTP/1.
-fn answer_of_line(line: &[u8]) -> Answer
-    ensures { result ≡ answer_of_line line.now }
-{
-    if ends_in(line, b" HTTP/1.1".as_slice()) || ends_in(line, b" HTTP/1.0".as_slice()) {
-        answer_to(&line[..line.len() - 9])
-    } else {
-        Answer::Bad
-    }
-}
-
-/// The answer to a method and a path, between which one space stands.
-fn answer_to(asked: &[u8]) -> Answer
-    ensures { result ≡ answer_to asked.now }
-{
+pub fn answer_to(line: &[u8]) -> Answer {
+    let line = line.strip_suffix(b"\r".as_slice()).unwrap_or(line);
+    let version_1 = line.strip_suffix(b" HTTP/1.1".as_slice());
+    let Some(asked) = version_1.or(line.strip_suffix(b" HTTP/1.0".as_slice())) else {
+        return Answer::Bad;
+    };
     if asked == b"GET /metrics".as_slice() || asked == b"GET /".as_slice() {
-        return Answer::Metrics;
-    }
-    if asked == b"GET /health".as_slice() {
-        return Answer::Health;
-    }
-    if asked == b"POST /drain".as_slice() {
-        return Answer::Drain;
-    }
-    wanted(asked)
-}
-
-/// The answer to a method that the path doesn't take, or to a path at which there is nothing.
-fn wanted(asked: &[u8]) -> Answer
-    ensures { result ≡ wanted asked.now }
-{
-    if ends_in(asked, b" /metrics".as_slice())
-        || ends_in(asked, b" /".as_slice())
-        || ends_in(asked, b" /health".as_slice())
+        Answer::Metrics
+    } else if asked == b"GET /health".as_slice() {
+        Answer::Health
+    } else if asked == b"POST /drain".as_slice() {
+        Answer::Drain
+    } else if asked.ends_with(b" /metrics".as_slice())
+        || asked.ends_with(b" /".as_slice())
+        || asked.ends_with(b" /health".as_slice())
     {
-        return Answer::WantsGet;
-    }
-    if ends_in(asked, b" /drain".as_slice()) {
+        Answer::WantsGet
+    } else if asked.ends_with(b" /drain".as_slice()) {
         Answer::WantsPost
     } else {
         Answer::NotFound
     }
 }
 
-/// Whether the bytes end so.
-fn ends_in(bytes: &[u8], end: &[u8]) -> bool
-    ensures value { result ≡ ends_in bytes.now end.now }
-    ensures fits { result ≡ true → length end.now ≤ length bytes.now }
-{
-    bytes.ends_with(end)
+impl Answer {
+    /// The answer as it goes out, of an end of which this is counted, and whose oldest connection that is open began so many
+    /// seconds ago. `AllocError` where there is no memory for the whole of it.
+    pub fn text(
+        self,
+        alloc: Global,
+        counts: &Counts,
+        age: u64,
+        is_draining: bool,
+    ) -> Result<String, AllocError> {
+        let (status, words) = match self {
+            Answer::Metrics => {
+                let page = page(alloc, counts, age, is_draining)?;
+                return framed(alloc, "200 OK", page.as_str());
+            }
+            Answer::Health if is_draining => ("503 Service Unavailable", "draining\n"),
+            Answer::Health => ("200 OK", "serving\n"),
+            Answer::Drain => ("202 Accepted", "draining\n"),
+            Answer::NotFound => ("404 Not Found", "not found\n"),
+            Answer::WantsGet => (
+                "405 Method Not Allowed\r\nAllow: GET",
+                "method not allowed\n",
+            ),
+            Answer::WantsPost => (
+                "405 Method Not Allowed\r\nAllow: POST",
+                "method not allowed\n",
+            ),
+            Answer::Bad => ("400 Bad Request", "bad request\n"),
+        };
+        framed(alloc, status, words)
+    }
+}
+
+/// An answer of this status that says this.
+fn framed(alloc: Global, status: &str, body: &str) -> Result<String, AllocError> {
+    format!(in alloc;
+        "HTTP/1.1 {status}\r\nContent-Type: text/plain; version=0.0.4; charset=utf-8\r\nContent-Length: {}\r\nConnection: close\r\n\r\n{body}",
+        body.len()
+    )
 }

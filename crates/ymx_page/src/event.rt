@@ -1,0 +1,100 @@
+//! All that is told of an end, or counted.
+
+use crate::connections::{Declined, EndedConnection, Ending, Origin, Passed};
+use arrayvec::ArrayString;
+use std::fmt::{self, Write};
+use std::net::SocketAddrV4;
+use std::time::Instant;
+use ymx_policy::{Fault, Named, Notice, Reason, fault_text, notice_text, reason_text};
+
+/// Room for the longest line, in bytes, and more: that of a connection with the greatest numbers and the longest reason has
+/// 289.
+const LINE: usize = 1_000;
+
+/// A line, which takes no memory.
+pub type Line = ArrayString<LINE>;
+
+/// All that is told of an end, or counted.
+#[derive(Clone, Copy)]
+pub enum Event {
+    /// What went wrong: on the device for faults.
+    Fault(Fault),
+    /// Why: on the device for lines, always.
+    Reason(Notice),
+    /// On the device for lines, where `-v` asks for it.
+    Notice(Notice),
+    /// The system refused, for this reason, what this option asks for, and it goes on without.
+    Refused(Named, Reason),
+    /// A connection that had a stream has ended.
+    Ended(Origin, EndedConnection),
+    /// A connection was closed, as no stream was to be had for it.
+    Declined(Origin, Declined),
+    /// A session with a peer begins.
+    SessionBegan,
+    /// It has ended.
+    SessionEnded,
+    /// So many streams of the peer at this address, if it is known, were rejected for want of memory.
+    Rejected(u64, Option<SocketAddrV4>),
+}
+
+impl Event {
+    /// Whether it is told on the device for faults.
+    pub fn is_fault(&self) -> bool {
+        matches!(self, Event::Fault(_))
+    }
+
+    /// The line that tells of it, now if the time is known. None where it isn't told.
+    pub fn line(&self, is_verbose: bool, now: Option<Instant>) -> Option<Line> {
+        let mut line = Line::new();
+        let _ = match self {
+            Event::Fault(fault) => write!(line, "{}", fault_text(*fault)),
+            Event::Reason(notice) => write!(line, "{}", notice_text(*notice)),
+            Event::SessionBegan | Event::SessionEnded => return None,
+            _ if !is_verbose => return None,
+            Event::Notice(notice) => write!(line, "{}", notice_text(*notice)),
+            Event::Refused(option, reason) => {
+                write!(line, "{}", notice_text(Notice::Refused(*option, *reason)))
+            }
+            Event::Rejected(_, peer) => write!(line, "{}", notice_text(Notice::Rejected(*peer))),
+            Event::Ended(origin, ended) => write_ended(&mut line, *origin, ended, now),
+            Event::Declined(origin, why) => writeln!(line, "ymx: {origin}: no stream: {why}"),
+        };
+        Some(line)
+    }
+}
+
+/// Writes how a connection ended: what it passed each way, and how long it lasted.
+fn write_ended(
+    line: &mut Line,
+    origin: Origin,
+    ended: &EndedConnection,
+    now: Option<Instant>,
+) -> fmt::Result {
+    write!(line, "ymx: {origin}: ")?;
+    write_passed(line, ended.to_peer, "to", ended.reason)?;
+    write!(line, ", ")?;
+    write_passed(line, ended.from_peer, "from", ended.reason)?;
+    if let (Some(began), Some(now)) = (origin.began, now) {
+        let lasted = now.duration_since(began);
+        write!(
+            line,
+            ", {}.{:03} s",
+            lasted.as_secs(),
+            lasted.subsec_millis()
+        )?;
+    }
+    writeln!(line)
+}
+
+/// Writes what went to the peer, or from it, and why that way ended.
+fn write_passed(line: &mut Line, passed: Passed, way: &str, reason: Option<Reason>) -> fmt::Result {
+    write!(
+        line,
+        "{} bytes {way} the peer ({}",
+        passed.bytes, passed.ending
+    )?;
+    if let (Ending::ConnectionFailed, Some(reason)) = (passed.ending, reason) {
+        write!(line, ": {}", reason_text(reason))?;
+    }
+    write!(line, ")")
+}
