@@ -1,3 +1,1 @@
-pub mod Asked
-pub mod Read
-pub mod Watching
+mod Places

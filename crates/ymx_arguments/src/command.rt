@@ -1,12 +1,12 @@
-//! The subcommands of `ymx`, as the command line's library knows them.
+//! The command line as clap knows it, made of the rows of the options.
 
 ghost use Rattle.std.specs.Prelude.{◌≡◌, false, IfOk};
-ghost use Rattle.clap.specs.Words.{app_of, rule_of, shape_of, with_subcommand};
+ghost use Rattle.clap.specs.Words.{app_of, new_app, rule_of, shape_of};
 ghost use Rattle.clap.specs.declared.builder.command.Command.TheViews.{out-Command as fields_of};
-ghost use Rattle.ymx_arguments.specs.CommandLine.{bare_shape, file_rule, frames_shape, limit_rule, local_shape, remote_shape, script_shape, top_app, ymx_app};
+ghost use Rattle.ymx_arguments.specs.CommandLine.{action_of, named_rule, row_rule, shape_named, top_app, with_row, ymx_app};
+ghost use Rattle.ymx_arguments.specs.Rows.{stated};
 
-use crate::arguments::{bytes_argument, titled};
-use crate::ends::{local_command, remote_command};
+use crate::rows::{Kind, Row, rows};
 use clap::{Arg, ArgAction, Command};
 use std::alloc::{AllocError, Global};
 
@@ -17,100 +17,111 @@ const VERSION: &str = "0.3.0";
 pub(crate) fn command<'a>(alloc: Global) -> Result<Command<'a>, AllocError>
     ensures { IfOk result (λ command. app_of command ≡ ymx_app) }
 {
-    let command = with_tools(alloc, top_command(alloc))?;
-    with_ends(alloc, command)?.subcommand(bare(
-        alloc,
-        "selftest",
-        "Run both ends and an echo server in one process",
-    ))
+    top(alloc)
+        .subcommand(subcommand(alloc, "frames")?)?
+        .subcommand(subcommand(alloc, "script")?)?
+        .subcommand(subcommand(alloc, "local")?)?
+        .subcommand(subcommand(alloc, "remote")?)?
+        .subcommand(subcommand(alloc, "selftest")?)
 }
 
 /// The program by itself.
-fn top_command<'a>(alloc: Global) -> Command<'a>
+fn top<'a>(alloc: Global) -> Command<'a>
     ensures { app_of result ≡ top_app }
 {
-    titled(
-        alloc,
-        "ymx",
-        "Stream multiplexing by the yamux protocol, version 0",
-        HELP,
-    )
-    .version(VERSION)
-    .propagate_version(true)
-    .subcommand_required(true)
+    Command::new(alloc, "ymx")
+        .about("Stream multiplexing by the yamux protocol, version 0")
+        .after_help(HELP)
+        .version(VERSION)
+        .propagate_version(true)
+        .subcommand_required(true)
 }
 
-/// Adds `frames` and `script`.
-fn with_tools<'a>(alloc: Global, command: Command<'a>) -> Result<Command<'a>, AllocError>
-    ensures { IfOk result (λ r. app_of r ≡ with_subcommand (with_subcommand (app_of command.entry) frames_shape) script_shape) }
+/// The subcommand of this name, with its options.
+pub(crate) fn subcommand<'a>(alloc: Global, name: &'a str) -> Result<Command<'a>, AllocError>
+    ensures { IfOk result (λ command. (shape_of command ≡ shape_named name.entry.now) × ((fields_of command).has_globals ≡ false)) }
 {
-    command
-        .subcommand(frames_command(alloc)?)?
-        .subcommand(script_command(alloc)?)
+    let mut command = titled(alloc, name);
+    for row in rows() {
+        command = with_row(alloc, command, name, row)?;
+    }
+    Ok(command)
 }
 
-/// Adds `local` and `remote`.
-fn with_ends<'a>(alloc: Global, command: Command<'a>) -> Result<Command<'a>, AllocError>
-    ensures { IfOk result (λ r. app_of r ≡ with_subcommand (with_subcommand (app_of command.entry) local_shape) remote_shape) }
+/// The subcommand of this name with the option of this row, if it is one of its.
+fn with_row<'a>(
+    alloc: Global,
+    command: Command<'a>,
+    name: &str,
+    row: &Row,
+) -> Result<Command<'a>, AllocError>
+    ensures { IfOk result (λ r. (app_of r ≡ with_row name.now (app_of command.entry) (stated row.now))
+        × ((fields_of r).has_globals ≡ (fields_of command.entry).has_globals)) }
 {
-    command
-        .subcommand(local_command(alloc)?)?
-        .subcommand(remote_command(alloc)?)
+    if !row.owner.has(name) {
+        return Ok(command);
+    }
+    command.arg(argument(alloc, row)?)
 }
 
-/// The subcommand `frames`.
-pub(crate) fn frames_command<'a>(alloc: Global) -> Result<Command<'a>, AllocError>
-    ensures { IfOk result (λ command. (shape_of command ≡ frames_shape) × ((fields_of command).has_globals ≡ false)) }
+/// The subcommand of this name, with no options.
+fn titled<'a>(alloc: Global, name: &'a str) -> Command<'a>
+    ensures { (app_of result ≡ new_app name.entry.now) × ((fields_of result).has_globals ≡ false) }
 {
-    titled(
-        alloc,
-        "frames",
-        "Print the yamux frames of a file or of standard input, a line each",
-        FRAMES_HELP,
-    )
-    .arg(limit_argument(alloc))?
-    .arg(file_argument(alloc))
+    let command = Command::new(alloc, name);
+    match name {
+        "frames" => command
+            .about("Print the yamux frames of a file or of standard input, a line each")
+            .after_help(FRAMES_HELP),
+        "script" => command
+            .about("Run steps of two sessions joined by pipes, of a file or of standard input")
+            .after_help(SCRIPT_HELP),
+        "local" => command
+            .about("Forward local connections through a session")
+            .override_usage(LOCAL_USAGE)
+            .after_help(LOCAL_HELP),
+        "remote" => command
+            .about("Connect the streams of a session to a target")
+            .override_usage(REMOTE_USAGE)
+            .after_help(REMOTE_HELP),
+        _ => command.about("Run both ends and an echo server in one process"),
+    }
 }
 
-/// The subcommand `script`.
-fn script_command<'a>(alloc: Global) -> Result<Command<'a>, AllocError>
-    ensures { IfOk result (λ command. (shape_of command ≡ script_shape) × ((fields_of command).has_globals ≡ false)) }
+/// The argument of this row. Clap takes any text for it: what reads it says what is wrong with it.
+fn argument<'a>(alloc: Global, row: &Row) -> Result<Arg<'a>, AllocError>
+    ensures { IfOk result (λ arg. (rule_of arg ≡ row_rule (stated row.now)) × (arg.global ≡ false)) }
 {
-    titled(
-        alloc,
-        "script",
-        "Run steps of two sessions joined by pipes, of a file or of standard input",
-        SCRIPT_HELP,
-    )
-    .arg(file_argument(alloc))
+    let argument = Arg::new(alloc, row.name)
+        .aliases(row.old_names)?
+        .value_names(row.value)
+        .default_values(row.default)
+        .action(action_of(row.kind))
+        .required(row.is_needed)
+        .help(row.help);
+    Ok(named(argument, row))
 }
 
-/// The argument `--limit` of `frames`.
-fn limit_argument<'a>(alloc: Global) -> Arg<'a>
-    ensures { (rule_of result ≡ limit_rule) × (result.global ≡ false) }
+/// This argument with the names of this row.
+fn named<'a>(argument: Arg<'a>, row: &Row) -> Arg<'a>
+    ensures { (rule_of result ≡ named_rule (stated row.now) (rule_of argument.entry)) × (result.global ≡ argument.entry.global) }
 {
-    bytes_argument(
-        alloc,
-        "limit",
-        "The longest payload accepted, from 262144 to 16777216",
-    )
+    match (row.kind, row.letter) {
+        (Kind::Word, _) => argument,
+        (_, Some(letter)) => argument.long(row.name).short(letter),
+        (_, None) => argument.long(row.name),
+    }
 }
 
-/// The argument that names the file.
-fn file_argument<'a>(alloc: Global) -> Arg<'a>
-    ensures { (rule_of result ≡ file_rule) × (result.global ≡ false) }
+/// What clap does where an option of this kind is given.
+fn action_of(kind: Kind) -> ArgAction
+    ensures { result ≡ action_of kind }
 {
-    Arg::new(alloc, "file")
-        .value_name("FILE")
-        .action(ArgAction::Set)
-        .help("The file to read; `-` or none is standard input")
-}
-
-/// A subcommand that takes nothing.
-fn bare<'a>(alloc: Global, name: &'a str, about: &'a str) -> Command<'a>
-    ensures { (shape_of result ≡ bare_shape name.entry.now) × ((fields_of result).has_globals ≡ false) }
-{
-    Command::new(alloc, name).about(about)
+    match kind {
+        Kind::Flag => ArgAction::SetTrue,
+        Kind::Word | Kind::Text => ArgAction::Set,
+        Kind::Texts => ArgAction::Append,
+    }
 }
 
 /// What the help says at its end.
@@ -164,3 +175,30 @@ Example:
   deliver AB 100       fed 26
   B accept             accepted 1
   B read 1 10          bytes 2 6869";
+
+/// How `local` is called.
+const LOCAL_USAGE: &str =
+    "ymx local [OPTIONS] --listen <ADDRESS> <--peer <ADDRESS>|--bind <ADDRESS>>";
+
+/// How `remote` is called.
+const REMOTE_USAGE: &str =
+    "ymx remote [OPTIONS] --target <ADDRESS> <--peer <ADDRESS>|--bind <ADDRESS>>";
+
+/// What the help of `local` says at its end.
+const LOCAL_HELP: &str =
+    "It connects to the peer, and then listens. An address is an IPv4 address and a port.
+With --bind, in place of --peer, it listens for its peer first, and takes one.
+With --keep it goes on once the connection to its peer has ended.
+With --links it spreads its users over so many connections; its peer needs --keep or --peers.
+
+Example:
+  ymx local --listen 127.0.0.1:8080 --peer 192.0.2.7:4000";
+
+/// What the help of `remote` says at its end.
+const REMOTE_HELP: &str =
+    "It accepts one connection, and ends with it. An address is an IPv4 address and a port.
+With --peer, in place of --bind, it connects to its peer, as behind a firewall.
+With --keep it goes on with others, and never ends by itself.
+
+Example:
+  ymx remote --bind 192.0.2.7:4000 --target 127.0.0.1:80";

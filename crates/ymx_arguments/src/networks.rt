@@ -1,47 +1,28 @@
 //! The networks from which a peer may call, as texts name them.
 
 ghost use Rattle.std.specs.Prelude.{◌≡◌, ◌-◌, length, map, min, slice_get, MatchOption, MatchResult};
-ghost use Rattle.ymx_arguments.specs.CommandLine.{AreNetworksOf, IsBadNetwork, IsNetwork, IsNoNetwork, StandsFor};
+ghost use Rattle.ymx_arguments.specs.CommandLine.{IsIn, IsNetwork, IsNoNetwork, StandsFor};
 
-use crate::arguments::{BadOption, number_in};
+use crate::options::number_in;
 use std::net::Ipv4Addr;
-use ymx_policy::{Network, Networks};
+use ymx_policy::Network;
 
-/// How many networks are taken.
-const MOST_NETWORKS: usize = 8;
-
-/// The network that has every address.
-const EVERYWHERE: Network = Network {
-    address: Ipv4Addr::UNSPECIFIED,
-    bits: 0,
-};
-
-/// The networks of these texts, of which there may be 8: the last is repeated where there are fewer, and there is every
-/// address where there is none.
-pub(crate) fn networks_in<'a>(texts: &[&'a str]) -> Result<Networks, BadOption<'a>>
-    ensures { MatchResult result (λ from. AreNetworksOf (map (λ text. text.now) texts.now) from.networks) (IsBadNetwork (map (λ text. text.now) texts.now)) }
-{
-    if texts.len() > MOST_NETWORKS {
-        return Err(BadOption::ManyNetworks);
-    }
-    let mut networks = [EVERYWHERE; MOST_NETWORKS];
-    for place in 0..MOST_NETWORKS {
-        networks[place] = network_at(texts, place)?;
-    }
-    Ok(Networks { networks })
-}
-
-/// The network of the text in this place, or of the last one where there are fewer.
-fn network_at<'a>(texts: &[&'a str], place: usize) -> Result<Network, BadOption<'a>>
-    ensures { MatchResult result (StandsFor (slice_get (map (λ text. text.now) texts.now) (min place (length texts.now - 1)))) (IsBadNetwork (map (λ text. text.now) texts.now)) }
+/// The network of the text in this place, or of the last one where there are fewer: every address where there is none.
+/// An error is a text that names no network.
+pub(crate) fn network_at<'a>(texts: &[&'a str], place: usize) -> Result<Network, &'a str>
+    ensures { MatchResult result (StandsFor (slice_get (map (λ text. text.now) texts.now) (min place (length texts.now - 1))))
+        (λ text. IsIn (map (λ text. text.now) texts.now) text.now × IsNoNetwork text.now) }
 {
     let last = texts.len().saturating_sub(1);
     let Some(text) = texts.get(place.min(last)) else {
-        return Ok(EVERYWHERE);
+        return Ok(Network {
+            address: Ipv4Addr::UNSPECIFIED,
+            bits: 0,
+        });
     };
     match network_in(text) {
         Some(network) => Ok(network),
-        None => Err(BadOption::Network { text }),
+        None => Err(text),
     }
 }
 

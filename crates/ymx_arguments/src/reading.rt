@@ -1,41 +1,17 @@
 //! What the words of a command line ask for.
 
-ghost use Rattle.std.specs.Prelude.{ℕ, List, Option, None, Some, ◌≡◌, ◌≤◌, ◌⊎◌, codes, decimal, map, option_and_then, option_map, IfErr, IfOk, IfSome, IsErr, IsSomeAnd, MatchResult};
-ghost use Rattle.clap.specs.Words.{first_value, found_of, kind_of, one_of, subcommand_of, subcommand_rows_of};
-ghost use Rattle.ymx_arguments.specs.CommandLine.{AsksFrames, AsksNoHelp, AsksNoLines, AsksScript, GivesBadOption, HasBadOption, IsClap, IsEndTask, IsFaultFor, IsFaultOf, IsFrames, IsMistakeOfMet, IsNotSaid, IsScript, IsSilentTask, IsToldBy, LacksMemory, NamesAnother, SaysMistake, file_of, named_words, ymx_app};
+ghost use Rattle.std.specs.Prelude.{◌≡◌, map, IfErr, IfOk, MatchResult};
+ghost use Rattle.clap.specs.Words.{found_of, kind_of, rows_of, subcommand_of, subcommand_rows_of};
+ghost use Rattle.ymx_arguments.specs.CommandLine.{IsClap, IsFaultFor, IsFaultOf, kind_for, IsMistakeFor, IsMistakeOf, IsTaskFor, IsTaskOf, LacksMemory, ymx_app};
 
-use crate::arguments::{BadOption, number_of};
-use crate::command::{command, frames_command};
-use crate::ends::{local_command, remote_command};
-use crate::options::{TunnelCommand, tunnel_command};
+use crate::command::{command, subcommand};
+use crate::options::{BadOption, file, local_options, number_or, remote_options};
+use crate::rows::row_of;
 use clap::error::ErrorKind;
-use clap::{ArgMatches, Command, Error};
+use clap::{ArgMatches, Error};
 use std::alloc::{AllocError, Global};
 use std::convert::AsStr;
-
-/// The longest payload of a Data frame that is accepted where the command line says nothing.
-const DEFAULT_LIMIT: u32 = 262_144;
-
-/// What is said where no way to meet the peer was given.
-const NO_PEER: &str =
-    "the following required arguments were not provided:\n  <--peer <ADDRESS>|--bind <ADDRESS>>";
-
-/// What is said where two ways to meet the peer were given.
-const TWO_PEERS: &str = "the argument '--peer <ADDRESS>' cannot be used with '--bind <ADDRESS>'";
-
-/// What a network is.
-const NETWORK_FORM: &str =
-    "it wants an IPv4 address, or one with '/' and a number from 0 to 32, as 192.0.2.0/24";
-
-/// What is said where there are too many networks.
-const MANY_NETWORKS: &str = "the argument '--from <NETWORK>' can be given 8 times at most";
-
-/// Which addresses the status is asked for at.
-const STATUS_FORM: &str =
-    "it wants an address of the loopback, as 127.0.0.1:9100, unless '--status-anywhere' is given";
-
-/// What is said where the status may be asked for anywhere, and is asked for nowhere.
-const NO_STATUS: &str = "the argument '--status-anywhere' is only for '--status <ADDRESS>'";
+use ymx_policy::{LocalOptions, RemoteOptions};
 
 /// What a command line asks for.
 #[derive(Clone, Copy)]
@@ -45,8 +21,12 @@ pub enum Task<'a> {
     Frames { limit: u32, file: Option<&'a str> },
     /// The script of a file or, with no name, of standard input, to be played.
     Script { file: Option<&'a str> },
-    /// A subcommand of the tunnel.
-    Tunnel(TunnelCommand),
+    /// An end of a tunnel that has users.
+    Local(LocalOptions),
+    /// An end of a tunnel that calls a target.
+    Remote(RemoteOptions),
+    /// The test of a tunnel, in one process.
+    Selftest,
 }
 
 /// Why the words of a command line name no task.
@@ -77,31 +57,41 @@ impl From<Error> for CommandFault<'_> {
 
 /// Reads the words of a command line, the first of which is the program's name.
 pub fn parse<'a, S: AsStr>(alloc: Global, words: &'a [S]) -> Result<Task<'a>, CommandFault<'a>>
-    // Words that ask for frames or for a script name that task, or there is no memory to read them.
-    ensures frames { (limit : ℕ) (file : Option (List ℕ)) → AsksFrames (map S.text words.entry.now) limit file →
-        MatchResult result (IsFrames limit file) LacksMemory }
-    ensures script { (file : Option (List ℕ)) → AsksScript (map S.text words.entry.now) file →
-        MatchResult result (IsScript file) LacksMemory }
-    // A limit is in its range.
-    ensures limits { IfOk result (λ task. (limit : ℕ) (file : Option (List ℕ)) → IsFrames limit file task → (262144 ≤ limit) × (limit ≤ 16777216)) }
-    // Words that name an end of a tunnel ask for one.
-    ensures other { NamesAnother (map S.text words.entry.now) → IfOk result IsEndTask }
-    // Where no help and no version is asked for, a mistake is said.
-    ensures mistake { AsksNoHelp (map S.text words.entry.now) → IfErr result SaysMistake }
-    // Without `-v` the task says no lines.
-    ensures silent { AsksNoLines (map S.text words.entry.now) → IfOk result IsSilentTask }
-    // A number that isn't decimal digits alone, or is out of its range, is refused. So is an end of a tunnel that is to
-    // meet its peer in no way, or in two.
-    ensures options { GivesBadOption (map S.text words.entry.now) → IsErr result }
-    // Whatever the words, an end of a tunnel has the options that they gave.
-    ensures told { IfOk result (IsToldBy (subcommand_of ymx_app (map S.text words.entry.now))) }
-    // A fault is one that the words have.
+    // The task is what the words ask for, with what their options say.
+    ensures task { IfOk result (IsTaskOf (subcommand_of ymx_app (map S.text words.entry.now))) }
+    // A fault is one that the words have, or there was no memory to read them.
     ensures fault { IfErr result (IsFaultOf (map S.text words.entry.now)) }
 {
     let matches = command(alloc)?.try_get_matches_from(words)?;
     match task_of(&matches) {
         Ok(task) => Ok(task),
         Err(bad) => Err(fault_for(alloc, name_of(&matches), bad)?),
+    }
+}
+
+/// What the matches of a command line ask for.
+fn task_of<'a>(matches: &ArgMatches<'a>) -> Result<Task<'a>, BadOption<'a>>
+    ensures { MatchResult result (IsTaskOf (subcommand_rows_of matches.now)) (IsMistakeOf (subcommand_rows_of matches.now)) }
+{
+    match matches.subcommand() {
+        Some((name, found)) => task_for(name, found),
+        None => Ok(Task::Selftest),
+    }
+}
+
+/// What the subcommand of this name asks for with these options.
+fn task_for<'a>(name: &str, found: &ArgMatches<'a>) -> Result<Task<'a>, BadOption<'a>>
+    ensures { MatchResult result (IsTaskFor name.now (rows_of (found_of found.now))) (IsMistakeFor name.now (rows_of (found_of found.now))) }
+{
+    match name {
+        "frames" => Ok(Task::Frames {
+            limit: number_or(found, "limit", 262_144)?,
+            file: file(found),
+        }),
+        "script" => Ok(Task::Script { file: file(found) }),
+        "local" => Ok(Task::Local(local_options(found)?)),
+        "remote" => Ok(Task::Remote(remote_options(found)?)),
+        _ => Ok(Task::Selftest),
     }
 }
 
@@ -113,130 +103,80 @@ fn name_of<'a>(matches: &ArgMatches<'a>) -> &'a str {
     }
 }
 
-/// Says that options of this subcommand can't be taken: an address in the program's own words, and all else in the form of
-/// clap's mistakes.
+/// Says what is wrong with the options of this subcommand: an address in the program's own words, and all else in the form
+/// of clap's mistakes, with how the subcommand is called.
 fn fault_for<'a>(
     alloc: Global,
     name: &str,
     bad: BadOption<'a>,
 ) -> Result<CommandFault<'a>, AllocError>
-    ensures kind { IfOk result (IsFaultFor bad.entry) }
-    ensures mistake { IfOk result SaysMistake }
+    ensures { IfOk result (IsFaultFor bad.entry) }
+{
+    if let BadOption::Address { name, text } = bad {
+        return Ok(CommandFault::BadAddress(name, text));
+    }
+    let called = format!(in alloc; "ymx {name}")?;
+    let mut met = subcommand(alloc, name)?.bin_name(called.as_str())?;
+    let message = message_of(alloc, bad)?;
+    Ok(CommandFault::Clap(met.error(kind_for(bad), message.as_str())?))
+}
+
+/// Which of clap's mistakes this is.
+fn kind_for(bad: BadOption<'_>) -> ErrorKind
+    ensures { result ≡ kind_for bad.entry }
 {
     match bad {
-        BadOption::Number {
-            name: option,
-            text,
-            least,
-            most,
-        } => {
-            let value = value_of(option);
-            let message = format!(in alloc;
-                "invalid value '{text}' for '--{option} <{value}>': a number is decimal digits alone, from {least} to {most}"
-            )?;
-            clap_fault(alloc, name, ErrorKind::ValueValidation, message.as_str())
+        BadOption::Clash { .. } | BadOption::TwoPeers => ErrorKind::ArgumentConflict,
+        BadOption::NoPeer | BadOption::NoStatus => ErrorKind::MissingRequiredArgument,
+        BadOption::ManyNetworks => ErrorKind::TooManyValues,
+        BadOption::Number { .. }
+        | BadOption::Address { .. }
+        | BadOption::Network { .. }
+        | BadOption::FarStatus { .. } => ErrorKind::ValueValidation,
+    }
+}
+
+/// What is said of this mistake.
+fn message_of(alloc: Global, bad: BadOption<'_>) -> Result<String, AllocError> {
+    match bad {
+        BadOption::Number { name, text } => {
+            let row = row_of(name);
+            let value = row.value_name();
+            format!(in alloc;
+                "invalid value '{text}' for '--{name} <{value}>': a number is decimal digits alone, from {} to {}",
+                row.least, row.most
+            )
         }
-        BadOption::NoPeer => clap_fault(alloc, name, ErrorKind::MissingRequiredArgument, NO_PEER),
-        BadOption::TwoPeers => clap_fault(alloc, name, ErrorKind::ArgumentConflict, TWO_PEERS),
-        BadOption::Clash {
-            name: option,
-            other,
-        } => {
-            let value = value_of(option);
-            let message = format!(in alloc;
-                "the argument '--{option} <{value}>' cannot be used with '--{other} <ADDRESS>'"
-            )?;
-            clap_fault(alloc, name, ErrorKind::ArgumentConflict, message.as_str())
+        BadOption::Address { name, text } => format!(in alloc;
+            "bad address '{text}' for '--{name}'"
+        ),
+        BadOption::Clash { name, other } => {
+            let value = row_of(name).value_name();
+            format!(in alloc;
+                "the argument '--{name} <{value}>' cannot be used with '--{other} <ADDRESS>'"
+            )
         }
-        BadOption::Address { name: option, text } => Ok(CommandFault::BadAddress(option, text)),
+        BadOption::NoPeer => format!(in alloc;
+            "the following required arguments were not provided:\n  <--peer <ADDRESS>|--bind <ADDRESS>>"
+        ),
+        BadOption::TwoPeers => format!(in alloc;
+            "the argument '--peer <ADDRESS>' cannot be used with '--bind <ADDRESS>'"
+        ),
         BadOption::Network { text } => {
-            let message = format!(in alloc;
-                "invalid value '{text}' for '--from <NETWORK>': {NETWORK_FORM}"
-            )?;
-            clap_fault(alloc, name, ErrorKind::ValueValidation, message.as_str())
+            format!(in alloc;
+                "invalid value '{text}' for '--from <NETWORK>': it wants an IPv4 address, or one with '/' and a number from 0 to 32, as 192.0.2.0/24"
+            )
         }
-        BadOption::ManyNetworks => clap_fault(alloc, name, ErrorKind::TooManyValues, MANY_NETWORKS),
+        BadOption::ManyNetworks => format!(in alloc;
+            "the argument '--from <NETWORK>' can be given 8 times at most"
+        ),
         BadOption::FarStatus { text } => {
-            let message = format!(in alloc;
-                "invalid value '{text}' for '--status <ADDRESS>': {STATUS_FORM}"
-            )?;
-            clap_fault(alloc, name, ErrorKind::ValueValidation, message.as_str())
+            format!(in alloc;
+                "invalid value '{text}' for '--status <ADDRESS>': it wants an address of the loopback, as 127.0.0.1:9100, unless '--status-anywhere' is given"
+            )
         }
-        BadOption::NoStatus => {
-            clap_fault(alloc, name, ErrorKind::MissingRequiredArgument, NO_STATUS)
-        }
-    }
-}
-
-/// What is named as the value of this option.
-fn value_of(option: &str) -> &'static str {
-    match option {
-        "limit" | "window" => "BYTES",
-        "ping" | "keepalive" | "timeout" => "SECONDS",
-        "from" => "NETWORK",
-        _ => "N",
-    }
-}
-
-/// A mistake of this kind, which says this, and how this subcommand is called.
-fn clap_fault<'a>(
-    alloc: Global,
-    name: &str,
-    kind: ErrorKind,
-    message: &str,
-) -> Result<CommandFault<'a>, AllocError>
-    ensures { IfOk result (IsClap kind) }
-{
-    let error = named_command(alloc, name)?.error(kind, message)?;
-    Ok(CommandFault::Clap(error))
-}
-
-/// The subcommand of this name, as the program's user calls it.
-fn named_command<'a>(alloc: Global, name: &str) -> Result<Command<'a>, AllocError> {
-    match name {
-        "frames" => frames_command(alloc)?.bin_name("ymx frames"),
-        "local" => local_command(alloc)?.bin_name("ymx local"),
-        "remote" => remote_command(alloc)?.bin_name("ymx remote"),
-        _ => command(alloc),
-    }
-}
-
-/// What the matches of a command line ask for.
-fn task_of<'a>(matches: &ArgMatches<'a>) -> Result<Task<'a>, BadOption<'a>>
-    ensures frames { (limit : ℕ) (word : Option (List ℕ)) → 262144 ≤ limit → limit ≤ 16777216
-        → named_words (subcommand_rows_of matches.now) ≡ Some (codes "frames", Some (decimal limit), word)
-        → MatchResult result (IsFrames limit (option_and_then file_of word)) (λ _. ⊥) }
-    ensures script { (word : Option (List ℕ)) → named_words (subcommand_rows_of matches.now) ≡ Some (codes "script", None, word)
-        → MatchResult result (IsScript (option_and_then file_of word)) (λ _. ⊥) }
-    ensures other { IsSomeAnd (subcommand_rows_of matches.now) (λ p. (p.0 ≡ codes "local") ⊎ (p.0 ≡ codes "remote")) → IfOk result IsEndTask }
-    ensures limits { IfOk result (λ task. (limit : ℕ) (file : Option (List ℕ)) → IsFrames limit file task → (262144 ≤ limit) × (limit ≤ 16777216)) }
-    ensures silent { IfSome (subcommand_rows_of matches.now) (λ p. IsNotSaid (one_of (codes "verbose") p.1)) → IfOk result IsSilentTask }
-    ensures options { IsSomeAnd (subcommand_rows_of matches.now) HasBadOption → IsErr result }
-    ensures told { IfOk result (IsToldBy (subcommand_rows_of matches.now)) }
-    ensures mistake { IfErr result (IsMistakeOfMet (subcommand_rows_of matches.now)) }
-{
-    match matches.subcommand() {
-        Some(("frames", found)) => {
-            let limit = number_of(found, "limit", 262_144, 16_777_216)?;
-            Ok(Task::Frames {
-                limit: limit.unwrap_or(DEFAULT_LIMIT),
-                file: named_file(found),
-            })
-        }
-        Some(("script", found)) => Ok(Task::Script {
-            file: named_file(found),
-        }),
-        Some((name, found)) => Ok(Task::Tunnel(tunnel_command(name, found)?)),
-        None => Ok(Task::Tunnel(TunnelCommand::Selftest)),
-    }
-}
-
-/// The file whose name was given.
-fn named_file<'a>(found: &ArgMatches<'a>) -> Option<&'a str>
-    ensures { option_map (λ name. name.now) result ≡ option_and_then file_of (first_value (found_of found.now) (codes "file")) }
-{
-    match found.get_str("file") {
-        Some("-") | None => None,
-        Some(name) => Some(name),
+        BadOption::NoStatus => format!(in alloc;
+            "the argument '--status-anywhere' is only for '--status <ADDRESS>'"
+        ),
     }
 }

@@ -1,6 +1,5 @@
-use Rattle.std.proofs.Common.{◌≡◌, length, arith, lit<, sym, subst, inl, inr, Result}
+use Rattle.std.proofs.Common.{◌≡◌, length, arith, lit<, inl, inr}
 use Rattle.std.specs.List.{position_or_len}
-use Rattle.std.specs.Net.Grammar.{IsIpv4Text, Parses}
 use Rattle.ymx_arguments.specs.CommandLine.{is_slash}
 use Rattle.ymx_arguments.proofs.networks.network_in.Goals as goal
 

@@ -1,8 +1,0 @@
-use Rattle.std.proofs.Common.{◌≡◌, ◌-◌, ◌<◌, ℕ, length, map, min}
-use Rattle.std.specs.Prelude.{IsSomeAnd, slice_get}
-use Rattle.ymx_arguments.specs.CommandLine.{StandsFor}
-use Rattle.ymx_arguments.proofs.networks.networks_in.Given as goal
-
-abbrev pub invariant-loop-place : goal.invariant-loop-place
-invariant-loop-place l =
-    (length l.networks ≡ 8) × ((k : ℕ) → k < l.place → IsSomeAnd (slice_get l.networks k) (StandsFor (slice_get (map (λ text. text.now) l.texts) (min k (length l.texts - 1)))))
