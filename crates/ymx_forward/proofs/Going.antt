@@ -9,7 +9,14 @@ use Rattle.ymx_engine.specs.Turns.{Line, Lines, line_of, is_over_at, IsIdle, IsB
 use Rattle.ymx_engine.specs.Ways.{is_over}
 use Rattle.ymx_engine.specs.Work.{HasRead, Reads, ServesFirst, ServesOne, WorksOnce, Writes}
 use Rattle.ymx_engine.proofs.Turning.{behind_few}
-use Rattle.ymx_engine.proofs.Attending.{has_read_then, has_written_then, one_then, read_once, runs_from, serves_first, serves_none, then_has_read, then_has_written, then_one, runs_then, written_once}
+use Rattle.ymx_engine.proofs.Attending.{has_read_then, has_written_then, one_then, read_once, runs_from, serves_first, serves_none, runs_same, then_has_read, then_has_written, then_one, runs_then, written_once}
+
+-- nothing was done
+pub same : (a b : Tunnel) → b ≡ a → Runs a b
+same a b e = subst (λ (v : Tunnel). Runs a v) (sym e) (runs_same a)
+
+pub then : (a b c : Tunnel) → Runs a b → Runs b c → Runs a c
+then a b c x y = runs_then a b c x y
 
 -- what went on behind, where nothing was done before
 pub runs_behind : (a b c : Tunnel) → a ≡ b → Runs a c → Runs b c

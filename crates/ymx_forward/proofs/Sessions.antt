@@ -9,10 +9,6 @@ use Rattle.ymx_session.specs.NewSessions.{new_fault, first_id}
 use Rattle.ymx_session.specs.declared.new_fault.NewFault.{NewFault}
 use Rattle.ymx_session.specs.declared.new_fault.NewFault.TheVariants.{BadWindow}
 use Rattle.ymx_law_session.specs.Limits.{IsWithin}
-use Rattle.ymx_policy.specs.declared.asks.Session.{Session as Asked}
-use Rattle.ymx_forward.specs.declared.tunnel.Refused.{Refused}
-use Rattle.ymx_forward.specs.declared.tunnel.Refused.TheVariants as refused
-use Rattle.ymx_forward.specs.Sessions.{IsUnmade, MayRefuse}
 use Rattle.ymx_law_session.proofs.limits.HistoriesKeep.{new-keeps}
 
 good_window : (bad : Bool) (other : Option NewFault) → cond bad (Some BadWindow) other ≡ None → bad ≡ false
@@ -33,9 +29,3 @@ within Client window s h e =
 within Server window s h e =
     let w = good_window (nat_lt window first_credit || nat_lt 16777216 window) None h in
     subst IsWithin (sym e) (new-keeps Server window 2 (low window w) (high window w) refl (omega arith) (omega arith))
-
--- what could not be made for a role may be refused
-pub unmade : (role : Role) (asked : Asked) (why : Refused) → IsUnmade role asked why → MayRefuse asked why
-unmade role asked (refused.Unmade fault) h = (role, h)
-unmade role asked (refused.NoEnd none) h = absurd h
-unmade role asked (refused.Unwatched events) h = absurd h

@@ -1,6 +1,5 @@
 -- What the test of the program sends through its three connections, and what it prints of each (this project's own).
-use Rattle.std.specs.Prelude.{◌⊎◌, ◌==◌, ◌++◌, ℕ, List, [], ◌∷◌, Option, codes, if◌then◌else◌}
-use Rattle.ymx_policy.specs.Voices.{AreSaid}
+use Rattle.std.specs.Prelude.{◌==◌, ◌++◌, ℕ, List, codes, if◌then◌else◌}
 
 -- how many bytes the connection of this number sends, of three
 abbrev pub size_of : ℕ → ℕ
@@ -16,10 +15,3 @@ line_of number =
 -- all three
 abbrev pub echo_lines : List ℕ
 echo_lines = line_of 1 ++ (line_of 2 ++ line_of 3)
-
--- The first of these lines were printed, and no others: each was taken, or of the last one a beginning as the device failed.
-pub record FirstArePrinted (taken taken_new : Option (List ℕ)) (failures failures_new : ℕ) : Type 0 where
-  pub lines : AreSaid taken taken_new failures failures_new []
-      ⊎ (AreSaid taken taken_new failures failures_new (line_of 1 ∷ [])
-      ⊎ (AreSaid taken taken_new failures failures_new (line_of 2 ∷ line_of 1 ∷ [])
-      ⊎ AreSaid taken taken_new failures failures_new (line_of 3 ∷ line_of 2 ∷ line_of 1 ∷ [])))

@@ -13,12 +13,6 @@ pub(crate) struct Drain {
     sleepers: Mutex<Vec<Option<Arc<Waker, Global>>>>,
 }
 
-/// It was asked: only [`Drain::ask`] makes one.
-#[derive(Drop)]
-pub(crate) struct Asked {
-    _by_drain: (),
-}
-
 impl Drain {
     /// It was not asked.
     pub(crate) fn new(alloc: Global) -> Drain {
@@ -29,7 +23,7 @@ impl Drain {
     }
 
     /// From now on it takes no more connections. Asked once more it does nothing further.
-    pub(crate) fn ask<R: Wait>(&self, rt: &R) -> Asked {
+    pub(crate) fn ask<R: Wait>(&self, rt: &R) {
         self.is_asked.store(true, Ordering::SeqCst);
         let sleepers = self.sleepers.lock(rt);
         for sleeper in sleepers.as_slice() {
@@ -37,7 +31,6 @@ impl Drain {
                 waker.wake();
             }
         }
-        Asked { _by_drain: () }
     }
 
     /// Whether it was asked.
@@ -45,49 +38,28 @@ impl Drain {
         self.is_asked.load(Ordering::SeqCst)
     }
 
-    /// This ends the wait of somebody who is to hear of it, at once where it was asked before. The place that he has until he
+    /// This ends the wait of somebody who is to hear of it, at once where it was asked before. The seat that he has until he
     /// leaves. None where there is no memory for that.
     pub(crate) fn wakes<R: Wait>(&self, rt: &R, waker: Arc<Waker, Global>) -> Option<usize> {
         let mut sleepers = self.sleepers.lock(rt);
-        let place = free_place(sleepers.as_slice());
         if self.is_asked() {
             waker.wake();
         }
-        match sleepers.as_mut_slice().get_mut(place) {
+        let free = sleepers.as_slice().iter().position(|it| it.is_none());
+        let seat = free.unwrap_or(sleepers.len());
+        match sleepers.as_mut_slice().get_mut(seat) {
             Some(sleeper) => *sleeper = Some(waker),
             None => sleepers.push(Some(waker)).ok()?,
         }
-        Some(place)
+        Some(seat)
     }
 
-    /// Who has this place leaves.
-    pub(crate) fn forget<R: Wait>(&self, rt: &R, place: usize) {
+    /// Who has this seat leaves.
+    pub(crate) fn forget<R: Wait>(&self, rt: &R, seat: usize) {
         let mut sleepers = self.sleepers.lock(rt);
-        if let Some(sleeper) = sleepers.as_mut_slice().get_mut(place) {
+        if let Some(sleeper) = sleepers.as_mut_slice().get_mut(seat) {
             *sleeper = None;
         }
-    }
-}
-
-/// The first place that nobody has: behind all others where each has somebody.
-fn free_place(sleepers: &[Option<Arc<Waker, Global>>]) -> usize {
-    for place in 0..sleepers.len() {
-        let is_free = match sleepers.get(place) {
-            Some(sleeper) => sleeper.is_none(),
-            None => true,
-        };
-        if is_free {
-            return place;
-        }
-    }
-    sleepers.len()
-}
-
-/// The same for somebody else, if there is one.
-pub(crate) fn shared(drain: &Option<Arc<Drain, Global>>) -> Option<Arc<Drain, Global>> {
-    match drain {
-        Some(drain) => Arc::try_clone(drain).ok(),
-        None => None,
     }
 }
 

@@ -1,60 +1,39 @@
 //! The connection to a peer.
 
-ghost use Rattle.std.specs.Prelude.{◌≡◌, false};
-
+use crate::socket::Socket;
 use crate::stream::Stream;
-use crate::system::{TcpConnection, call};
+use crate::system::{NoEvents, Poll, TcpConnection, call};
 use std::io;
 use std::net::{Net, SocketAddr, SocketAddrV4, TcpStream};
 use std::time::Duration;
-use ymx_policy::{Callee, Keepalive};
+use ymx_policy::{Callee, Session};
 
-/// A connection to a peer, which never waits, and whose bytes go out at once.
+/// A connection to a peer, which never waits, and whose bytes go out at once. No poll tells of it yet.
 #[derive(Drop)]
 pub(crate) struct Peer {
     socket: TcpConnection,
     /// Where it is, if the system says so.
     address: Option<SocketAddrV4>,
-    // No poll was asked to tell of it.
-    ghost fresh: { socket.is_registered ≡ false },
 }
 
 impl Peer {
-    ghost use Rattle.std.specs.Prelude.{IfOk};
-    ghost use Rattle.ymx_forward.specs.Calls.{IsCalled};
-
-    /// Calls the peer. Behind its limit, if it has one, the fault is `TimedOut`.
-    pub(crate) fn call<R: Net<Stream = TcpStream>>(rt: &R, callee: Callee) -> io::Result<Peer>
-        // It is a connection that was made by a call of that address.
-        ensures { IfOk result (IsCalled callee) }
-    {
+    /// Calls the peer. After its limit, if it has one, the error is `TimedOut`.
+    pub(crate) fn call<R: Net<Stream = TcpStream>>(rt: &R, callee: Callee) -> io::Result<Peer> {
         let limit = match callee.limit {
             Some(seconds) => Some(Duration::from_secs(seconds as u64)),
             None => None,
         };
         let socket = call(rt, SocketAddr::V4(callee.address), limit)?;
-        Ok(Peer::new(socket))
+        Ok(Peer::of(socket))
     }
 
-    /// A peer over this connection. The fault is that the system can't make it one that never waits.
+    /// A peer over this connection. The error is that the system can't make it one that never waits.
     pub(crate) fn over(connection: TcpStream) -> io::Result<Peer> {
-        let socket = TcpConnection::of(connection)?;
-        Ok(Peer::new(socket))
-    }
-
-    /// A peer over this connection, which never waits. None where a poll was asked to tell of it.
-    pub(crate) fn of(socket: TcpConnection) -> Option<Peer> {
-        if socket.is_registered() {
-            return None;
-        }
-        Some(Peer::new(socket))
+        Ok(Peer::of(TcpConnection::of(connection)?))
     }
 
     /// A peer over this connection, which never waits.
-    fn new(socket: TcpConnection) -> Peer
-        requires { socket.is_registered ≡ false }
-        ensures { result.socket.called ≡ socket.called }
-    {
+    pub(crate) fn of(socket: TcpConnection) -> Peer {
         socket.send_at_once();
         let address = match socket.peer() {
             Some(SocketAddr::V4(address)) => Some(address),
@@ -67,30 +46,25 @@ impl Peer {
     }
 
     /// Where it is, if the system says so.
-    pub(crate) fn address(&self) -> Option<SocketAddrV4>
-        ensures { result ≡ self.now.address }
-    {
+    pub(crate) fn address(&self) -> Option<SocketAddrV4> {
         self.address
     }
 
-    /// Where nothing comes of it for so long, the system asks whether it is still there.
-    pub(crate) fn keep_alive(&self, keepalive: Keepalive) {
-        self.socket.keep_alive(keepalive);
-    }
-
-    /// The peer counts as gone where it is silent for twice so long: the system too fails the connection where what was sent
-    /// isn't acknowledged for that time.
-    pub(crate) fn limit_silence(&self, patience: Duration) {
-        let milliseconds = u32::try_from(patience.as_millis()).unwrap_or(u32::MAX);
-        self.socket.limit_silence(milliseconds.saturating_mul(2));
-    }
-
-    /// Its connection, of which no poll was asked to tell.
-    pub(crate) fn into_socket(self) -> TcpConnection
-        ensures registered { result.is_registered ≡ false }
-        ensures called { result.called ≡ self.socket.called }
-    {
+    /// The wire of such a session, of which this poll tells under this token. The system asks a silent peer for a sign, if it
+    /// is to, and fails the connection where what was sent isn't acknowledged for twice the seconds of `--ping`.
+    pub(crate) fn into_wire(
+        self,
+        session: &Session,
+        poll: &Poll,
+        token: usize,
+    ) -> Result<Socket, NoEvents> {
         let Peer { socket, address: _ } = self;
-        socket
+        if let Some(keepalive) = session.keepalive {
+            socket.keep_alive(keepalive);
+        }
+        if let Some(seconds) = session.ping {
+            socket.limit_silence(seconds.saturating_mul(2_000));
+        }
+        Socket::wire(socket, poll, token)
     }
 }

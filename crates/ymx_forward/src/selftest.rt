@@ -5,40 +5,34 @@
 //! Then whoever waits there is told at once. Who could still wait for a connection that nobody makes is released at the
 //! end.
 
-ghost use Rattle.std.specs.Prelude.{[], ◌≡◌, ◌⊎◌, IfOk, IfSome, IsSome, OnErr, OnOk};
+ghost use Rattle.std.specs.Prelude.{◌≡◌, IfOk, IfSome, IsSome, OnOk};
 ghost use Rattle.std.specs.Io.KnownBytes.{Appends, Keeps};
-ghost use Rattle.ymx_forward.specs.Echoes.{FirstArePrinted, echo_lines, line_of};
-ghost use Rattle.ymx_policy.specs.Voices.{AreSaid, IsSaid};
+ghost use Rattle.ymx_forward.specs.Echoes.{echo_lines, line_of};
 
-use crate::accepting::Listening;
+use crate::drain::Drain;
 use crate::echoing::{Echoed, line_of, size_of};
 use crate::host::Host;
 use crate::peer::Peer;
-use crate::site::Site;
-use crate::sockets::listen_at;
-use crate::starting::StartFault;
-use crate::system::{accept, connect, echo, finish, send};
-use crate::tunnel_end::{LISTENER, TunnelEnd};
-use crate::watching::Unwatched;
+use crate::places::{context_of, new_sink};
+use crate::session::{Side, run_session};
+use crate::system::{Poll, StartFault, accept, address_of, connect, echo, finish, listen, send};
+use crate::users::{Common, Users};
 use arrayvec::ArrayString;
 use crossbeam_channel::{Receiver, Sender, bounded};
 use std::alloc::{AllocError, Global};
 use std::fmt::Write;
 use std::net::{Ipv4Addr, Net, SocketAddr, SocketAddrV4, TcpListener, TcpStream};
-use std::sync::Wait;
-use std::thread;
+use std::sync::{Arc, Wait};
 use std::thread::{Threads, join_mut};
-use ymx_model::{Outlet, push_all};
-use ymx_policy::{Fault, Session, Side, fault_text};
+use std::{io, thread};
+use ymx_model::{Outlet, WriterOutlet, push_all};
+use ymx_policy::{Fault, Session, Side as Role, Users as Comers, fault_text};
 
 /// How many connections there are.
 const CONNECTIONS: u8 = 3;
 
 /// The window of both sessions, in bytes.
 const WINDOW: u32 = 262_144;
-
-/// How many results may wait to be printed.
-const WAITING_RESULTS: usize = 3;
 
 /// What all three connections sent has come back, and their lines are printed. Only [`print_all`] makes one, of what
 /// [`Echoed::read`] has compared.
@@ -49,28 +43,21 @@ pub struct AllEchoed {
     third: Echoed,
 }
 
-/// Where two of the servers listen.
-#[derive(Clone, Copy)]
-struct Addresses {
-    echo: SocketAddrV4,
-    local: SocketAddrV4,
-}
-
-/// What the servers own.
+/// What the servers own: where two of them listen, and both ends of the connection that carries the session.
 #[derive(Drop)]
 struct Owned {
     echo: TcpListener,
     local: TcpListener,
-    /// The connection that carries the session, at the end of the tunnel at the client.
     near: TcpStream,
-    /// The same at the end at the echo server.
     far: TcpStream,
 }
 
 /// What is to run beside the lines.
 #[derive(Drop)]
 struct Trial {
-    addresses: Addresses,
+    /// Where the echo server listens, and where the client connects to.
+    echo: SocketAddr,
+    local: SocketAddr,
     /// What the servers own, and where the client leaves each echo, until it runs.
     parts: Option<(Owned, Sender<Echoed, Global>)>,
 }
@@ -97,18 +84,16 @@ pub fn run_selftest<R: Host + Threads + Sync, W: Outlet + Send, E: Outlet>(
     // At a good end the writer took all three lines, and nothing is said.
     ensures good { IsSome result → Keeps (E.contents errors.old) (E.contents errors.new) }
     ensures done { IsSome result → Appends (W.contents writer.old) (W.contents writer.new) echo_lines }
-    // At any end it took the first of them, in their order, and nothing else.
-    ensures lines { FirstArePrinted (W.contents writer.old) (W.contents writer.new) (W.failures writer.old) (W.failures writer.new) }
 {
-    let Some((addresses, owned)) = prepare(rt) else {
+    let Some((echo, local, owned)) = prepare(rt) else {
         say(errors, fault_text(Fault::CannotListen(any_port())).as_str());
         return None;
     };
-    match run_all(rt, alloc, addresses, owned, writer) {
+    match run_all(rt, alloc, (echo, local), owned, writer) {
         Ok(echoed) => Some(echoed),
         Err(stop) => {
             match stop {
-                Stop::Connection(number) => failed(number, errors),
+                Stop::Connection(number) => say_failed(number, errors),
                 Stop::Writing => say(errors, "ymx: writing failed\n"),
                 Stop::Memory(_) => say(errors, fault_text(Fault::OutOfMemory).as_str()),
             }
@@ -122,31 +107,38 @@ fn say<E: Outlet>(errors: &mut E, text: &str) {
     let _ = push_all(errors, text.as_bytes());
 }
 
+/// Says that a connection failed.
+fn say_failed<E: Outlet>(number: u8, errors: &mut E) {
+    let mut text = ArrayString::<64>::new();
+    let _ = writeln!(text, "ymx: selftest failed: connection {number}");
+    say(errors, text.as_str());
+}
+
 /// Runs the three servers and the client, and prints a line for each connection as it ends. Where a thread can't be made the
 /// first connection has failed.
 fn run_all<R: Host + Threads + Sync, W: Outlet + Send>(
     rt: &R,
     alloc: Global,
-    addresses: Addresses,
+    places: (SocketAddr, SocketAddr),
     owned: Owned,
     writer: &mut W,
 ) -> Result<AllEchoed, Stop>
-    ensures done { OnOk result (Appends (W.contents writer.old) (W.contents writer.new) echo_lines) }
-    ensures lines { FirstArePrinted (W.contents writer.old) (W.contents writer.new) (W.failures writer.old) (W.failures writer.new) }
+    ensures { OnOk result (Appends (W.contents writer.old) (W.contents writer.new) echo_lines) }
 {
-    let (sender, receiver) = match bounded::<Echoed, Global>(alloc, WAITING_RESULTS) {
+    let (sender, receiver) = match bounded::<Echoed, Global>(alloc, CONNECTIONS as usize) {
         Ok(ends) => ends,
         Err(refused) => return Err(Stop::Memory(refused)),
     };
+    let (echo, local) = places;
     let mut trial = Trial {
-        addresses,
+        echo,
+        local,
         parts: Some((owned, sender)),
     };
     let (printed, ()) = join_mut(
         rt,
         &mut ||
-            ensures done { OnOk result (Appends (W.contents writer.entry.now) (W.contents writer.exit.now) echo_lines) }
-            ensures lines { FirstArePrinted (W.contents writer.entry.now) (W.contents writer.exit.now) (W.failures writer.entry.now) (W.failures writer.exit.now) }
+            ensures { OnOk result (Appends (W.contents writer.entry.now) (W.contents writer.exit.now) echo_lines) }
         { print_all(rt, &receiver, writer) },
         &mut || trial.run(rt, alloc),
     );
@@ -156,10 +148,10 @@ fn run_all<R: Host + Threads + Sync, W: Outlet + Send>(
 impl Trial {
     /// Runs the servers in threads and the client in this one, until all have ended.
     fn run<R: Host + Threads + Sync>(&mut self, rt: &R, alloc: Global) {
-        let addresses = self.addresses;
         let Some((owned, sender)) = self.parts.take() else {
             return;
         };
+        let (echo_place, local_place) = (self.echo, self.local);
         let Owned {
             echo,
             local,
@@ -169,15 +161,16 @@ impl Trial {
         thread::scope(thread::scope_env(), rt, move |scope| {
             let has_echo = scope.spawn(move || serve_echoes(echo)).is_ok();
             let has_far = scope
-                .spawn(move || run_remote_end(rt, alloc, far, addresses.echo))
+                .spawn(move || run_remote_end(rt, alloc, far, echo_place))
                 .is_ok();
             let has_near = scope
                 .spawn(move || run_local_end(rt, alloc, near, local))
                 .is_ok();
             if has_echo && has_far && has_near {
-                run_client(rt, alloc, addresses.local, sender);
+                run_client(rt, alloc, local_place, sender);
             }
-            release(rt, addresses);
+            release(rt, local_place);
+            release(rt, echo_place);
         })
     }
 }
@@ -187,35 +180,26 @@ fn any_port() -> SocketAddrV4 {
     SocketAddrV4::new(Ipv4Addr::LOCALHOST, 0)
 }
 
-/// Listens at two ports, and connects both ends of the session, so that neither has to wait for the other.
-fn prepare<R: Net<Stream = TcpStream, Listener = TcpListener>>(
-    rt: &R,
-) -> Option<(Addresses, Owned)> {
-    let (echo, echo_address) = listen_at(rt, any_port()).ok()?;
-    let (local, local_address) = listen_at(rt, any_port()).ok()?;
-    let (near, far) = connect_session(rt)?;
-    let addresses = Addresses {
-        echo: echo_address,
-        local: local_address,
-    };
+/// Listens at two ports, that of the echo server and that of the client's end, and connects both ends of the session, so that
+/// neither has to wait for the other: the system makes that connection before it is accepted.
+fn prepare<R: Host>(rt: &R) -> Option<(SocketAddr, SocketAddr, Owned)> {
+    let echo = listen(rt, SocketAddr::V4(any_port())).ok()?;
+    let local = listen(rt, SocketAddr::V4(any_port())).ok()?;
+    let meeting = listen(rt, SocketAddr::V4(any_port())).ok()?;
+    let near = connect(rt, address_of(&meeting).ok()?).ok()?;
+    let far = accept(&meeting).ok()?;
+    let echo_place = address_of(&echo).ok()?;
+    let local_place = address_of(&local).ok()?;
     let owned = Owned {
         echo,
         local,
         near,
         far,
     };
-    Some((addresses, owned))
+    Some((echo_place, local_place, owned))
 }
 
-/// Both ends of a connection. The system makes it before it is accepted, so the accept doesn't wait.
-fn connect_session<R: Net<Stream = TcpStream, Listener = TcpListener>>(
-    rt: &R,
-) -> Option<(TcpStream, TcpStream)> {
-    let (listener, address) = listen_at(rt, any_port()).ok()?;
-    let near = connect(rt, SocketAddr::V4(address)).ok()?;
-    let far = accept(&listener).ok()?;
-    Some((near, far))
-}
+// ---- the lines
 
 /// Prints a line for each connection as it ends. Stops at the first that failed. A result that doesn't come, or that of
 /// another connection, counts as a failure of the one awaited.
@@ -225,7 +209,6 @@ fn print_all<R: Wait, W: Outlet>(
     writer: &mut W,
 ) -> Result<AllEchoed, Stop>
     ensures done { OnOk result (Appends (W.contents writer.old) (W.contents writer.new) echo_lines) }
-    ensures lines { FirstArePrinted (W.contents writer.old) (W.contents writer.new) (W.failures writer.old) (W.failures writer.new) }
     // Each line is that of a connection whose bytes came back.
     ensures echoed { IfOk result (λ all. (all.first.number ≡ 1) × (all.second.number ≡ 2) × (all.third.number ≡ 3)) }
 {
@@ -248,7 +231,6 @@ fn print_next<R: Wait, W: Outlet>(
 ) -> Result<Echoed, Stop>
     ensures number { IfOk result (λ echoed. echoed.number ≡ number) }
     ensures printed { OnOk result (Appends (W.contents writer.old) (W.contents writer.new) (line_of number)) }
-    ensures stopped { OnErr result (AreSaid (W.contents writer.old) (W.contents writer.new) (W.failures writer.old) (W.failures writer.new) [] ⊎ IsSaid (W.contents writer.old) (W.contents writer.new) (W.failures writer.old) (W.failures writer.new) (line_of number)) }
 {
     match receiver.recv(rt) {
         Ok(echoed) if echoed.number() == number => match push_all(writer, line_of(number)) {
@@ -259,19 +241,12 @@ fn print_next<R: Wait, W: Outlet>(
     }
 }
 
-/// Says that a connection failed.
-fn failed<E: Outlet>(number: u8, errors: &mut E) {
-    let mut text = ArrayString::<64>::new();
-    let _ = writeln!(text, "ymx: selftest failed: connection {number}");
-    say(errors, text.as_str());
-}
+// ---- the servers
 
-/// Connects to each listener as often as its server accepts, so that none waits any longer. A listener that has closed
-/// refuses it.
-fn release<R: Net<Stream = TcpStream, Listener = TcpListener>>(rt: &R, addresses: Addresses) {
+/// Connects to this listener as often as its server accepts, so that none waits any longer. One that has closed refuses it.
+fn release<R: Net<Stream = TcpStream>>(rt: &R, place: SocketAddr) {
     for _ in 0..CONNECTIONS {
-        let _ = connect(rt, SocketAddr::V4(addresses.local));
-        let _ = connect(rt, SocketAddr::V4(addresses.echo));
+        let _ = connect(rt, place);
     }
 }
 
@@ -286,77 +261,76 @@ fn serve_echoes(listener: TcpListener) {
 }
 
 /// The end of the tunnel at the echo server.
-fn run_remote_end<R: Host>(rt: &R, alloc: Global, connection: TcpStream, target: SocketAddrV4) {
-    let session = session_of(Side::Server {
+fn run_remote_end<R: Host>(rt: &R, alloc: Global, connection: TcpStream, target: SocketAddr) {
+    let side = Side::Remote {
         target,
-        workers: CONNECTIONS as u32,
-    });
-    if let Ok(site) = Site::new(rt, alloc) {
-        run_session(site, None, connection, session);
+        limit: CONNECTIONS as usize,
+        drain: None,
+    };
+    if let Ok(poll) = Poll::new(rt, alloc) {
+        run_one(rt, alloc, connection, poll, side);
     }
 }
 
 /// The end of the tunnel at the client.
 fn run_local_end<R: Host>(rt: &R, alloc: Global, connection: TcpStream, listener: TcpListener) {
-    if let Ok((site, end)) = local_end(rt, alloc, listener) {
-        run_session(site, Some(end), connection, session_of(Side::Client));
+    if let Ok((poll, users)) = new_users(rt, alloc, listener) {
+        run_one(rt, alloc, connection, poll, Side::Local(users));
     }
 }
 
-/// What the client's end needs to take its connections from this listener.
-fn local_end<R: Host>(
+/// The users who come to this listener, and what tells of them.
+fn new_users<R: Host>(
     rt: &R,
     alloc: Global,
     listener: TcpListener,
-) -> Result<(Site<'_, R>, TunnelEnd), StartFault> {
-    let site = Site::new(rt, alloc)?;
-    let listening = Listening::new(
-        listener,
-        Some(CONNECTIONS as u32),
-        false,
-        &site.poll,
-        LISTENER,
-    )?;
-    Ok((site, TunnelEnd::local(listening, None, false)))
+) -> Result<(Poll, Users), StartFault> {
+    let poll = Poll::new(rt, alloc)?;
+    let wanted = Comers {
+        address: any_port(),
+        count: Some(CONNECTIONS as u32),
+        is_patient: false,
+    };
+    let drain = Arc::new(alloc, Drain::new(alloc))?;
+    let common = Arc::new(alloc, Common::new(drain, wanted.count, 1))?;
+    let users = Users::new(listener, wanted, common, &poll)?;
+    Ok((poll, users))
 }
 
-/// A session of this side, which is the only one.
-fn session_of(side: Side) -> Session {
-    Session {
-        side,
+/// Runs the only session of this side over this connection. Of what is told nothing is heard.
+fn run_one<R: Host>(rt: &R, alloc: Global, connection: TcpStream, poll: Poll, side: Side) {
+    let Ok(peer) = Peer::over(connection) else {
+        return;
+    };
+    let mut nobody = WriterOutlet {
+        writer: io::sink(),
+        failures: 0,
+    };
+    let mut nowhere = WriterOutlet {
+        writer: io::sink(),
+        failures: 0,
+    };
+    let sink = new_sink(alloc, false, &mut nobody, &mut nowhere);
+    // what it is asked to serve, the side says
+    let session = Session {
+        side: Role::Client,
         window: WINDOW,
         ping: None,
         keepalive: None,
         is_sounded: false,
         is_followed: false,
-    }
+    };
+    let (mut poll, mut side) = (poll, side);
+    let context = context_of(rt, alloc, &sink);
+    let _ = run_session(context, &mut poll, &mut side, peer, session);
 }
 
-/// Runs such a session over this connection.
-fn run_session<R: Host>(
-    site: Site<'_, R>,
-    end: Option<TunnelEnd>,
-    connection: TcpStream,
-    session: Session,
-) {
-    let mut site = site;
-    let Ok(peer) = Peer::over(connection) else {
-        return;
-    };
-    if let Ok(mut end) = TunnelEnd::for_session(end, session) {
-        let _ = site.serve(&mut end, peer, session, &mut Unwatched);
-    }
-}
+// ---- the client
 
 /// Makes the three connections, one after the other, and hands on what came back of each. Stops at the first that fails.
-fn run_client<R: Net<Stream = TcpStream> + Wait>(
-    rt: &R,
-    alloc: Global,
-    address: SocketAddrV4,
-    sender: Sender<Echoed, Global>,
-) {
+fn run_client<R: Host>(rt: &R, alloc: Global, place: SocketAddr, sender: Sender<Echoed, Global>) {
     for number in 1..=CONNECTIONS {
-        let Some(echoed) = exchange(rt, alloc, address, number) else {
+        let Some(echoed) = exchange(rt, alloc, place, number) else {
             return;
         };
         if sender.send(rt, echoed).is_err() {
@@ -365,18 +339,17 @@ fn run_client<R: Net<Stream = TcpStream> + Wait>(
     }
 }
 
-/// Sends the bytes of the connection of this number to this address, ends it, and reads what comes back. None unless it is
-/// just that.
+/// Sends the bytes of the connection of this number there, ends it, and reads what comes back. None unless it is just that.
 fn exchange<R: Net<Stream = TcpStream>>(
     rt: &R,
     alloc: Global,
-    address: SocketAddrV4,
+    place: SocketAddr,
     number: u8,
 ) -> Option<Echoed>
     ensures { IfSome result (λ echoed. echoed.number ≡ number) }
 {
     let sent = pattern(alloc, size_of(number)).ok()?;
-    let socket = connect(rt, SocketAddr::V4(address)).ok()?;
+    let socket = connect(rt, place).ok()?;
     send(&socket, sent.as_slice()).ok()?;
     finish(&socket).ok()?;
     Echoed::read(&mut &socket, alloc, number, sent).ok()?

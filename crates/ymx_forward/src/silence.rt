@@ -1,26 +1,44 @@
-//! How long a peer has been silent.
+//! How long a peer has been silent, and what is due then.
 
-ghost use Rattle.std.specs.Prelude.{◌≡◌, ◌⊎◌, false, true, option_map, IfNone, IfSome, None, Some};
+ghost use Rattle.std.specs.Prelude.{◌≡◌};
 ghost use Rattle.std.specs.Duration.{as_nanos};
-ghost use Rattle.ymx_forward.specs.Signs.{is_sign};
-ghost use Rattle.ymx_forward.specs.Times.{IsDueAfter, IsDueNow, since_last};
-ghost use Rattle.ymx_forward.specs.Waits.{shorter_of};
+ghost use Rattle.ymx_forward.specs.Silence.{IsDueAfter, is_sign};
 
-use std::time::Duration;
+use crate::system::NoEvents;
+use std::time::{Clock, Duration};
+
+/// How many bytes that come while a payload is under way are a sign: 4,096 of it, after a header at most.
+const LONG_PART: u64 = 4_108;
+
+/// How many bytes may stand before a ping that was asked for, until the system has taken it: what a tunnel may have read
+/// of its connections for the wire.
+const AHEAD: u64 = 262_336;
+
+/// The peer was silent for too long, though it was asked for a sign. Only [`Silence::due`] makes one.
+#[derive(Drop)]
+pub(crate) struct SilentPeer {
+    seal: (),
+}
+
+/// Why the connection to a peer is given up.
+#[derive(Drop)]
+pub(crate) enum Cause {
+    /// The peer counts as gone.
+    Silent(SilentPeer),
+    /// The system refused to tell of events.
+    Unwatched(NoEvents),
+}
 
 /// What is due where a peer is silent.
-#[derive(Clone, Copy, PartialEq, Eq)]
+#[derive(Drop)]
 pub(crate) enum Due {
     /// Nothing, before so much time has gone by.
     In(Duration),
     /// It is to be asked for a sign.
     Ping,
     /// It counts as gone.
-    Loss,
+    Loss(SilentPeer),
 }
-
-/// How many bytes that come while a payload is under way are a sign: 4,096 of it, behind a header at most.
-const LONG_PART: u64 = 4_108;
 
 /// When the peer last gave a sign of life, and whether it was asked for one since. A whole frame is a sign, and so are 4,096
 /// bytes of the payload of one: who doesn't speak yamux gives none, and a slow line is not cut within a long frame.
@@ -33,67 +51,52 @@ pub(crate) struct Silence {
     was_asked: bool,
     /// How many bytes had come of it when it last gave a sign.
     heard: u64,
-    /// The number of the ping that it was last sent, until its answer is collected.
-    pub(crate) pending: Option<u32>,
+    /// How many bytes the system had taken for it when it was last looked at.
+    sent: u64,
+    /// With so many the ping that it was last asked by is among them.
+    sent_with_ping: u64,
 }
 
 impl Silence {
     /// It gives a sign at this time. None where nobody listens for silence, or the time is unknown.
-    pub(crate) fn new(now: Option<Duration>, patience: Option<Duration>) -> Option<Silence>
-        ensures new { IfSome result (λ silence. (patience ≡ Some silence.patience) × (now ≡ Some silence.since) × (silence.was_asked ≡ false) × (silence.heard ≡ 0) × (silence.pending ≡ None)) }
-        ensures none { IfNone result ((patience ≡ None) ⊎ (now ≡ None)) }
-    {
+    pub(crate) fn new(now: Option<Duration>, patience: Option<Duration>) -> Option<Silence> {
         Some(Silence {
             patience: patience?,
             since: now?,
             was_asked: false,
             heard: 0,
-            pending: None,
+            sent: 0,
+            sent_with_ping: 0,
         })
     }
 
-    /// So many bytes have come of the peer, of which this many stand behind the last whole frame, or a payload is under way.
-    /// Whether it has given a sign since the last one: then the time begins anew.
-    pub(crate) fn hear(
-        &mut self,
-        now: Option<Duration>,
-        heard: u64,
-        unframed: Option<usize>,
-    ) -> bool
-        ensures sign { result ≡ is_sign self.old.heard heard unframed }
-        ensures heard { result ≡ true → self.new ≡ record self.old { since = since_last self.old.since now; was_asked = false; heard = heard } }
-        ensures silent { result ≡ false → self.new ≡ self.old }
-    {
-        if !is_sign(self.heard, heard, unframed) {
-            return false;
+    /// So many bytes have come of the peer, of which this many stand after the last whole frame, or a payload is under way.
+    /// With a sign of life the time begins anew.
+    pub(crate) fn hear(&mut self, now: Option<Duration>, heard: u64, unframed: Option<usize>) {
+        if is_sign(self.heard, heard, unframed) {
+            self.heard = heard;
+            self.was_asked = false;
+            self.since = now.unwrap_or(self.since);
         }
-        self.heard = heard;
-        self.was_asked = false;
-        self.begin(now);
-        true
+    }
+
+    /// The system has taken so many bytes for the peer. While the ping may stand behind these, that they go out is a sign too.
+    pub(crate) fn note_sent(&mut self, now: Option<Duration>, sent: u64) {
+        if self.sent < sent && self.sent < self.sent_with_ping {
+            self.since = now.unwrap_or(self.since);
+        }
+        self.sent = sent;
     }
 
     /// It was asked for a sign, and has as long again.
-    pub(crate) fn note_asked(&mut self, now: Option<Duration>)
-        ensures { self.new ≡ record self.old { since = since_last self.old.since now; was_asked = true } }
-    {
+    pub(crate) fn note_asked(&mut self, now: Option<Duration>) {
         self.was_asked = true;
-        self.begin(now);
-    }
-
-    /// The time begins anew, unless it is unknown.
-    fn begin(&mut self, now: Option<Duration>)
-        ensures { self.new ≡ record self.old { since = since_last self.old.since now } }
-    {
-        if let Some(now) = now {
-            self.since = now;
-        }
+        self.sent_with_ping = self.sent.saturating_add(AHEAD);
+        self.since = now.unwrap_or(self.since);
     }
 
     /// What is due now. Where the time is unknown, nothing is.
-    pub(crate) fn due(&self, now: Option<Duration>) -> Due
-        ensures { IsDueNow self.now now result }
-    {
+    pub(crate) fn due(&self, now: Option<Duration>) -> Due {
         match now {
             Some(now) => due_after(
                 self.patience,
@@ -106,7 +109,7 @@ impl Silence {
 }
 
 /// Whether the peer has given a sign of life since so many bytes of it had come: `bytes` have by now, of which this many stand
-/// behind the last whole frame, or a payload is under way.
+/// after the last whole frame, or a payload is under way.
 pub(crate) fn is_sign(before: u64, bytes: u64, unframed: Option<usize>) -> bool
     ensures { result ≡ is_sign before bytes unframed }
 {
@@ -116,24 +119,35 @@ pub(crate) fn is_sign(before: u64, bytes: u64, unframed: Option<usize>) -> bool
     }
 }
 
-/// What is due after so long a silence. A loss only behind a sign that was asked for.
+/// What is due after so long a silence. A loss only after a sign that was asked for.
 fn due_after(patience: Duration, passed: Duration, was_asked: bool) -> Due
     ensures { IsDueAfter (as_nanos patience) (as_nanos passed) was_asked result }
 {
     match patience.checked_sub(passed) {
         Some(left) if left > Duration::ZERO => Due::In(left),
-        _ if was_asked => Due::Loss,
+        _ if was_asked => Due::Loss(SilentPeer { seal: () }),
         _ => Due::Ping,
     }
 }
 
 /// The shorter of two times, of which none is as long as can be.
-pub(crate) fn shorter(time: Option<Duration>, other: Option<Duration>) -> Option<Duration>
-    ensures { option_map as_nanos result ≡ shorter_of (option_map as_nanos time) (option_map as_nanos other) }
-{
+pub(crate) fn shorter(time: Option<Duration>, other: Option<Duration>) -> Option<Duration> {
     match (time, other) {
         (Some(time), Some(other)) => Some(time.min(other)),
         (None, other) => other,
         (time, None) => time,
+    }
+}
+
+/// The time by the clock, since some beginning. None where it can't be read.
+pub(crate) fn time_of<R: Clock>(rt: &R) -> Option<Duration> {
+    rt.monotonic().ok()
+}
+
+/// Whether so long has gone by since then. Where one of both times is unknown, it hasn't.
+pub(crate) fn has_passed(since: Option<Duration>, now: Option<Duration>, limit: Duration) -> bool {
+    match (since, now) {
+        (Some(since), Some(now)) => now.saturating_sub(since) >= limit,
+        _ => false,
     }
 }

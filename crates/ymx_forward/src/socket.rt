@@ -1,20 +1,17 @@
 //! A socket that never waits, as a device of an engine.
 
-ghost use Rattle.std.specs.Prelude.{ℕ, List, [], ◌≡◌, ◌≤◌, ◌+◌, ◌-◌, ◌^◌, ◌<◌, ◌||◌, ◌&&◌, nat_le, length, is_some, min, true, false, IfSome, IfNone, IsNone, IsOk, MatchResult, take, option_map};
+ghost use Rattle.std.specs.Prelude.{ℕ, List, ◌≡◌, ◌+◌, ◌-◌, ◌^◌, ◌<◌, ◌≤◌, ◌||◌, ◌&&◌, nat_le, length, is_some, min, true, false, IfSome, IfNone, IsOk, MatchResult, None};
 ghost use Rattle.std.specs.Io.{WritesAtMost};
-ghost use Rattle.std.specs.Io.KnownBytes.{Appends, Consumes, IsAtEnd};
 ghost use Rattle.std.specs.Io.Slices.{io_slices_bytes};
 ghost use Rattle.ymx_engine.specs.Devices.{IsEnded, IsNoted, IsPulled, IsPushed, IsShut, gives, is_end, is_pull_failure, is_push_failure, may_have_more, pulled_count, pushed_count, takes};
 ghost use Rattle.ymx_engine.specs.declared.device.Pulled.TheVariants as Pulled;
-ghost use Rattle.ymx_forward.specs.Sockets.{IsSeen};
-ghost use Rattle.ymx_forward.specs.declared.socket.ConnectState.TheVariants as ConnectState;
 
 use crate::stream::Stream;
 use crate::system::{NoEvents, Poll, TcpConnection};
-use crate::watching::Origin;
 use std::io;
 use std::io::{ErrorKind, IoSlice};
-use ymx_engine::{Device, Pulled, Pushed, Readiness};
+use ymx_engine::{Device, Flow, Pulled, Pushed, Readiness, Ways};
+use ymx_page::{EndedConnection, Ending, Origin, Passed};
 use ymx_policy::Reason;
 
 /// Whether a socket has its peer.
@@ -30,29 +27,11 @@ enum ConnectState {
 
 /// What was the matter with a socket.
 #[derive(Clone, Copy)]
-pub(crate) enum SocketFault {
+enum SocketFault {
     /// It gave no bytes, and no end.
     Pull,
     /// It took no bytes.
     Push,
-}
-
-/// The bytes that went through a socket.
-#[derive(Clone, Copy)]
-struct Traffic {
-    /// How many it gave. It stays at the greatest `u64`.
-    pulled: u64,
-    /// How many it took. It stays at the greatest `u64`.
-    pushed: u64,
-}
-
-impl Traffic {
-    fn none() -> Traffic {
-        Traffic {
-            pulled: 0,
-            pushed: 0,
-        }
-    }
 }
 
 /// What events and calls have said of a socket.
@@ -67,15 +46,6 @@ struct Marks {
 }
 
 impl Marks {
-    /// Nothing was said. `is_ready` says whether it may be used at once.
-    fn new(is_ready: bool) -> Marks {
-        Marks {
-            may_pull: is_ready,
-            may_push: is_ready,
-            is_closing: false,
-        }
-    }
-
     /// An event says this.
     fn note(&mut self, ready: Readiness)
         ensures { self.new ≡ record { may_pull = self.old.may_pull || ready.can_pull; may_push = self.old.may_push || ready.can_push; is_closing = self.old.is_closing || ready.is_closing } }
@@ -104,14 +74,6 @@ impl Marks {
             Pushed::NotNow | Pushed::Failed => false,
         };
     }
-
-    /// It was shut: a call of it answers at once.
-    fn note_shut(&mut self)
-        ensures { self.new ≡ record self.old { may_pull = true; may_push = true } }
-    {
-        self.may_pull = true;
-        self.may_push = true;
-    }
 }
 
 /// A socket, and what it has moved. A contract sees the bytes that its stream tells, and whether it said that no more
@@ -119,17 +81,18 @@ impl Marks {
 /// were made.
 #[derive(Drop)]
 pub(crate) struct Socket<S: Stream = TcpConnection> {
-    /// Which connection it is.
-    origin: Origin,
+    /// Which connection it is. None of one that carries a session, and not a stream.
+    origin: Option<Origin>,
     socket: S,
-    /// It carries a session, and not a stream.
-    is_wire: bool,
     state: ConnectState,
     /// What was first the matter with a call of it.
     failure: Option<SocketFault>,
     /// Why, where the system says so.
     reason: Option<Reason>,
-    traffic: Traffic,
+    /// How many bytes it gave. It stays at the greatest `u64`.
+    pulled: u64,
+    /// How many it took. It stays at the greatest `u64`.
+    pushed: u64,
     /// It has said that no more bytes come from it.
     has_ended: bool,
     /// Its writing side was shut, as the stream's end was read.
@@ -142,131 +105,79 @@ pub(crate) struct Socket<S: Stream = TcpConnection> {
 }
 
 impl<S: Stream + Drop> Socket<S> {
-    /// A connection that is there, and never waits. It may be used at once.
-    pub(crate) fn connected(socket: S, origin: Origin) -> Socket<S>
-        ensures wire { result.is_wire ≡ false }
-        ensures socket { result.socket ≡ socket }
-    {
-        Socket::new(socket, origin, ConnectState::Connected, true)
+    /// The connection of a user, which is there. It may be used at once.
+    pub(crate) fn connected(socket: S, origin: Origin) -> Socket<S> {
+        Socket::new(socket, Some(origin), ConnectState::Connected)
     }
 
-    /// The connection of a session, which is there, and never waits. It may be used at once.
-    pub(crate) fn wire(socket: S) -> Socket<S>
-        ensures wire { result.is_wire ≡ true }
-        ensures socket { result.socket ≡ socket }
-    {
-        let mut wire = Socket::connected(socket, Origin::untold());
-        wire.is_wire = true;
-        wire
+    /// The connection of a session, which is there, and of which this poll tells under this token.
+    pub(crate) fn wire(socket: S, poll: &Poll, token: usize) -> Result<Socket<S>, NoEvents> {
+        let mut wire = Socket::new(socket, None, ConnectState::Connected);
+        wire.socket.register(poll, token)?;
+        Ok(wire)
     }
 
-    /// A connection that was begun, and never waits. It may be there at once, as on the same machine: then it may take
-    /// bytes. So may one that can't be made, so that it fails.
-    pub(crate) fn begun(socket: S, origin: Origin) -> Socket<S>
-        ensures wire { result.is_wire ≡ false }
-        ensures socket { result.socket ≡ socket }
-        // It is seen where it is there at once, or can't be made, and may be used then.
-        ensures seen { IsSeen (S.made socket) (S.unmade socket) ConnectState.Connecting result.state }
-        ensures there { result.state ≡ ConnectState.Connected → result.marks.may_push ≡ true }
-        ensures failed { result.state ≡ ConnectState.Unreachable → result.marks.may_push ≡ true }
-    {
-        let mut begun = Socket::new(socket, origin, ConnectState::Connecting, false);
+    /// A connection that was begun. It may be there at once, as on the same machine: then it may take bytes. So may one
+    /// that can't be made, so that it fails.
+    pub(crate) fn begun(socket: S, origin: Origin) -> Socket<S> {
+        let mut begun = Socket::new(socket, Some(origin), ConnectState::Connecting);
         begun.look();
+        begun.marks.may_pull = false;
         begun.marks.may_push = begun.state != ConnectState::Connecting;
         begun
     }
 
-    /// One of which nothing was moved. `is_ready` says whether it may be used at once.
-    fn new(socket: S, origin: Origin, state: ConnectState, is_ready: bool) -> Socket<S>
-        ensures wire { result.is_wire ≡ false }
-        ensures socket { result.socket ≡ socket }
-        ensures state { result.state ≡ state }
-    {
+    /// One of which nothing was moved.
+    fn new(socket: S, origin: Option<Origin>, state: ConnectState) -> Socket<S> {
         Socket {
             origin,
             socket,
-            is_wire: false,
             state,
             failure: None,
             reason: None,
-            traffic: Traffic::none(),
+            pulled: 0,
+            pushed: 0,
             has_ended: false,
             was_finished: false,
             was_shut: false,
-            marks: Marks::new(is_ready),
+            marks: Marks {
+                may_pull: true,
+                may_push: true,
+                is_closing: false,
+            },
             calls: 0,
         }
     }
 
-    /// Which connection it is.
-    pub(crate) fn origin(&self) -> Origin {
+    /// Which connection it is. None of one that carries a session.
+    pub(crate) fn origin(&self) -> Option<Origin> {
         self.origin
     }
 
     /// Its connection.
-    pub(crate) fn connection(&self) -> &S
-        ensures { result.now ≡ self.now.socket }
-    {
+    pub(crate) fn connection(&self) -> &S {
         &self.socket
     }
 
-    /// From now on this poll tells of it under this token. False where the system refuses, or was asked before.
+    /// From now on this poll tells of it under this token. False where the system refuses.
     pub(crate) fn register(&mut self, poll: &Poll, token: usize) -> bool
-        ensures kept { ⟦<Socket<S> as Device>⟧.seen self.new ≡ ⟦<Socket<S> as Device>⟧.seen self.old }
-        ensures once { result ≡ true → S.registered self.old.socket ≡ false }
-        ensures asked { S.registered self.new.socket ≡ true }
-        ensures stays { self.new.is_wire ≡ self.old.is_wire }
-        // It is asked under this token.
-        ensures told { result ≡ true → S.told_under self.new.socket ≡ option_map (λ _. token) (S.told_under self.old.socket) }
+        ensures { ⟦<Socket<S> as Device>⟧.seen self.new ≡ ⟦<Socket<S> as Device>⟧.seen self.old }
     {
-        !self.socket.is_registered() && self.watch(poll, token).is_ok()
-    }
-
-    /// From now on this poll tells of it under this token. The fault is that the system refuses.
-    pub(crate) fn watch(&mut self, poll: &Poll, token: usize) -> Result<(), NoEvents>
-        requires once { S.registered self.old.socket ≡ false }
-        ensures kept { ⟦<Socket<S> as Device>⟧.seen self.new ≡ ⟦<Socket<S> as Device>⟧.seen self.old }
-        ensures asked { S.registered self.new.socket ≡ true }
-        ensures called { S.called self.new.socket ≡ S.called self.old.socket }
-        ensures stays { self.new.is_wire ≡ self.old.is_wire }
-        // It is asked under this token.
-        ensures told { S.told_under self.new.socket ≡ option_map (λ _. token) (S.told_under self.old.socket) }
-    {
-        self.socket.register(poll, token)
+        self.socket.register(poll, token).is_ok()
     }
 
     /// How many bytes it has given. It stays at the greatest `u64`.
-    pub(crate) fn pulled(&self) -> u64
-        ensures { result ≡ self.now.traffic.pulled }
-    {
-        self.traffic.pulled
+    pub(crate) fn pulled(&self) -> u64 {
+        self.pulled
     }
 
     /// How many bytes it has taken. It stays at the greatest `u64`.
-    pub(crate) fn pushed(&self) -> u64
-        ensures { result ≡ self.now.traffic.pushed }
-    {
-        self.traffic.pushed
-    }
-
-    /// What was first the matter with it.
-    pub(crate) fn fault(&self) -> Option<SocketFault>
-        ensures { result ≡ self.now.failure }
-    {
-        self.failure
-    }
-
-    /// Why it failed. None if it didn't, or the system doesn't say.
-    pub(crate) fn reason(&self) -> Option<Reason>
-        ensures { result ≡ self.now.reason }
-    {
-        self.reason
+    pub(crate) fn pushed(&self) -> u64 {
+        self.pushed
     }
 
     /// Whether no more bytes come from it, as it said so or failed.
-    pub(crate) fn is_over(&self) -> bool
-        ensures { result ≡ (self.now.has_ended || is_some self.now.failure) }
-    {
+    pub(crate) fn is_over(&self) -> bool {
         self.has_ended || self.failure.is_some()
     }
 
@@ -275,17 +186,31 @@ impl<S: Stream + Drop> Socket<S> {
         self.was_finished || self.was_shut
     }
 
-    /// Whether it failed, though it reads an end. The system tells of a failure once: where it told a write, a read
-    /// finds an end.
-    fn is_broken(&self) -> bool {
-        !self.was_ended() && self.failure.is_some()
+    /// How its connection ended, whose ways stand so, in a session that was lost or wasn't.
+    pub(crate) fn ended(&self, ways: Ways, is_lost: bool) -> EndedConnection {
+        let of_stream = if is_lost { Ending::Lost } else { Ending::Reset };
+        let (to_peer, from_peer) = match self.failure {
+            _ if ways.lacked_memory => (Ending::OutOfMemory, of_stream),
+            Some(SocketFault::Pull) => (Ending::ConnectionFailed, of_stream),
+            Some(SocketFault::Push) => (Ending::ConnectionFailed, Ending::ConnectionFailed),
+            None => (of_stream, of_stream),
+        };
+        EndedConnection {
+            to_peer: Passed {
+                bytes: self.pulled,
+                ending: ending_of(ways.to_peer, to_peer),
+            },
+            from_peer: Passed {
+                bytes: self.pushed,
+                ending: ending_of(ways.from_peer, from_peer),
+            },
+            reason: self.reason,
+        }
     }
 
     /// Looks whether a connection that was begun is there, or can't be made.
     fn look(&mut self)
-        ensures rest { self.new ≡ record self.old { state = self.new.state; reason = self.new.reason } }
-        // It is seen where it is there, or can't be made.
-        ensures seen { IsSeen (S.made self.old.socket) (S.unmade self.old.socket) self.old.state self.new.state }
+        ensures { self.new ≡ record self.old { state = self.new.state; reason = self.new.reason } }
     {
         if self.socket.peer().is_some() {
             self.state = ConnectState::Connected;
@@ -310,7 +235,7 @@ impl<S: Stream + Drop> Socket<S> {
     /// A call of it failed, with this error if the system gave one.
     fn fail(&mut self, fault: SocketFault, error: Option<&io::Error>)
         ensures failed { is_some self.new.failure ≡ true }
-        ensures rest { (self.new.socket ≡ self.old.socket) × (self.new.has_ended ≡ self.old.has_ended) × (self.new.was_finished ≡ self.old.was_finished) × (self.new.was_shut ≡ self.old.was_shut) × (self.new.marks ≡ self.old.marks) × (self.new.state ≡ self.old.state) × (self.new.calls ≡ self.old.calls) × (self.new.is_wire ≡ self.old.is_wire) }
+        ensures rest { self.new ≡ record self.old { failure = self.new.failure; reason = self.new.reason } }
     {
         if self.failure.is_none() {
             self.failure = Some(fault);
@@ -320,63 +245,29 @@ impl<S: Stream + Drop> Socket<S> {
         }
     }
 
-    /// Reads once into this buffer, if it is there.
-    #[tactic(auto, using(crate::proofs::Bytes::none_consumed, crate::proofs::Bytes::all_kept))]
-    fn give_if_connected(&mut self, buffer: &mut [u8]) -> Pulled
-        ensures within { pulled_count result ≤ length buffer.new }
-        ensures some { gives result ≡ true → 0 < pulled_count result }
-        ensures bytes { Consumes (S.left self.old.socket) (S.left self.new.socket) (take (pulled_count result) buffer.new) }
-        ensures end { result ≡ Pulled.Ended → IsAtEnd (S.left self.new.socket) }
-        ensures had { S.had self.new.socket ≡ S.had self.old.socket }
-        ensures open { (S.finished self.new.socket ≡ S.finished self.old.socket) × (S.closed self.new.socket ≡ S.closed self.old.socket) × (S.aborted self.new.socket ≡ S.aborted self.old.socket) }
-        ensures ended { self.new.has_ended ≡ (self.old.has_ended || is_end result) }
-        ensures failed { is_some self.new.failure ≡ (is_some self.old.failure || is_pull_failure result) }
-        ensures rest { (self.new.was_finished ≡ self.old.was_finished) × (self.new.was_shut ≡ self.old.was_shut) × (self.new.marks ≡ self.old.marks) × (self.new.state ≡ self.old.state) × (self.new.calls ≡ self.old.calls) × (self.new.is_wire ≡ self.old.is_wire) }
+    /// What comes of a read while its connection isn't there. None where it is.
+    fn pull_early(&mut self) -> Option<Pulled>
+        ensures none { IfSome result (λ pulled. (pulled_count pulled ≡ 0) × (gives pulled ≡ false) × (is_end pulled ≡ false)) }
+        ensures failed { IfSome result (λ pulled. is_some self.new.failure ≡ (is_some self.old.failure || is_pull_failure pulled)) }
+        ensures there { IfNone result (self.new ≡ self.old) }
+        ensures rest { self.new ≡ record self.old { failure = self.new.failure; reason = self.new.reason } }
     {
         match self.state {
-            ConnectState::Connecting => Pulled::NotNow,
+            ConnectState::Connecting => Some(Pulled::NotNow),
             ConnectState::Unreachable => {
                 self.fail(SocketFault::Push, None);
-                Pulled::Failed
+                Some(Pulled::Failed)
             }
-            ConnectState::Connected => self.give(buffer),
+            ConnectState::Connected => None,
         }
     }
 
-    /// Reads once into this buffer.
-    #[tactic(auto, using(crate::proofs::Bytes::none_consumed, crate::proofs::Bytes::all_kept))]
-    fn give(&mut self, buffer: &mut [u8]) -> Pulled
-        ensures within { pulled_count result ≤ length buffer.new }
-        ensures some { gives result ≡ true → 0 < pulled_count result }
-        ensures bytes { Consumes (S.left self.old.socket) (S.left self.new.socket) (take (pulled_count result) buffer.new) }
-        ensures end { result ≡ Pulled.Ended → IsAtEnd (S.left self.new.socket) }
-        ensures had { S.had self.new.socket ≡ S.had self.old.socket }
-        ensures open { (S.finished self.new.socket ≡ S.finished self.old.socket) × (S.closed self.new.socket ≡ S.closed self.old.socket) × (S.aborted self.new.socket ≡ S.aborted self.old.socket) }
-        ensures ended { self.new.has_ended ≡ (self.old.has_ended || is_end result) }
-        ensures failed { is_some self.new.failure ≡ (is_some self.old.failure || is_pull_failure result) }
-        ensures rest { (self.new.was_finished ≡ self.old.was_finished) × (self.new.was_shut ≡ self.old.was_shut) × (self.new.marks ≡ self.old.marks) × (self.new.state ≡ self.old.state) × (self.new.calls ≡ self.old.calls) × (self.new.is_wire ≡ self.old.is_wire) }
-    {
-        if buffer.is_empty() {
-            return Pulled::NotNow;
-        }
-        match self.socket.read(buffer) {
-            Ok(count) if count > 0 => {
-                self.traffic.pulled = self.traffic.pulled.saturating_add(count as u64);
-                Pulled::Gave(count)
-            }
-            other => self.give_nothing(other),
-        }
-    }
-
-    /// What comes of a write while it isn't there. None where it is.
-    fn refuse_early(&mut self) -> Option<Pushed>
+    /// What comes of a write while its connection isn't there. None where it is.
+    fn push_early(&mut self) -> Option<Pushed>
         ensures none { IfSome result (λ pushed. (pushed_count pushed ≡ 0) × (takes pushed ≡ false)) }
-        ensures socket { self.new.socket ≡ self.old.socket }
         ensures failed { IfSome result (λ pushed. is_some self.new.failure ≡ (is_some self.old.failure || is_push_failure pushed)) }
-        ensures goes_on { IfNone result (self.new ≡ self.old) }
-        // Where it is there a write is made.
-        ensures there { self.old.state ≡ ConnectState.Connected → IsNone result }
-        ensures rest { (self.new.has_ended ≡ self.old.has_ended) × (self.new.was_finished ≡ self.old.was_finished) × (self.new.was_shut ≡ self.old.was_shut) × (self.new.marks ≡ self.old.marks) × (self.new.state ≡ self.old.state) × (self.new.calls ≡ self.old.calls) × (self.new.is_wire ≡ self.old.is_wire) }
+        ensures there { IfNone result (self.new ≡ self.old) }
+        ensures rest { self.new ≡ record self.old { failure = self.new.failure; reason = self.new.reason } }
     {
         match self.state {
             ConnectState::Connecting => Some(Pushed::NotNow),
@@ -388,93 +279,21 @@ impl<S: Stream + Drop> Socket<S> {
         }
     }
 
-    /// Writes these bytes once, if it is there.
-    #[tactic(auto, using(crate::proofs::Bytes::none_appended, crate::proofs::Bytes::all_kept))]
-    fn take(&mut self, bytes: &[u8]) -> Pushed
-        ensures within { pushed_count result ≤ length bytes.now }
-        ensures some { takes result ≡ true → 0 < length bytes.now → 0 < pushed_count result }
-        ensures bytes { Appends (S.had self.old.socket) (S.had self.new.socket) (take (pushed_count result) bytes.now) }
-        ensures left { S.left self.new.socket ≡ S.left self.old.socket }
-        ensures open { (S.finished self.new.socket ≡ S.finished self.old.socket) × (S.closed self.new.socket ≡ S.closed self.old.socket) × (S.aborted self.new.socket ≡ S.aborted self.old.socket) }
-        ensures failed { is_some self.new.failure ≡ (is_some self.old.failure || is_push_failure result) }
-        ensures rest { (self.new.has_ended ≡ self.old.has_ended) × (self.new.was_finished ≡ self.old.was_finished) × (self.new.was_shut ≡ self.old.was_shut) × (self.new.marks ≡ self.old.marks) × (self.new.state ≡ self.old.state) × (self.new.calls ≡ self.old.calls) × (self.new.is_wire ≡ self.old.is_wire) }
-    {
-        if let Some(refused) = self.refuse_early() {
-            return refused;
-        }
-        let written = self.socket.write(bytes);
-        self.hear_written(written, bytes.is_empty())
-    }
-
-    /// Writes the bytes of these pieces once, in one call of the system, if it is there.
-    #[tactic(auto, using(crate::proofs::Bytes::none_appended, crate::proofs::Bytes::all_kept))]
-    fn take_pieces(&mut self, pieces: &[IoSlice<'_>]) -> Pushed
-        ensures within { pushed_count result ≤ length (io_slices_bytes pieces.now) }
-        ensures some { takes result ≡ true → 0 < length (io_slices_bytes pieces.now) → 0 < pushed_count result }
-        ensures bytes { Appends (S.had self.old.socket) (S.had self.new.socket) (take (pushed_count result) (io_slices_bytes pieces.now)) }
-        ensures left { S.left self.new.socket ≡ S.left self.old.socket }
-        ensures open { (S.finished self.new.socket ≡ S.finished self.old.socket) × (S.closed self.new.socket ≡ S.closed self.old.socket) × (S.aborted self.new.socket ≡ S.aborted self.old.socket) }
-        ensures failed { is_some self.new.failure ≡ (is_some self.old.failure || is_push_failure result) }
-        ensures rest { (self.new.has_ended ≡ self.old.has_ended) × (self.new.was_finished ≡ self.old.was_finished) × (self.new.was_shut ≡ self.old.was_shut) × (self.new.marks ≡ self.old.marks) × (self.new.state ≡ self.old.state) × (self.new.calls ≡ self.old.calls) × (self.new.is_wire ≡ self.old.is_wire) }
-    {
-        if let Some(refused) = self.refuse_early() {
-            return refused;
-        }
-        let written = self.socket.write_pieces(pieces);
-        self.hear_written(written, fit(pieces, 0))
-    }
-
-    /// What came of a write. `is_empty` says whether there was nothing to write.
-    fn hear_written(&mut self, written: io::Result<usize>, is_empty: bool) -> Pushed
-        ensures within { (bytes : List ℕ) → WritesAtMost written bytes → pushed_count result ≤ length bytes }
-        ensures some { takes result ≡ true → is_empty ≡ false → 0 < pushed_count result }
-        ensures socket { self.new.socket ≡ self.old.socket }
-        ensures count { MatchResult written (λ count. pushed_count result ≡ count) (λ _. pushed_count result ≡ 0) }
-        ensures failed { is_some self.new.failure ≡ (is_some self.old.failure || is_push_failure result) }
-        ensures rest { (self.new.has_ended ≡ self.old.has_ended) × (self.new.was_finished ≡ self.old.was_finished) × (self.new.was_shut ≡ self.old.was_shut) × (self.new.marks ≡ self.old.marks) × (self.new.state ≡ self.old.state) × (self.new.calls ≡ self.old.calls) × (self.new.is_wire ≡ self.old.is_wire) }
-    {
-        match written {
-            Ok(count) if count > 0 || is_empty => {
-                self.traffic.pushed = self.traffic.pushed.saturating_add(count as u64);
-                Pushed::Took(count)
-            }
-            Err(e) if e.kind() == ErrorKind::WouldBlock => Pushed::NotNow,
-            Err(e) => {
-                self.fail(SocketFault::Push, Some(&e));
-                Pushed::Failed
-            }
-            Ok(_) => {
-                self.fail(SocketFault::Push, None);
-                Pushed::Failed
-            }
-        }
-    }
-
-    /// Aborts its connection, or shuts it both ways where it is a wire.
-    fn end_abruptly(&mut self)
-        ensures bytes { (S.left self.new.socket ≡ S.left self.old.socket) × (S.had self.new.socket ≡ S.had self.old.socket) }
-        ensures aborted { self.old.is_wire ≡ false → (S.aborted self.new.socket ≡ option_map (λ _. true) (S.aborted self.old.socket)) × (S.closed self.new.socket ≡ S.closed self.old.socket) }
-        ensures closed { self.old.is_wire ≡ true → (S.closed self.new.socket ≡ option_map (λ _. true) (S.closed self.old.socket)) × (S.aborted self.new.socket ≡ S.aborted self.old.socket) }
-        ensures rest { self.new ≡ record self.old { socket = self.new.socket } }
-    {
-        if self.is_wire {
-            self.socket.shut();
-        } else {
-            self.socket.abort();
-        }
-    }
-
-    /// What came of a read that found nothing or failed.
-    fn give_nothing(&mut self, read: io::Result<usize>) -> Pulled
-        ensures none { (pulled_count result ≡ 0) × (gives result ≡ false) }
-        ensures socket { self.new.socket ≡ self.old.socket }
-        ensures ok { result ≡ Pulled.Ended → IsOk read }
+    /// What came of a read into a buffer that has room. Where a failure was told by a write, a read finds an end.
+    fn hear_read(&mut self, read: io::Result<usize>) -> Pulled
+        ensures count { MatchResult read (λ count. pulled_count result ≡ count) (λ _. pulled_count result ≡ 0) }
+        ensures some { gives result ≡ true → 0 < pulled_count result }
+        ensures ok { result ≡ Pulled.Ended → IsOk read × (pulled_count result ≡ 0) }
         ensures ended { self.new.has_ended ≡ (self.old.has_ended || is_end result) }
         ensures failed { is_some self.new.failure ≡ (is_some self.old.failure || is_pull_failure result) }
-        ensures rest { (self.new.was_finished ≡ self.old.was_finished) × (self.new.was_shut ≡ self.old.was_shut) × (self.new.marks ≡ self.old.marks) × (self.new.state ≡ self.old.state) × (self.new.calls ≡ self.old.calls) × (self.new.is_wire ≡ self.old.is_wire) }
+        ensures rest { self.new ≡ record self.old { failure = self.new.failure; reason = self.new.reason; has_ended = self.new.has_ended; pulled = self.new.pulled } }
     {
         match read {
-            Ok(_) if !self.is_broken() => {
+            Ok(count) if count > 0 => {
+                self.pulled = self.pulled.saturating_add(count as u64);
+                Pulled::Gave(count)
+            }
+            Ok(_) if self.was_ended() || self.failure.is_none() => {
                 self.has_ended = true;
                 Pulled::Ended
             }
@@ -488,6 +307,39 @@ impl<S: Stream + Drop> Socket<S> {
                 Pulled::Failed
             }
         }
+    }
+
+    /// What came of a write. `is_empty` says whether there was nothing to write.
+    fn hear_written(&mut self, written: io::Result<usize>, is_empty: bool) -> Pushed
+        ensures within { (bytes : List ℕ) → WritesAtMost written bytes → pushed_count result ≤ length bytes }
+        ensures some { takes result ≡ true → is_empty ≡ false → 0 < pushed_count result }
+        ensures count { MatchResult written (λ count. pushed_count result ≡ count) (λ _. pushed_count result ≡ 0) }
+        ensures failed { is_some self.new.failure ≡ (is_some self.old.failure || is_push_failure result) }
+        ensures rest { self.new ≡ record self.old { failure = self.new.failure; reason = self.new.reason; pushed = self.new.pushed } }
+    {
+        match written {
+            Ok(count) if count > 0 || is_empty => {
+                self.pushed = self.pushed.saturating_add(count as u64);
+                Pushed::Took(count)
+            }
+            Err(e) if e.kind() == ErrorKind::WouldBlock => Pushed::NotNow,
+            Err(e) => {
+                self.fail(SocketFault::Push, Some(&e));
+                Pushed::Failed
+            }
+            Ok(_) => {
+                self.fail(SocketFault::Push, None);
+                Pushed::Failed
+            }
+        }
+    }
+}
+
+/// Why a flow ended that stands so, if it broke off for this reason.
+fn ending_of(flow: Flow, broken: Ending) -> Ending {
+    match flow {
+        Flow::Ended => Ending::Ended,
+        Flow::Open | Flow::Broken => broken,
     }
 }
 
@@ -507,55 +359,64 @@ fn fit(pieces: &[IoSlice<'_>], count: usize) -> bool
 }
 
 impl<S: Stream + Drop> Device for Socket<S> {
-    ghost use Rattle.std.specs.Prelude.{None, Some, is_some};
+    ghost use Rattle.std.specs.Prelude.{Some, is_some};
     ghost use Rattle.ymx_forward.specs.Sockets.{marks_of};
 
     ghost seen = { λ s. record { left = S.left s.socket; had = S.had s.socket; over = Some s.has_ended; ended = Some s.was_finished; failed = Some (is_some s.failure); shut = Some s.was_shut; marks = marks_of s.marks; calls = s.calls } };
 
+    #[tactic(auto, using(crate::proofs::Bytes::none_consumed, crate::proofs::Bytes::all_kept))]
     fn pull(&mut self, buffer: &mut [u8]) -> Pulled
-        ensures moved { IsPulled result buffer.new (⟦<Socket<S> as Device>⟧.seen self.old) (⟦<Socket<S> as Device>⟧.seen self.new) }
-        ensures open { (S.finished self.new.socket ≡ S.finished self.old.socket) × (S.closed self.new.socket ≡ S.closed self.old.socket) × (S.aborted self.new.socket ≡ S.aborted self.old.socket) }
-        ensures counted { self.new.calls ≡ min (self.old.calls + 1) (2 ^ 64 - 1) }
-        ensures stays { self.new.is_wire ≡ self.old.is_wire }
+        ensures { IsPulled result buffer.new (⟦<Socket<S> as Device>⟧.seen self.old) (⟦<Socket<S> as Device>⟧.seen self.new) }
     {
         self.count_call();
-        let pulled = self.give_if_connected(buffer);
+        let pulled = match self.pull_early() {
+            Some(pulled) => pulled,
+            None if buffer.is_empty() => Pulled::NotNow,
+            None => {
+                let read = self.socket.read(buffer);
+                self.hear_read(read)
+            }
+        };
         self.marks.note_pulled(pulled, buffer.len());
         pulled
     }
 
+    #[tactic(auto, using(crate::proofs::Bytes::none_appended, crate::proofs::Bytes::all_kept))]
     fn push(&mut self, bytes: &[u8]) -> Pushed
-        ensures moved { IsPushed result bytes.now (⟦<Socket<S> as Device>⟧.seen self.old) (⟦<Socket<S> as Device>⟧.seen self.new) }
-        ensures open { (S.finished self.new.socket ≡ S.finished self.old.socket) × (S.closed self.new.socket ≡ S.closed self.old.socket) × (S.aborted self.new.socket ≡ S.aborted self.old.socket) }
-        ensures counted { self.new.calls ≡ min (self.old.calls + 1) (2 ^ 64 - 1) }
-        ensures stays { self.new.is_wire ≡ self.old.is_wire }
+        ensures { IsPushed result bytes.now (⟦<Socket<S> as Device>⟧.seen self.old) (⟦<Socket<S> as Device>⟧.seen self.new) }
     {
         self.count_call();
-        let pushed = self.take(bytes);
+        let pushed = match self.push_early() {
+            Some(pushed) => pushed,
+            None => {
+                let written = self.socket.write(bytes);
+                self.hear_written(written, bytes.is_empty())
+            }
+        };
         self.marks
             .note_pushed(pushed, pushed.count() >= bytes.len());
         pushed
     }
 
+    #[tactic(auto, using(crate::proofs::Bytes::none_appended, crate::proofs::Bytes::all_kept))]
     fn push_pieces(&mut self, pieces: &[IoSlice<'_>]) -> Pushed
-        ensures moved { IsPushed result (io_slices_bytes pieces.now) (⟦<Socket<S> as Device>⟧.seen self.old) (⟦<Socket<S> as Device>⟧.seen self.new) }
-        ensures open { (S.finished self.new.socket ≡ S.finished self.old.socket) × (S.closed self.new.socket ≡ S.closed self.old.socket) × (S.aborted self.new.socket ≡ S.aborted self.old.socket) }
-        ensures counted { self.new.calls ≡ min (self.old.calls + 1) (2 ^ 64 - 1) }
-        ensures stays { self.new.is_wire ≡ self.old.is_wire }
+        ensures { IsPushed result (io_slices_bytes pieces.now) (⟦<Socket<S> as Device>⟧.seen self.old) (⟦<Socket<S> as Device>⟧.seen self.new) }
     {
         self.count_call();
-        let pushed = self.take_pieces(pieces);
+        let pushed = match self.push_early() {
+            Some(pushed) => pushed,
+            None => {
+                let written = self.socket.write_pieces(pieces);
+                self.hear_written(written, fit(pieces, 0))
+            }
+        };
         self.marks.note_pushed(pushed, fit(pieces, pushed.count()));
         pushed
     }
 
     /// Shuts the writing side: the other end reads what was written, and then the end.
     fn end(&mut self)
-        ensures ended { IsEnded (⟦<Socket<S> as Device>⟧.seen self.old) (⟦<Socket<S> as Device>⟧.seen self.new) }
-        ensures finished { self.old.state ≡ ConnectState.Connected → S.finished self.new.socket ≡ option_map (λ _. true) (S.finished self.old.socket) }
-        ensures half { (S.closed self.new.socket ≡ S.closed self.old.socket) × (S.aborted self.new.socket ≡ S.aborted self.old.socket) }
-        ensures counted { self.new.calls ≡ min (self.old.calls + 1) (2 ^ 64 - 1) }
-        ensures stays { self.new.is_wire ≡ self.old.is_wire }
+        ensures { IsEnded (⟦<Socket<S> as Device>⟧.seen self.old) (⟦<Socket<S> as Device>⟧.seen self.new) }
     {
         self.count_call();
         self.was_finished = true;
@@ -567,27 +428,22 @@ impl<S: Stream + Drop> Device for Socket<S> {
     /// Aborts it, so that its other end sees a reset, and no end; a wire is shut both ways. One that is still being made is made
     /// no more. A call of it answers at once then.
     fn shut(&mut self)
-        ensures shut { IsShut (⟦<Socket<S> as Device>⟧.seen self.old) (⟦<Socket<S> as Device>⟧.seen self.new) }
-        ensures aborted { self.old.is_wire ≡ false → S.aborted self.new.socket ≡ option_map (λ _. true) (S.aborted self.old.socket) }
-        ensures closed { self.old.is_wire ≡ true → S.closed self.new.socket ≡ option_map (λ _. true) (S.closed self.old.socket) }
-        // Only what carries a stream is aborted, and only a wire is shut both ways.
-        ensures wire { self.old.is_wire ≡ true → S.aborted self.new.socket ≡ S.aborted self.old.socket }
-        ensures stream { self.old.is_wire ≡ false → S.closed self.new.socket ≡ S.closed self.old.socket }
-        ensures counted { self.new.calls ≡ min (self.old.calls + 1) (2 ^ 64 - 1) }
-        ensures stays { self.new.is_wire ≡ self.old.is_wire }
+        ensures { IsShut (⟦<Socket<S> as Device>⟧.seen self.old) (⟦<Socket<S> as Device>⟧.seen self.new) }
     {
         self.count_call();
         self.was_shut = true;
-        self.marks.note_shut();
-        self.end_abruptly();
+        self.marks.may_pull = true;
+        self.marks.may_push = true;
+        if self.origin.is_none() {
+            self.socket.shut();
+        } else {
+            self.socket.abort();
+        }
     }
 
     /// An event came. A connection that was being made is there now, or can't be made.
     fn note_event(&mut self, ready: Readiness)
-        ensures noted { IsNoted ready (⟦<Socket<S> as Device>⟧.seen self.old) (⟦<Socket<S> as Device>⟧.seen self.new) }
-        ensures stays { self.new.is_wire ≡ self.old.is_wire }
-        // It is seen at once: what comes next of it is a read or a write of it, or fails.
-        ensures seen { self.old.state ≡ ConnectState.Connecting → IsSeen (S.made self.old.socket) (S.unmade self.old.socket) self.old.state self.new.state }
+        ensures { IsNoted ready (⟦<Socket<S> as Device>⟧.seen self.old) (⟦<Socket<S> as Device>⟧.seen self.new) }
     {
         if self.state == ConnectState::Connecting {
             self.look();

@@ -1,24 +1,19 @@
 //! The page of an end, served to who asks at an address of its own, beside the end and in a thread of its own. The first
 //! line of a request is read, up to 8,192 bytes, and within two seconds. One that is stuck holds up no other.
 
-ghost use Rattle.std.specs.Prelude.{◌≡◌, false, is_some};
-
-use crate::counted::{Counted, Counters};
-use crate::drain::{Asked, Drain};
+use crate::drain::Drain;
 use crate::host::Host;
-use crate::notices::ProgramWatcher;
-use crate::sockets::listen_at;
-use crate::starting::StartFault;
 use crate::stream::Stream;
-use crate::system::{Listener, NoEvents, Poll, TcpConnection, Waker};
+use crate::system::{Listener, NoEvents, Poll, StartFault, TcpConnection, Waker, listen};
+use crate::voice::Context;
 use std::alloc::Global;
 use std::collections::VecDeque;
 use std::io::ErrorKind;
-use std::net::SocketAddrV4;
-use std::sync::atomic::{AtomicBool, Ordering};
-use std::sync::{Arc, Wait};
+use std::net::{SocketAddr, SocketAddrV4};
+use std::sync::Arc;
 use std::time::{Clock, Duration, Instant};
-use ymx_page::{Drainable, Known, RequestLine, Seen, heed};
+use ymx_model::Outlet;
+use ymx_page::{Answer, RequestLine, answer_to};
 
 /// The token of the listener.
 const CALLERS: usize = 0;
@@ -53,122 +48,35 @@ pub(crate) struct Page {
     callers: VecDeque<Caller>,
 }
 
-/// What an end shares with its page.
-#[derive(Drop)]
-pub(crate) struct Board {
-    pub(crate) alloc: Global,
-    /// What the end counts.
-    counters: Counters,
-    /// Through which it is asked to take no more connections. None where it can't be.
-    drain: Option<Arc<Drain, Global>>,
-    has_ended: AtomicBool,
-    /// Ends the wait of the page.
-    waker: Waker,
-}
-
-/// A page at this address, which is answered once it is run, of an end that can be asked to take no more connections, or
-/// can't.
-pub(crate) fn new_page<R: Host>(
-    rt: &R,
-    alloc: Global,
-    address: SocketAddrV4,
-    can_drain: bool,
-) -> Result<(Page, Board), StartFault> {
-    let (listener, _) = listen_at(rt, address)?;
-    let poll = Poll::new(rt, alloc)?;
-    let waker = Waker::new(&poll, ENDED)?;
-    let listener = Listener::new(listener, &poll, CALLERS)?;
-    let page = Page {
-        alloc,
-        poll,
-        listener,
-        callers: VecDeque::new(alloc),
-    };
-    let drain = if can_drain {
-        Some(Arc::new(alloc, Drain::new(alloc))?)
-    } else {
-        None
-    };
-    let board = Board {
-        alloc,
-        counters: Counters::new(),
-        drain,
-        has_ended: AtomicBool::new(false),
-        waker,
-    };
-    Ok((page, board))
-}
-
-impl Board {
-    /// Through which the end is asked to take no more connections.
-    pub(crate) fn drain(&self) -> Option<Arc<Drain, Global>> {
-        let drain = self.drain.as_ref()?;
-        Arc::try_clone(drain).ok()
-    }
-
-    /// Who counts what this watcher hears, for those who ask.
-    pub(crate) fn counted<'a, R: Clock + Wait, V: ProgramWatcher>(
-        &'a self,
-        rt: &'a R,
-        watcher: V,
-    ) -> Counted<'a, R, V> {
-        Counted {
-            rt,
-            counters: &self.counters,
-            known: Known::new(self.alloc),
-            watcher,
-        }
-    }
-
-    /// The end has ended: the page is answered no more.
-    pub(crate) fn note_end(&self) {
-        self.has_ended.store(true, Ordering::SeqCst);
-        self.waker.wake();
-    }
-
-    /// What is seen of the end.
-    fn seen<R: Clock + Wait>(&self, rt: &R) -> Seen {
-        let (counts, oldest) = self.counters.seen(rt);
-        let is_draining = match &self.drain {
-            Some(drain) => drain.is_asked(),
-            None => false,
-        };
-        Seen {
-            counts,
-            oldest,
-            is_draining,
-        }
-    }
-}
-
-/// Who asks an end to take no more connections, if it can be asked.
-#[derive(Drop)]
-struct Asker<'a, R: Wait> {
-    rt: &'a R,
-    drain: Option<&'a Arc<Drain, Global>>,
-    /// The end was asked.
-    asked: Option<Asked>,
-}
-
-impl<R: Wait> Drainable for Asker<'_, R> {
-    ghost can_drain = { λ a. is_some a.drain };
-
-    ghost is_asked = { λ a. is_some a.asked };
-
-    fn ask(&mut self) -> bool {
-        let Some(drain) = self.drain else {
-            return false;
-        };
-        self.asked = Some(drain.ask(self.rt));
-        true
-    }
-}
-
 impl Page {
+    /// A page at this address, which is answered once it is run, until it is told that the end has ended.
+    pub(crate) fn new<R: Host>(
+        rt: &R,
+        alloc: Global,
+        address: SocketAddrV4,
+        ended: &Drain,
+    ) -> Result<Page, StartFault> {
+        let listener = listen(rt, SocketAddr::V4(address))?;
+        let poll = Poll::new(rt, alloc)?;
+        let seat = ended.wakes(rt, Arc::new(alloc, Waker::new(&poll, ENDED)?)?);
+        let _ = seat.ok_or(StartFault::OutOfMemory)?;
+        Ok(Page {
+            alloc,
+            listener: Listener::new(listener, &poll, CALLERS)?,
+            poll,
+            callers: VecDeque::new(alloc),
+        })
+    }
+
     /// Answers until the end has ended, and those who are there then.
-    pub(crate) fn run<R: Host>(&mut self, rt: &R, board: &Board) {
-        for _ in rt.forever() {
-            let is_over = board.has_ended.load(Ordering::SeqCst);
+    pub(crate) fn run<R: Host, E: Outlet, L: Outlet>(
+        &mut self,
+        context: Context<'_, R, E, L>,
+        drain: &Drain,
+        ended: &Drain,
+    ) {
+        for _ in context.rt.forever() {
+            let is_over = ended.is_asked();
             if is_over && self.callers.is_empty() {
                 return;
             }
@@ -177,9 +85,9 @@ impl Page {
                 _ => {}
             }
             if !is_over {
-                self.let_in(rt);
+                self.let_in(context.rt);
             }
-            self.serve_all(rt, board);
+            self.serve_all(context, drain);
         }
         unreachable!()
     }
@@ -203,9 +111,7 @@ impl Page {
     }
 
     /// Somebody has come, over this connection. Where too many are there the oldest goes.
-    fn greet<R: Clock>(&mut self, rt: &R, socket: TcpConnection)
-        requires { socket.is_registered ≡ false }
-    {
+    fn greet<R: Clock>(&mut self, rt: &R, socket: TcpConnection) {
         let mut socket = socket.to_peer();
         if socket.register(&self.poll, ASKING).is_err() {
             return;
@@ -222,19 +128,22 @@ impl Page {
             line,
             answer: None,
             written: 0,
-            is_told: false,
         };
         drop(self.callers.push_back(caller));
     }
 
     /// Goes on with each who is there.
-    fn serve_all<R: Host>(&mut self, rt: &R, board: &Board) {
+    fn serve_all<R: Host, E: Outlet, L: Outlet>(
+        &mut self,
+        context: Context<'_, R, E, L>,
+        drain: &Drain,
+    ) {
         for _ in 0..self.callers.len() {
             let Some(caller) = self.callers.pop_front() else {
                 return;
             };
             let mut caller = caller;
-            if caller.go_on(rt, board) {
+            if caller.go_on(context, drain) == Step::Waits {
                 drop(self.callers.push_back(caller));
             }
         }
@@ -253,8 +162,6 @@ struct Caller {
     answer: Option<String>,
     /// How many bytes of the answer were taken.
     written: usize,
-    /// All were.
-    is_told: bool,
 }
 
 /// How far one came.
@@ -269,26 +176,26 @@ enum Step {
 }
 
 impl Caller {
-    /// Goes on as far as it can now. Whether there is more to be done.
-    fn go_on<R: Host>(&mut self, rt: &R, board: &Board) -> bool {
-        if !self.has_time(rt) {
-            return false;
+    /// Goes on as far as it can now. What still comes behind its answer is forgotten: else the answer could be lost with the
+    /// connection.
+    fn go_on<R: Host, E: Outlet, L: Outlet>(
+        &mut self,
+        context: Context<'_, R, E, L>,
+        drain: &Drain,
+    ) -> Step {
+        if !self.has_time(context.rt) {
+            return Step::Gone;
         }
         if self.answer.is_none() {
-            match self.read_line() {
-                Step::Waits => return true,
-                Step::Gone => return false,
-                Step::Done => self.decide(rt, board),
+            match self.read() {
+                Step::Done => self.decide(context, drain),
+                other => return other,
             }
         }
-        if !self.is_told {
-            match self.write() {
-                Step::Waits => return true,
-                Step::Gone => return false,
-                Step::Done => {}
-            }
+        match self.write() {
+            Step::Done => self.read(),
+            other => other,
         }
-        self.read_rest() == Step::Waits
     }
 
     /// Whether its time isn't over.
@@ -299,14 +206,14 @@ impl Caller {
         }
     }
 
-    /// Reads its first line.
-    fn read_line(&mut self) -> Step {
+    /// Reads what has come, until its first line is there. Behind that it forgets it.
+    fn read(&mut self) -> Step {
         let mut buffer = [0u8; PART];
         for _ in 0..CALLS {
             match self.socket.read(&mut buffer) {
                 Ok(0) => return Step::Gone,
                 Ok(count) => {
-                    if self.line.hear(&buffer[..count]) {
+                    if self.answer.is_none() && self.line.hear(&buffer[..count]) {
                         return Step::Done;
                     }
                 }
@@ -317,15 +224,26 @@ impl Caller {
         Step::Waits
     }
 
-    /// Decides on the answer.
-    fn decide<R: Host>(&mut self, rt: &R, board: &Board) {
-        let mut asker = Asker {
-            rt,
-            drain: board.drain.as_ref(),
-            asked: None,
+    /// Decides on the answer, and does what is asked for.
+    fn decide<R: Host, E: Outlet, L: Outlet>(
+        &mut self,
+        context: Context<'_, R, E, L>,
+        drain: &Drain,
+    ) {
+        let rt = context.rt;
+        let answer = answer_to(self.line.bytes());
+        if answer == Answer::Drain {
+            drain.ask(rt);
+        }
+        let is_draining = drain.is_asked();
+        let sink = context.sink.lock(rt);
+        let age = match sink.counts.oldest() {
+            Some(began) => began.elapsed(rt).unwrap_or(Duration::ZERO),
+            None => Duration::ZERO,
         };
-        let answer = heed(self.line.bytes(), &mut asker);
-        self.answer = answer.text(board.alloc, board.seen(rt)).ok();
+        self.answer = answer
+            .text(context.alloc, &sink.counts, age.as_secs(), is_draining)
+            .ok();
     }
 
     /// Writes the rest of its answer, and then the end.
@@ -338,26 +256,11 @@ impl Caller {
             let from = self.written.min(bytes.len());
             if from == bytes.len() {
                 self.socket.finish();
-                self.is_told = true;
                 return Step::Done;
             }
             match self.socket.write(&bytes[from..]) {
                 Ok(0) => return Step::Gone,
                 Ok(count) => self.written = from + count,
-                Err(e) if e.kind() == ErrorKind::WouldBlock => return Step::Waits,
-                Err(_) => return Step::Gone,
-            }
-        }
-        Step::Waits
-    }
-
-    /// Reads what still comes, and forgets it: else the answer could be lost with the connection.
-    fn read_rest(&mut self) -> Step {
-        let mut buffer = [0u8; PART];
-        for _ in 0..CALLS {
-            match self.socket.read(&mut buffer) {
-                Ok(0) => return Step::Gone,
-                Ok(_) => {}
                 Err(e) if e.kind() == ErrorKind::WouldBlock => return Step::Waits,
                 Err(_) => return Step::Gone,
             }

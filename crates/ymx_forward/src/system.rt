@@ -3,30 +3,27 @@
 //! system does, so this file is to be read. No other makes such a call: sockets that never wait are private here. They come
 //! first, then the events, and at last the sockets that wait.
 
-ghost use Rattle.std.specs.Prelude.{◌≡◌, ◌<◌, ◌^◌, ◌==◌, false, length, IfOk, None, Some};
+ghost use Rattle.std.specs.Prelude.{◌≡◌, ◌<◌, ◌^◌, ◌==◌, length, None};
 ghost use Rattle.std.specs.Slice.Iter.{iter_rest, iter_steps};
 ghost use Rattle.std.specs.Iterator.Runs.{EveryRun, ItemsMapTo};
 ghost use Rattle.mio.specs.declared.event.event.Event.{Event as SystemEvent};
 ghost use Rattle.mio.specs.Events.{items};
 ghost use Rattle.libc.specs.Net.{SockOption};
-ghost use Rattle.ymx_forward.specs.Connections.{IsFresh};
 ghost use Rattle.ymx_forward.specs.Counts.{CountsOne};
-ghost use Rattle.ymx_forward.specs.Events.{event_of};
 
-use crate::dialing::Dialer;
-use crate::starting::StartFault;
 use crate::stream::Stream;
 use libc::net as c;
+use libc::types::pollfd;
 use mio::event::Iter;
 use mio::{Interest, Token};
-use std::alloc::Global;
+use std::alloc::{AllocError, AllocFailed, Global};
 use std::io::{ErrorKind, IoSlice, Write};
 use std::net::{Net, Shutdown, SocketAddr, TcpListener, TcpStream};
 use std::os::fd::AsRawFd;
 use std::time::Duration;
 use std::{io, net};
 use ymx_model::{read, write};
-use ymx_policy::Keepalive;
+use ymx_policy::{Keepalive, Reason};
 
 /// How often a write of several pieces that a signal interrupted is made again before it counts as failed.
 const RETRIES: u32 = 1_000_000;
@@ -34,6 +31,33 @@ const RETRIES: u32 = 1_000_000;
 const BACKLOG: i32 = 4_096;
 /// How many events are taken at once.
 const EVENTS: usize = 256;
+
+/// Why something can't begin.
+#[derive(Clone, Copy)]
+pub(crate) enum StartFault {
+    /// The system refused, for this reason.
+    Refused(Reason),
+    /// There is no memory.
+    OutOfMemory,
+}
+
+impl From<io::Error> for StartFault {
+    fn from(error: io::Error) -> StartFault {
+        StartFault::Refused(Reason::of(&error))
+    }
+}
+
+impl From<AllocError> for StartFault {
+    fn from(_refused: AllocError) -> StartFault {
+        StartFault::OutOfMemory
+    }
+}
+
+impl<T: Drop> From<AllocFailed<T>> for StartFault {
+    fn from(_refused: AllocFailed<T>) -> StartFault {
+        StartFault::OutOfMemory
+    }
+}
 
 /// The system has refused to tell of events. Only a call that it refused makes one.
 #[derive(Drop)]
@@ -55,12 +79,8 @@ fn told(answer: io::Result<()>) -> Result<(), NoEvents> {
 /// more comes from it and was told that no more goes to it: so whatever cuts it, its other end sees a reset, and no end.
 pub(crate) struct TcpConnection {
     inner: mio::net::TcpStream,
-    /// Whom this side called for it. None where its other side called.
-    called: Option<SocketAddr>,
     /// Where it was called from, if its other side called: the system says so no more once that has broken it.
     from: Option<SocketAddr>,
-    /// A poll was asked to tell of it.
-    is_registered: bool,
     /// It has not said that no more comes from it.
     gives: bool,
     /// It was not told that no more goes to it.
@@ -74,9 +94,7 @@ impl Drop for TcpConnection {
         }
         let TcpConnection {
             inner: _,
-            called: _,
             from: _,
-            is_registered: _,
             gives: _,
             takes: _,
         } = self;
@@ -92,38 +110,22 @@ fn abort(connection: &mio::net::TcpStream) {
 
 impl TcpConnection {
     /// One that waits, made one that never does.
-    pub(crate) fn of(connection: TcpStream) -> io::Result<TcpConnection>
-        ensures { IfOk result (IsFresh None) }
-    {
-        TcpConnection::over(connection, None)
-    }
-
-    /// The same of one for which this address was called, if one was.
-    fn over(connection: TcpStream, called: Option<SocketAddr>) -> io::Result<TcpConnection>
-        ensures { IfOk result (IsFresh called) }
-    {
+    pub(crate) fn of(connection: TcpStream) -> io::Result<TcpConnection> {
         connection.set_nonblocking(true)?;
-        let inner = mio::net::TcpStream::from_std(connection);
-        Ok(TcpConnection::new(inner, called))
+        Ok(TcpConnection::new(mio::net::TcpStream::from_std(connection)))
     }
 
-    fn new(inner: mio::net::TcpStream, called: Option<SocketAddr>) -> TcpConnection
-        ensures { IsFresh called result }
-    {
+    fn new(inner: mio::net::TcpStream) -> TcpConnection {
         TcpConnection {
             inner,
-            called,
             from: None,
-            is_registered: false,
             gives: true,
             takes: true,
         }
     }
 
     /// One to a peer, which is closed and not aborted where it is dropped.
-    pub(crate) fn to_peer(self) -> TcpConnection
-        ensures { result ≡ record self { gives = false; takes = false } }
-    {
+    pub(crate) fn to_peer(self) -> TcpConnection {
         let mut connection = self;
         connection.gives = false;
         connection.takes = false;
@@ -163,32 +165,7 @@ impl Stream for TcpConnection {
 
     ghost had = { λ _. None };
 
-    ghost finished = { λ _. None };
-
-    ghost closed = { λ _. None };
-
-    ghost aborted = { λ _. None };
-
-    ghost registered = { λ s. s.is_registered };
-
-    ghost told_under = { λ _. None };
-
-    ghost made = { λ _. None };
-
-    ghost unmade = { λ _. None };
-
-    ghost called = { λ s. s.called };
-
-    fn called(&self) -> Option<SocketAddr> {
-        self.called
-    }
-
-    fn is_registered(&self) -> bool {
-        self.is_registered
-    }
-
     fn register(&mut self, poll: &Poll, token: usize) -> Result<(), NoEvents> {
-        self.is_registered = true;
         let both = Interest::READABLE | Interest::WRITABLE;
         let registry = poll.inner.registry();
         told(registry.register(&mut self.inner, Token(token), both))
@@ -238,19 +215,9 @@ impl Stream for TcpConnection {
     }
 }
 
-/// Connects by the system.
-#[derive(Drop)]
-pub(crate) struct SystemDialer<'a, R> {
-    pub(crate) rt: &'a R,
-}
-
-impl<R: Net> Dialer for SystemDialer<'_, R> {
-    ghost called = { λ _. None };
-
-    fn begin(&mut self, address: SocketAddr) -> io::Result<TcpConnection> {
-        let connection = mio::net::TcpStream::connect(self.rt, address)?;
-        Ok(TcpConnection::new(connection, Some(address)))
-    }
+/// Begins to connect to this address. It doesn't wait.
+pub(crate) fn begin_call<R: Net>(rt: &R, address: SocketAddr) -> io::Result<TcpConnection> {
+    Ok(TcpConnection::new(mio::net::TcpStream::connect(rt, address)?))
 }
 
 /// Where connections come from, of which a poll tells. Its calls never wait. It is closed when it is dropped.
@@ -270,13 +237,26 @@ impl Listener {
     }
 
     /// The next connection. Where none waits the error says so.
-    pub(crate) fn next(&self) -> io::Result<TcpConnection>
-        ensures { IfOk result (IsFresh None) }
-    {
+    pub(crate) fn next(&self) -> io::Result<TcpConnection> {
         let (connection, from) = self.inner.accept()?;
-        let mut accepted = TcpConnection::new(connection, None);
+        let mut accepted = TcpConnection::new(connection);
         accepted.from = Some(from);
         Ok(accepted)
+    }
+
+    /// Whether a connection waits, which stays there.
+    pub(crate) fn is_awaited(&self) -> bool {
+        let mut asked = [pollfd {
+            fd: self.inner.as_raw_fd(),
+            events: c::POLLIN,
+            revents: 0,
+        }];
+        c::poll(&mut asked, 0) > 0 && asked[0].revents & c::POLLIN != 0
+    }
+
+    /// Nobody listens any more, at none of its duplicates: their polls tell of that.
+    pub(crate) fn close_all(&self) {
+        c::shutdown(self.inner.as_raw_fd(), c::SHUT_RDWR);
     }
 }
 
@@ -289,8 +269,6 @@ pub(crate) struct Poll {
     waits: u64,
     /// How often events were taken, with a wait or without. It stays at the greatest `u64`.
     looks: u64,
-    /// How long it might wait at most, when it waited last. None for as long as no event came.
-    limit: Option<Duration>,
 }
 
 impl Poll {
@@ -301,7 +279,6 @@ impl Poll {
             inner: mio::Poll::new(rt)?,
             waits: 0,
             looks: 0,
-            limit: None,
         })
     }
 
@@ -309,11 +286,9 @@ impl Poll {
     pub(crate) fn wait(&mut self, limit: Option<Duration>) -> Result<(), NoEvents>
         ensures waits { CountsOne self.old.waits self.new.waits }
         ensures looks { CountsOne self.old.looks self.new.looks }
-        ensures limit { self.new.limit ≡ limit }
     {
         self.waits = self.waits.saturating_add(1);
         self.looks = self.looks.saturating_add(1);
-        self.limit = limit;
         told(self.inner.poll(&mut self.events, limit))
     }
 
@@ -353,9 +328,7 @@ pub(crate) struct Event {
 
 impl Event {
     /// What this event of the system says.
-    pub(crate) fn of(event: &mio::event::Event) -> Event
-        ensures { result ≡ event_of event.now }
-    {
+    pub(crate) fn of(event: &mio::event::Event) -> Event {
         let Token(token) = event.token();
         Event {
             token,
@@ -399,14 +372,12 @@ pub(crate) fn call<R: Net<Stream = TcpStream>>(
     rt: &R,
     address: SocketAddr,
     limit: Option<Duration>,
-) -> io::Result<TcpConnection>
-    ensures { IfOk result (IsFresh (Some address)) }
-{
+) -> io::Result<TcpConnection> {
     let connection = match limit {
         Some(limit) => TcpStream::connect_timeout(rt, &address, limit)?,
         None => TcpStream::connect(rt, address)?,
     };
-    TcpConnection::over(connection, Some(address))
+    TcpConnection::of(connection)
 }
 
 /// Listens at this address. Where the system refuses so long a backlog, its own stays.
@@ -417,6 +388,11 @@ pub(crate) fn listen<R: Net<Stream = TcpStream, Listener = TcpListener>>(
     let listener = TcpListener::bind(rt, address)?;
     let _ = libc::net::listen(listener.as_raw_fd(), BACKLOG);
     Ok(listener)
+}
+
+/// One more that listens there, too.
+pub(crate) fn duplicate(listener: &TcpListener) -> io::Result<TcpListener> {
+    listener.try_clone()
 }
 
 /// Where this one listens.

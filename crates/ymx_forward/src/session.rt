@@ -1,0 +1,901 @@
+//! The loop that runs one session of a tunnel: what it does between two looks at the events.
+//!
+//! All that moves is moved by calls of [`ymx_engine::Tunnel`], which owns the wire and the connections. Each function
+//! here that makes such calls says that they are all it did: `Runs`.
+
+ghost use Rattle.std.specs.Prelude.{◌≡◌, ◌⊎◌, true, false, None, Some, IfOk, IfErr, not};
+ghost use Rattle.ymx_engine.specs.Runs.{Runs, IsOver};
+ghost use Rattle.ymx_engine.specs.Served.{Serving};
+ghost use Rattle.ymx_engine.specs.Turns.{Line as LineValue, line_of};
+ghost use Rattle.ymx_engine.specs.Ways.{is_over};
+ghost use Rattle.ymx_engine.specs.Work.{ServesOne, WorksOnce};
+ghost use Rattle.ymx_forward.specs.Counts.{CountsOne};
+ghost use Rattle.ymx_forward.specs.Loops.{NeedsEvents, WaitsInNeed, WorksBetween};
+ghost use Rattle.ymx_forward.specs.declared.session.Outcome.TheVariants as OutcomeOf;
+ghost use Rattle.ymx_law_session.specs.Limits.{IsWithin};
+ghost use Rattle.ymx_model.specs.session.Sessions.{is_running};
+
+use crate::closing::close;
+use crate::drain::{Drain, is_asked};
+use crate::host::Host;
+use crate::peer::Peer;
+use crate::silence::{Cause, Due, Silence, has_passed, is_sign, shorter, time_of};
+use crate::socket::Socket;
+use crate::stream::Stream;
+use crate::system::{Event as PollEvent, NoEvents, Poll, TcpConnection, begin_call};
+use crate::users::Users;
+use crate::voice::Context;
+use std::alloc::Global;
+use std::net::{SocketAddr, SocketAddrV4};
+use std::sync::Arc;
+use std::time::Duration;
+use ymx_engine::{Device, NotJoined, Readiness, Registry, Tunnel};
+use ymx_header::{FIRST_EXHAUSTED, MOST_RECORDS};
+use ymx_model::{CallFault, Config, Outlet, Role, Status};
+use ymx_page::{Declined, EndedConnection, Ending, Event, Origin};
+use ymx_policy::{Notice, Reason, Session as Asked, SessionEnd};
+use ymx_session::{NewFault, Session};
+
+/// The wire's token.
+const WIRE: usize = 0;
+
+/// The token of the listener for connections of users, and of who wakes the poll.
+pub(crate) const LISTENER: usize = 1;
+
+/// The token of a stream is its id plus this. There is no stream 0, so the token 2 is free for the listener for peers.
+/// In a session no id is given twice, so an event that comes late is of a stream that is no more.
+const STREAMS: usize = 2;
+
+/// How many connections are accepted at most before bytes move again.
+const ACCEPTS: u32 = 64;
+
+/// How many bytes of a payload go straight to their connection at least. A peer that puts a whole write into one frame
+/// sends so many. Frames of our own carry 16,384 bytes: eight of a stream come together, and one write out of its ring
+/// takes them all, where each by itself would take a write of its own.
+const LEAST_STRAIGHT: usize = 65_536;
+
+/// How many bytes of connections are taken before they are written to the wire.
+const UNWRITTEN: u64 = 131_072;
+
+/// How many seconds nothing may move where a session was lost and another follows, and how many a peer may be silent at the
+/// end before its connection is closed, where others may wait.
+const PATIENCE: u64 = 10;
+
+/// How many seconds it waits for events there, so that it sees when nothing has moved for too long.
+const GLANCE: u64 = 1;
+
+/// How many seconds a session lasts at least after which the peer is called again at once.
+const LASTING: u64 = 1;
+
+/// Where connections come from, or where they go to.
+#[derive(Drop)]
+pub(crate) enum Side {
+    /// They come from users.
+    Local(Users),
+    /// They go to a target, so many at once. Once the drain asks for that no more streams of the peer are taken.
+    Remote {
+        target: SocketAddr,
+        limit: usize,
+        drain: Option<Arc<Drain, Global>>,
+    },
+}
+
+impl Side {
+    /// Whether no more connections are to come, as that was asked for.
+    fn is_drained(&self) -> bool {
+        match self {
+            Side::Local(_) => false,
+            Side::Remote { drain, .. } => is_asked(drain),
+        }
+    }
+}
+
+/// Registers connections with a poll, each under the token of its stream.
+#[derive(Drop)]
+struct Tokens<'a> {
+    poll: &'a Poll,
+}
+
+impl<S: Stream + Drop> Registry<Socket<S>> for Tokens<'_> {
+    ghost told = { λ _. None };
+
+    fn register(&mut self, id: u32, device: &mut Socket<S>) -> bool {
+        device.register(self.poll, (id as usize) + STREAMS)
+    }
+}
+
+/// How a loop came to its end.
+#[derive(Clone, Copy, PartialEq, Eq)]
+enum Outcome {
+    /// This side and all its connections had ended, and the wire had taken all that was due or had failed.
+    Over,
+    /// The session was lost, another one follows, and nothing had moved for too long.
+    Left,
+    /// The system refused to tell of events.
+    Unwatched,
+}
+
+/// Runs such a session with this peer, in this thread alone, and says how it ended. Once its side has ended it sends all
+/// that is due, closes its writing side, and waits for the peer to close the connection.
+///
+/// A client ends after its count of connections, or at an accept that fails. Without a count it also ends at the first
+/// connection that is accepted after the session was lost or, where another session follows, as soon as it is lost. A
+/// server ends with the session. Both end only once all connections have. Where another session follows, connections
+/// that have taken nothing for ten seconds since the loss are closed.
+pub(crate) fn run_session<R: Host, E: Outlet, L: Outlet>(
+    context: Context<'_, R, E, L>,
+    poll: &mut Poll,
+    side: &mut Side,
+    peer: Peer,
+    session: Asked,
+) -> SessionEnd {
+    let began = time_of(context.rt);
+    let address = peer.address();
+    context.tell(Event::SessionBegan);
+    let mut how = match peer.into_wire(&session, poll, WIRE) {
+        Ok(wire) => run_over(context, poll, side, wire, (session, address)),
+        Err(_) => {
+            let mut how = SessionEnd::clean();
+            how.is_unwatched = true;
+            how
+        }
+    };
+    context.tell(Event::SessionEnded);
+    how.peer = address;
+    how.has_lasted = has_passed(began, time_of(context.rt), Duration::from_secs(LASTING));
+    how
+}
+
+/// Runs such a session over this wire, with the peer at this address, if it is known, and closes the wire.
+fn run_over<R: Host, E: Outlet, L: Outlet>(
+    context: Context<'_, R, E, L>,
+    poll: &mut Poll,
+    side: &mut Side,
+    wire: Socket,
+    asked: (Asked, Option<SocketAddrV4>),
+) -> SessionEnd {
+    let (session, peer) = asked;
+    let tunnel = match new_tunnel(context.alloc, wire, role_of(side), session.window) {
+        Ok(tunnel) => tunnel,
+        Err(fault) => {
+            let mut how = SessionEnd::clean();
+            match fault {
+                NewFault::OutOfMemory(_) => how.lacked_memory = true,
+                _ => how.is_unwatched = true,
+            }
+            return how;
+        }
+    };
+    let mut session_loop = SessionLoop {
+        context,
+        tunnel,
+        side,
+        session,
+        peer,
+        how: SessionEnd::clean(),
+        unwritten: 0,
+        rejected: 0,
+        is_loss_told: false,
+        is_heard: !session.is_sounded,
+        is_leaving: false,
+        still_since: None,
+        silence: None,
+        pending: None,
+    };
+    let outcome = session_loop.run(poll);
+    let how = session_loop.ended(outcome);
+    let limit = session_loop.close_limit();
+    let mut wire = session_loop.into_wire();
+    close(context.rt, poll, &mut wire, how.broken.is_some(), limit);
+    how
+}
+
+/// One session of a tunnel's end.
+#[derive(Drop)]
+struct SessionLoop<'a, R, E, L> {
+    context: Context<'a, R, E, L>,
+    tunnel: Tunnel<Socket, Socket>,
+    side: &'a mut Side,
+    session: Asked,
+    /// Where the peer is, if that is known.
+    peer: Option<SocketAddrV4>,
+    /// What was noted of how it ends.
+    how: SessionEnd,
+    /// How many bytes connections have given since the wire was last written to.
+    unwritten: u64,
+    /// How many of the peer's streams were told to have been rejected for want of memory.
+    rejected: u64,
+    is_loss_told: bool,
+    /// The peer has given a sign of life, or isn't asked for one.
+    is_heard: bool,
+    /// The peer was told that no more of its streams are taken.
+    is_leaving: bool,
+    /// Since when nothing has moved. None where something just did.
+    still_since: Option<Duration>,
+    silence: Option<Silence>,
+    /// The number of the ping that the peer was last sent, until its answer is collected.
+    pending: Option<u32>,
+}
+
+impl<R: Host, E: Outlet, L: Outlet> SessionLoop<'_, R, E, L> {
+    /// Runs until this side and all its connections have ended, and the wire has taken all that is due or has failed. Where
+    /// another session follows, it is also left once the session is lost and nothing has moved for too long.
+    fn run(&mut self, poll: &mut Poll) -> Outcome
+        requires serves { Serving self.old.tunnel }
+        ensures runs { Runs self.old.tunnel self.new.tunnel }
+        // It waits for events only where nothing can be moved without one.
+        ensures waits { WaitsInNeed self.old.tunnel self.new.tunnel poll.old.waits poll.new.waits }
+        // Between two looks at the events it works a whole round.
+        ensures rounds { WorksBetween self.old.tunnel self.new.tunnel poll.old.looks poll.new.looks }
+        // A loop that wasn't left is over: nothing is due, or the wire has failed, and no connection is left.
+        ensures over { result ≡ OutcomeOf.Over → IsOver self.new.tunnel }
+    {
+        self.begin();
+        for _ in self.context.rt.forever() {
+            if self.is_over() {
+                return Outcome::Over;
+            }
+            let limit = self.hear_silence();
+            if let Err(refused) = self.await_events(poll, limit) {
+                self.give_up_wire(Cause::Unwatched(refused));
+                self.leave_all();
+                return Outcome::Unwatched;
+            }
+            if self.is_to_be_left() {
+                self.leave_all();
+                return Outcome::Left;
+            }
+            self.take_turn(poll);
+        }
+        unreachable!()
+    }
+
+    /// Asks the peer for its first sign of life, if it is to give one before it is given users.
+    fn begin(&mut self)
+        ensures { Runs self.old.tunnel self.new.tunnel }
+    {
+        let patience = match self.session.ping {
+            Some(seconds) => Some(Duration::from_secs(seconds as u64)),
+            None => None,
+        };
+        self.silence = Silence::new(time_of(self.context.rt), patience);
+        if self.session.is_sounded {
+            self.ask();
+        }
+    }
+
+    /// Hears whether the peer is silent: then it is asked for a sign, and given up where none comes. How long it may be
+    /// silent yet, or None if for ever.
+    fn hear_silence(&mut self) -> Option<Duration>
+        ensures { Runs self.old.tunnel self.new.tunnel }
+    {
+        let now = time_of(self.context.rt);
+        match self.due(now)? {
+            Due::In(left) => Some(left),
+            Due::Ping => {
+                self.ask();
+                Some(self.note_asked(now))
+            }
+            Due::Loss(silent) => {
+                self.give_up_wire(Cause::Silent(silent));
+                Some(Duration::ZERO)
+            }
+        }
+    }
+
+    /// What is due now of a peer that may be silent. None where nobody listens for silence, or the session is over.
+    fn due(&mut self, now: Option<Duration>) -> Option<Due>
+        ensures { self.new.tunnel ≡ self.old.tunnel }
+    {
+        if self.is_lost() {
+            return None;
+        }
+        let pulled = self.tunnel.wire().pulled();
+        let unframed = self.tunnel.unframed();
+        self.is_heard |= is_sign(0, pulled, unframed);
+        let mut silence = self.silence?;
+        silence.note_sent(now, self.tunnel.wire().pushed());
+        silence.hear(now, pulled, unframed);
+        self.silence = Some(silence);
+        Some(silence.due(now))
+    }
+
+    /// The peer was asked for a sign. How long it may be silent now.
+    fn note_asked(&mut self, now: Option<Duration>) -> Duration
+        ensures { self.new.tunnel ≡ self.old.tunnel }
+    {
+        match &mut self.silence {
+            Some(silence) => {
+                silence.note_asked(now);
+                silence.patience
+            }
+            None => Duration::ZERO,
+        }
+    }
+
+    /// Asks the peer for a sign, unless the answer to the last ping is still to come.
+    fn ask(&mut self)
+        ensures { Runs self.old.tunnel self.new.tunnel }
+    {
+        if !self.is_answer_due() {
+            self.pending = self.tunnel.ping().ok();
+        }
+    }
+
+    /// Whether the answer to the last ping is still to come.
+    fn is_answer_due(&mut self) -> bool
+        ensures { Runs self.old.tunnel self.new.tunnel }
+    {
+        match self.pending {
+            Some(number) => matches!(self.tunnel.ponged(number), Ok(false)),
+            None => false,
+        }
+    }
+
+    /// The connection to the peer is cut off, for this cause alone.
+    fn give_up_wire(&mut self, _cause: Cause)
+        ensures runs { Runs self.old.tunnel self.new.tunnel }
+        ensures lost { is_running self.new.tunnel.engine.session.status ≡ false }
+    {
+        self.tunnel.give_up_wire();
+    }
+
+    /// Waits for events for so long at most, unless something can be done without one, and notes what they say.
+    fn await_events(&mut self, poll: &mut Poll, limit: Option<Duration>) -> Result<(), NoEvents>
+        ensures runs { Runs self.old.tunnel self.new.tunnel }
+        ensures waits { Serving self.old.tunnel → (poll.new.waits ≡ poll.old.waits) ⊎ (NeedsEvents self.old.tunnel × CountsOne poll.old.waits poll.new.waits) }
+        ensures looked { CountsOne poll.old.looks poll.new.looks }
+    {
+        self.take_events(poll, limit)?;
+        self.note_all(poll);
+        Ok(())
+    }
+
+    /// Takes the events that are there or, if nothing can be done without one, waits for some, for so long at most.
+    fn take_events(&mut self, poll: &mut Poll, limit: Option<Duration>) -> Result<(), NoEvents>
+        ensures same { self.new.tunnel ≡ self.old.tunnel }
+        ensures waits { Serving self.old.tunnel → (poll.new.waits ≡ poll.old.waits) ⊎ (NeedsEvents self.old.tunnel × CountsOne poll.old.waits poll.new.waits) }
+        ensures looked { CountsOne poll.old.looks poll.new.looks }
+    {
+        if self.has_work() {
+            self.still_since = None;
+            return poll.look();
+        }
+        self.begin_stillness();
+        poll.wait(shorter(self.timeout(), limit))?;
+        self.note_waited(poll.events().next().is_none());
+        Ok(())
+    }
+
+    /// Nothing moves from now on, if something did before.
+    fn begin_stillness(&mut self)
+        ensures { self.new.tunnel ≡ self.old.tunnel }
+    {
+        if self.still_since.is_none() {
+            self.still_since = time_of(self.context.rt);
+        }
+    }
+
+    /// It has waited, in vain or not.
+    fn note_waited(&mut self, is_vain: bool)
+        ensures { self.new.tunnel ≡ self.old.tunnel }
+    {
+        if !is_vain {
+            self.still_since = None;
+        } else if let Side::Local(users) = &mut *self.side {
+            users.note_waited();
+        }
+    }
+
+    /// How long it waits for events. None if for as long as none comes.
+    fn timeout(&self) -> Option<Duration> {
+        match &*self.side {
+            _ if self.is_to_be_followed() => Some(Duration::from_secs(GLANCE)),
+            Side::Local(users) => users.limit(),
+            Side::Remote { .. } => None,
+        }
+    }
+
+    /// Does what can be done now.
+    fn take_turn(&mut self, poll: &Poll)
+        ensures runs { Runs self.old.tunnel self.new.tunnel }
+        // The wire is read and written, and each connection that waits for a turn comes nearer, has it or leaves.
+        ensures works { WorksOnce self.old.tunnel self.new.tunnel }
+    {
+        self.accept_users(poll);
+        self.note_users();
+        // about as many bytes are read of the wire as are written to it, so that bytes wait at their own connections
+        self.tunnel.read_wire(LEAST_STRAIGHT);
+        self.tunnel.read_wire(LEAST_STRAIGHT);
+        self.tell_peer();
+        self.heed_drain();
+        self.accept_streams(poll);
+        self.serve_queued();
+        self.unwritten = 0;
+        self.tunnel.flush();
+        self.end_lost_wire();
+        self.tell_rejections();
+    }
+
+    // ---- what it looks at
+
+    /// Whether something can be done with no event.
+    fn has_work(&self) -> bool
+        // Where it has none, nothing can be moved without an event.
+        ensures { Serving self.now.tunnel → result ≡ false → NeedsEvents self.now.tunnel }
+    {
+        self.has_user() || self.has_offer() || self.tunnel.has_work()
+    }
+
+    /// Whether a user may wait who is to be accepted now: those that come for the next session are left to it, and others
+    /// to when there is a place, and the peer has given a sign of life.
+    fn has_user(&self) -> bool {
+        let may_accept = match &*self.side {
+            Side::Local(users) => users.may_accept(self.tunnel.len()),
+            Side::Remote { .. } => false,
+        };
+        let can_open_later = !self.is_lost()
+            && !self.tunnel.is_peer_away()
+            && self.tunnel.next_id() < FIRST_EXHAUSTED;
+        let has_place = self.tunnel.len() < MOST_RECORDS && self.tunnel.opens_left() > 0;
+        may_accept && !self.leaves_users() && (!can_open_later || has_place && self.is_heard)
+    }
+
+    /// Whether a stream waits that is to be accepted now.
+    fn has_offer(&self) -> bool {
+        self.free_target().is_some() && self.tunnel.offered_count() > 0
+    }
+
+    /// Where a stream goes to that is accepted now. None where it has to wait, or none is accepted at all.
+    fn free_target(&self) -> Option<SocketAddr> {
+        match &*self.side {
+            Side::Remote { target, limit, .. } if self.tunnel.len() < *limit => Some(*target),
+            _ => None,
+        }
+    }
+
+    /// Whether this side and all its connections have ended, and nothing more goes over the wire.
+    fn is_over(&self) -> bool
+        ensures { result ≡ true → IsOver self.now.tunnel }
+    {
+        let is_side_over = match &*self.side {
+            Side::Local(users) => users.is_over() || self.leaves_users(),
+            Side::Remote { .. } => {
+                (self.is_lost() || self.is_leaving) && self.tunnel.offered_count() == 0
+            }
+        };
+        is_side_over && self.tunnel.is_empty() && self.tunnel.is_over()
+    }
+
+    /// Whether the session is over.
+    fn is_lost(&self) -> bool
+        ensures { result ≡ not (is_running self.now.tunnel.engine.session.status) }
+    {
+        match self.tunnel.status() {
+            Status::Running => false,
+            Status::Lost | Status::Broken(_) | Status::Closed => true,
+        }
+    }
+
+    /// Whether the session is over, and another one follows.
+    fn is_to_be_followed(&self) -> bool
+        ensures { result ≡ true → is_running self.now.tunnel.engine.session.status ≡ false }
+    {
+        self.session.is_followed && self.is_lost()
+    }
+
+    /// Whether the session was lost, another one follows, and nothing has moved for too long.
+    fn is_to_be_left(&self) -> bool
+        ensures { result ≡ true → is_running self.now.tunnel.engine.session.status ≡ false }
+    {
+        self.is_to_be_followed()
+            && has_passed(
+                self.still_since,
+                time_of(self.context.rt),
+                Duration::from_secs(PATIENCE),
+            )
+    }
+
+    /// Whether users are left to the next session: another one follows, and this one is over, or its peer takes no more streams.
+    fn leaves_users(&self) -> bool {
+        self.session.is_followed && (self.is_lost() || self.tunnel.is_peer_away())
+    }
+
+    // ---- events
+
+    /// Notes what the events say that are there.
+    fn note_all(&mut self, poll: &Poll)
+        ensures { Runs self.old.tunnel self.new.tunnel }
+    {
+        'event: for event in poll.events() {
+            self.note(PollEvent::of(event));
+        }
+    }
+
+    /// Notes what an event says. A socket that fails may be used at once, so that it says so.
+    fn note(&mut self, event: PollEvent)
+        ensures { Runs self.old.tunnel self.new.tunnel }
+    {
+        let is_closing = event.is_read_closed || event.is_error;
+        let ready = Readiness {
+            can_pull: event.is_readable || is_closing,
+            can_push: event.is_writable || is_closing,
+            is_closing,
+        };
+        match event.token {
+            WIRE if self.tunnel.wire().has_failed() => {}
+            WIRE => self.tunnel.note_wire(ready),
+            LISTENER => {
+                if let Side::Local(users) = &mut *self.side {
+                    users.note_event();
+                }
+            }
+            token => {
+                if let Ok(id) = u32::try_from(token - STREAMS) {
+                    self.tunnel.note_line(id, ready);
+                }
+            }
+        }
+    }
+
+    // ---- users who come
+
+    /// Opens a stream for each user that waits, as far as there is a place.
+    fn accept_users(&mut self, poll: &Poll)
+        ensures { Runs self.old.tunnel self.new.tunnel }
+    {
+        'accept: for _ in 0..ACCEPTS {
+            let Some(socket) = self.next_user() else {
+                return;
+            };
+            self.begin_user(socket, poll);
+        }
+    }
+
+    /// A user who came, if one may be accepted.
+    fn next_user(&mut self) -> Option<TcpConnection>
+        ensures { self.new.tunnel ≡ self.old.tunnel }
+    {
+        if !self.has_user() {
+            return None;
+        }
+        let open = self.tunnel.len();
+        match &mut *self.side {
+            Side::Local(users) => users.accept(open),
+            Side::Remote { .. } => None,
+        }
+    }
+
+    /// Tells why the system has refused to accept a user, if it has and that wasn't told, and notes how many are open.
+    fn note_users(&mut self)
+        ensures { self.new.tunnel ≡ self.old.tunnel }
+    {
+        let context = self.context;
+        let open = self.tunnel.len();
+        if let Side::Local(users) = &mut *self.side {
+            users.note_open(open);
+            if let Some((named, reason)) = users.take_refusal() {
+                context.tell(Event::Refused(named, reason));
+            }
+        }
+    }
+
+    /// Opens a stream for a user. Once the session is lost the user is closed, and it is the last one unless others are
+    /// counted on.
+    fn begin_user(&mut self, socket: TcpConnection, poll: &Poll)
+        ensures { Runs self.old.tunnel self.new.tunnel }
+    {
+        let context = self.context;
+        let origin = context.begin(socket.peer());
+        self.stop_if_lost();
+        self.prepare(&socket);
+        let opened = self
+            .tunnel
+            .open(Socket::connected(socket, origin), &mut Tokens { poll });
+        if let Err(why) = opened {
+            self.decline(origin, why);
+        }
+    }
+
+    /// Once the session is lost no more users are accepted, if as many are as come.
+    fn stop_if_lost(&mut self)
+        ensures { self.new.tunnel ≡ self.old.tunnel }
+    {
+        let is_lost = self.is_lost();
+        if let Side::Local(users) = &mut *self.side {
+            if is_lost && users.is_endless() {
+                users.stop();
+            }
+        }
+    }
+
+    /// What is written to this connection goes out at once, and the system asks whether its other side is still there, if it
+    /// is to.
+    fn prepare(&self, socket: &TcpConnection) {
+        socket.send_at_once();
+        if let Some(keepalive) = self.session.keepalive {
+            socket.keep_alive(keepalive);
+        }
+    }
+
+    /// Says why a user got no stream.
+    fn decline(&mut self, origin: Origin, why: NotJoined)
+        ensures { self.new.tunnel ≡ self.old.tunnel }
+    {
+        let context = self.context;
+        let declined = match why {
+            NotJoined::BySession(fault) => Declined::BySession(fault),
+            // no id is given twice, so this never is
+            NotJoined::Twice => Declined::BySession(CallFault::NoStream),
+            NotJoined::OutOfMemory(_) => Declined::OutOfMemory,
+            NotJoined::Unregistered => Declined::Unwatched,
+        };
+        match declined {
+            Declined::BySession(CallFault::OutOfMemory(_)) | Declined::OutOfMemory => {
+                self.how.lacked_memory = true;
+            }
+            Declined::Unwatched => self.fail_unwatched(),
+            Declined::BySession(_) => {}
+        }
+        context.tell(Event::Declined(origin, declined));
+    }
+
+    /// The system refuses to watch a user who came: he counts as one that could not be accepted.
+    fn fail_unwatched(&mut self)
+        ensures { self.new.tunnel ≡ self.old.tunnel }
+    {
+        self.how.accept_failed = true;
+        if let Side::Local(users) = &mut *self.side {
+            users.fail_unwatched();
+        }
+    }
+
+    // ---- streams that come
+
+    /// Tells the peer, once, that no more of its streams are taken, if that was asked for.
+    fn heed_drain(&mut self)
+        ensures { Runs self.old.tunnel self.new.tunnel }
+    {
+        if !self.is_leaving && !self.is_lost() && self.side.is_drained() {
+            let _ = self.tunnel.go_away();
+            self.is_leaving = true;
+        }
+    }
+
+    /// Begins a connection to the target for each stream that waits, as far as the limit lets it.
+    fn accept_streams(&mut self, poll: &Poll)
+        ensures { Runs self.old.tunnel self.new.tunnel }
+    {
+        'offered: for _ in 0..self.tunnel.offered_count() {
+            let Some(target) = self.free_target() else {
+                return;
+            };
+            self.begin_stream(target, poll);
+        }
+    }
+
+    /// Begins a connection to the target for the stream that came first. If it can't begin, the stream is reset.
+    fn begin_stream(&mut self, target: SocketAddr, poll: &Poll)
+        ensures { Runs self.old.tunnel self.new.tunnel }
+    {
+        let context = self.context;
+        let from = self.tunnel.wire().connection().peer();
+        let origin = context.begin(from);
+        match begin_call(context.rt, target) {
+            Ok(socket) => self.join_first(socket, origin, poll),
+            Err(error) => {
+                if self.tunnel.reject() {
+                    let why = Some(Reason::of(&error));
+                    self.tell_ended(origin, Ending::ConnectionFailed, why);
+                }
+            }
+        }
+    }
+
+    /// Joins this connection to the stream that came first, or says why that can't be.
+    fn join_first(&mut self, socket: TcpConnection, origin: Origin, poll: &Poll)
+        ensures { Runs self.old.tunnel self.new.tunnel }
+    {
+        self.prepare(&socket);
+        let joined = self
+            .tunnel
+            .accept(Socket::begun(socket, origin), &mut Tokens { poll });
+        match joined {
+            Ok(_) => {}
+            Err(NotJoined::OutOfMemory(_)) => {
+                self.how.lacked_memory = true;
+                self.tell_ended(origin, Ending::OutOfMemory, None);
+            }
+            Err(_) => self.tell_ended(origin, Ending::ConnectionFailed, None),
+        }
+    }
+
+    /// A connection to the target was never there, for this reason.
+    fn tell_ended(&self, origin: Origin, ending: Ending, why: Option<Reason>) {
+        let ended = EndedConnection::of_nothing(ending, why);
+        self.context.tell(Event::Ended(origin, ended));
+    }
+
+    // ---- bytes
+
+    /// Serves each connection that has something to move now, once, unless they give much: that is written first, and
+    /// the peer read.
+    fn serve_queued(&mut self)
+        ensures runs { Runs self.old.tunnel self.new.tunnel }
+        ensures turns { ServesOne self.old.tunnel self.new.tunnel }
+    {
+        'queued: for _ in 0..self.tunnel.queued_count() {
+            if !self.serve_next() {
+                return;
+            }
+        }
+    }
+
+    /// Serves the connection whose turn it is, and lets go of it if it is over. Whether another may be served.
+    fn serve_next(&mut self) -> bool
+        ensures runs { Runs self.old.tunnel self.new.tunnel }
+        ensures turns { ServesOne self.old.tunnel self.new.tunnel }
+    {
+        let Some(served) = self.tunnel.serve_next() else {
+            return false;
+        };
+        self.unwritten = self.unwritten.saturating_add(served.gave as u64);
+        self.forget_if_over(served.id);
+        self.unwritten < UNWRITTEN
+    }
+
+    /// Lets go of a connection of which neither way is open.
+    fn forget_if_over(&mut self, id: u32)
+        ensures { Runs self.old.tunnel self.new.tunnel }
+    {
+        if self.tunnel.is_line_over(id) {
+            self.forget(id);
+        }
+    }
+
+    /// Lets go of a connection, and says how it ended.
+    fn forget(&mut self, id: u32)
+        // Nothing of it is left to move.
+        requires over { (line : LineValue) → line_of id self.old.tunnel.lines ≡ Some line → (is_over line.ways ≡ true) ⊎ (is_running self.old.tunnel.engine.session.status ≡ false) }
+        ensures runs { Runs self.old.tunnel self.new.tunnel }
+        ensures status { self.new.tunnel.engine.session.status ≡ self.old.tunnel.engine.session.status }
+    {
+        let context = self.context;
+        let ways = self.tunnel.ways(id);
+        let is_lost = self.is_lost();
+        if let (Some(socket), Some(ways)) = (self.tunnel.forget(id), ways) {
+            let ended = socket.ended(ways, is_lost);
+            self.how.lacked_memory |= ended.lacked_memory();
+            if let Some(origin) = socket.origin() {
+                context.tell(Event::Ended(origin, ended));
+            }
+        }
+    }
+
+    /// Lets go of all connections of a session that is over.
+    fn leave_all(&mut self)
+        requires { is_running self.old.tunnel.engine.session.status ≡ false }
+        ensures { Runs self.old.tunnel self.new.tunnel }
+    {
+        'left: for _ in 0..self.tunnel.len() {
+            let Some(id) = self.tunnel.first() else {
+                return;
+            };
+            self.forget(id);
+        }
+    }
+
+    /// Once the session is lost and all that is due is sent, nothing more goes over the wire, though connections may
+    /// still come.
+    fn end_lost_wire(&mut self)
+        ensures { Runs self.old.tunnel self.new.tunnel }
+    {
+        if self.is_lost() && !self.tunnel.wire().was_ended() && self.tunnel.is_flushed() {
+            self.tunnel.end_wire();
+        }
+    }
+
+    // ---- what is told
+
+    /// Tells, once each, that the peer has come, where others follow its session, and that the session was lost, where none
+    /// does. One who has broken a rule gives no sign of life.
+    fn tell_peer(&mut self)
+        ensures { self.new.tunnel ≡ self.old.tunnel }
+    {
+        let is_kept = self.session.is_followed;
+        let is_broken = matches!(self.tunnel.status(), Status::Broken(_));
+        let pulled = self.tunnel.wire().pulled();
+        let has_spoken = !is_broken && is_sign(0, pulled, self.tunnel.unframed());
+        if is_kept && has_spoken && !self.how.is_coming_told {
+            self.how.is_coming_told = true;
+            self.context
+                .tell(Event::Notice(Notice::PeerCame(self.peer)));
+        }
+        if self.is_lost() && !self.is_loss_told {
+            self.is_loss_told = true;
+            self.note_loss();
+        }
+    }
+
+    /// The session was lost. Where none follows that is told, and users are left to other places, if there are some.
+    fn note_loss(&mut self)
+        ensures { self.new.tunnel ≡ self.old.tunnel }
+    {
+        if self.session.is_followed {
+            return;
+        }
+        if let Side::Local(users) = &mut *self.side {
+            users.note_loss();
+        }
+        self.context
+            .tell(Event::Notice(Notice::PeerGone(self.peer)));
+    }
+
+    /// Tells of the streams that were rejected for want of memory, of each once.
+    fn tell_rejections(&mut self)
+        ensures { self.new.tunnel ≡ self.old.tunnel }
+    {
+        let rejected = self.tunnel.no_memory();
+        if rejected > self.rejected {
+            let more = rejected - self.rejected;
+            self.rejected = rejected;
+            self.context.tell(Event::Rejected(more, self.peer));
+        }
+    }
+
+    // ---- how it ends
+
+    /// How the session ended.
+    fn ended(&self, outcome: Outcome) -> SessionEnd {
+        let mut how = self.how;
+        if let Side::Local(users) = &*self.side {
+            how.accept_failed |= !self.session.is_followed && users.has_failed();
+            how.accept_reason = users.failure();
+        }
+        if let Status::Broken(fault) = self.tunnel.status() {
+            how.broken = Some(fault.number());
+        }
+        how.lacked_memory |= self.tunnel.no_memory() > 0;
+        how.is_unwatched = outcome == Outcome::Unwatched;
+        how.is_peer_away = self.tunnel.is_peer_away();
+        how
+    }
+
+    /// After how long a silence the connection is closed at the end, though the peer hasn't closed it. Where others wait for
+    /// that, or no more streams were to be taken, the peer isn't waited for without end.
+    fn close_limit(&self) -> Option<Duration> {
+        match self.session.ping {
+            Some(seconds) if !self.session.is_followed => Some(Duration::from_secs(seconds as u64)),
+            None if !self.session.is_followed && !self.side.is_drained() => None,
+            _ => Some(Duration::from_secs(PATIENCE)),
+        }
+    }
+
+    /// Closes the connections that are left, and gives the wire back.
+    fn into_wire(self) -> Socket {
+        let SessionLoop { tunnel, .. } = self;
+        tunnel.into_wire()
+    }
+}
+
+/// The role of a side in the session.
+fn role_of(side: &Side) -> Role {
+    match side {
+        Side::Local(_) => Role::Client,
+        Side::Remote { .. } => Role::Server,
+    }
+}
+
+/// A tunnel with a new session over this wire, of which nothing was moved.
+#[tactic(auto, using(crate::proofs::Sessions::within))]
+fn new_tunnel(
+    alloc: Global,
+    wire: Socket,
+    role: Role,
+    window: u32,
+) -> Result<Tunnel<Socket, Socket>, NewFault>
+    ensures { IfOk result Serving }
+{
+    let session = Session::new(alloc, role, Config { window, first: 0 })?;
+    Ok(Tunnel::new(alloc, session, wire)?)
+}

@@ -1,0 +1,350 @@
+//! The users of a `local`: what its places share of them, and whom each place takes.
+
+use crate::accepting::Acceptor;
+use crate::drain::Drain;
+use crate::host::Host;
+use crate::session::LISTENER;
+use crate::system::{Poll, StartFault, TcpConnection, address_of, duplicate, listen};
+use std::alloc::Global;
+use std::io;
+use std::net::{SocketAddr, SocketAddrV4, TcpListener};
+use std::sync::atomic::{AtomicU32, AtomicUsize, Ordering};
+use std::sync::{Arc, Mutex};
+use std::time::Duration;
+use ymx_policy::{Happened, Named, Reason, Users as Wanted};
+
+/// How many milliseconds a place that is ahead of its share lets go by before it accepts one more, and how many where the last
+/// one was left to it.
+const TURN: u64 = 10;
+
+const SHORT_TURN: u64 = 1;
+
+/// After so many rounds in which it never had to wait it accepts one more too.
+const ROUNDS: u32 = 64;
+
+/// What the places of an end share.
+#[derive(Drop)]
+pub(crate) struct Common {
+    /// Through which it is asked to take no more connections.
+    pub(crate) drain: Arc<Drain, Global>,
+    /// How many users are to come, or as many as do.
+    count: Option<u32>,
+    /// How many of them have come, or are being accepted.
+    reserved: AtomicU32,
+    /// How many have come.
+    come: AtomicU32,
+    /// How many are open now, at all places.
+    open: AtomicUsize,
+    /// There is one place alone.
+    is_alone: bool,
+    /// How many places there are still.
+    places: AtomicUsize,
+    /// How many of them have a session.
+    sessions: AtomicUsize,
+    shared: Mutex<Shared>,
+}
+
+/// The listener that places share, until each has it.
+#[derive(Drop)]
+struct Shared {
+    listener: Option<TcpListener>,
+    /// How many places are still to have it.
+    takers: usize,
+    /// Somebody has asked for it.
+    is_asked: bool,
+}
+
+/// Where users come in, for one place.
+#[derive(Drop)]
+pub(crate) struct Opened {
+    pub(crate) listener: TcpListener,
+    pub(crate) at: SocketAddrV4,
+    /// It was opened for this place.
+    pub(crate) is_first: bool,
+}
+
+impl Common {
+    /// So many places, to which so many users are to come.
+    pub(crate) fn new(drain: Arc<Drain, Global>, count: Option<u32>, places: usize) -> Common {
+        Common {
+            drain,
+            count,
+            reserved: AtomicU32::new(0),
+            come: AtomicU32::new(0),
+            open: AtomicUsize::new(0),
+            is_alone: places <= 1,
+            places: AtomicUsize::new(places),
+            sessions: AtomicUsize::new(0),
+            shared: Mutex::new(Shared {
+                listener: None,
+                takers: places,
+                is_asked: false,
+            }),
+        }
+    }
+
+    /// Where users come in, for one more place: the first opens it at this address, and the others have duplicates. None where
+    /// the first couldn't.
+    pub(crate) fn open<R: Host>(
+        &self,
+        rt: &R,
+        address: SocketAddrV4,
+    ) -> io::Result<Option<Opened>> {
+        let mut shared = self.shared.lock(rt);
+        let is_first = !shared.is_asked;
+        if is_first {
+            shared.is_asked = true;
+            shared.listener = Some(listen(rt, SocketAddr::V4(address))?);
+        }
+        let Some(listener) = shared.take()? else {
+            return Ok(None);
+        };
+        Ok(Some(Opened {
+            at: place_of(&listener, address),
+            listener,
+            is_first,
+        }))
+    }
+
+    /// A place has a session, or has none any more.
+    pub(crate) fn note_session(&self, is_there: bool) {
+        if is_there {
+            self.sessions.fetch_add(1, Ordering::SeqCst);
+        } else {
+            self.sessions.fetch_sub(1, Ordering::SeqCst);
+        }
+    }
+
+    /// Whether a place has a session.
+    pub(crate) fn has_sessions(&self) -> bool {
+        self.sessions.load(Ordering::SeqCst) > 0
+    }
+
+    /// A place has ended.
+    pub(crate) fn leave(&self) {
+        self.places.fetch_sub(1, Ordering::SeqCst);
+    }
+
+    /// Whether no more users are to come: as many have come, or that was asked for.
+    pub(crate) fn is_over(&self) -> bool {
+        match self.count {
+            Some(count) if self.come.load(Ordering::SeqCst) >= count => true,
+            _ => self.drain.is_asked(),
+        }
+    }
+
+    /// Whether one more user may be accepted, who is counted.
+    fn reserve(&self) -> bool {
+        let Some(count) = self.count else {
+            return true;
+        };
+        let may_come = self.reserved.fetch_add(1, Ordering::SeqCst) < count;
+        if !may_come {
+            self.reserved.fetch_sub(1, Ordering::SeqCst);
+        }
+        may_come
+    }
+
+    /// Who was counted has come, or hasn't.
+    fn settle(&self, has_come: bool) {
+        if has_come {
+            self.come.fetch_add(1, Ordering::SeqCst);
+        } else {
+            self.reserved.fetch_sub(1, Ordering::SeqCst);
+        }
+    }
+}
+
+impl Shared {
+    /// A duplicate of it, or for the last place itself. None where it couldn't be opened.
+    fn take(&mut self) -> io::Result<Option<TcpListener>> {
+        self.takers = self.takers.saturating_sub(1);
+        if self.takers == 0 {
+            return Ok(self.listener.take());
+        }
+        match &self.listener {
+            Some(listener) => Ok(Some(duplicate(listener)?)),
+            None => Ok(None),
+        }
+    }
+}
+
+/// Where this listener is.
+pub(crate) fn place_of(listener: &TcpListener, address: SocketAddrV4) -> SocketAddrV4 {
+    match address_of(listener) {
+        Ok(SocketAddr::V4(at)) => at,
+        _ => address,
+    }
+}
+
+/// The users who come to one place.
+#[derive(Drop)]
+pub(crate) struct Users {
+    acceptor: Acceptor,
+    common: Arc<Common, Global>,
+    /// Where they come in.
+    address: SocketAddrV4,
+    /// Some may wait.
+    may_wait: bool,
+    /// How many are open here.
+    open: usize,
+    /// How many rounds have gone by since one was accepted.
+    rounds: u32,
+    /// No other place took the last one.
+    is_left: bool,
+}
+
+impl Users {
+    /// They come to this listener, of which this poll tells.
+    pub(crate) fn new(
+        listener: TcpListener,
+        wanted: Wanted,
+        common: Arc<Common, Global>,
+        poll: &Poll,
+    ) -> Result<Users, StartFault> {
+        let mut users = Users {
+            acceptor: Acceptor::new(listener, wanted.is_patient, poll, LISTENER)?,
+            common,
+            address: wanted.address,
+            may_wait: true,
+            open: 0,
+            rounds: 0,
+            is_left: false,
+        };
+        users.note_event();
+        Ok(users)
+    }
+
+    /// An event says that somebody waits, or it is time to look. Where no more are to come, nobody listens for them.
+    pub(crate) fn note_event(&mut self) {
+        self.may_wait = true;
+        if self.common.is_over() {
+            self.acceptor.close_all();
+        }
+    }
+
+    /// Whether somebody may wait who is to be accepted now, where so many are open.
+    pub(crate) fn may_accept(&self, open: usize) -> bool {
+        let may_wait = self.may_wait || self.acceptor.has_room(open);
+        may_wait && !self.is_over() && !self.yields(open)
+    }
+
+    /// Whether more are open here than its share, where so many are.
+    fn is_ahead(&self, open: usize) -> bool {
+        let all = self.common.open.load(Ordering::SeqCst);
+        let places = self.common.places.load(Ordering::SeqCst);
+        open.saturating_mul(places) > all
+    }
+
+    /// Whether others have their turn first, as it is ahead, and no time went by since one was accepted.
+    fn yields(&self, open: usize) -> bool {
+        self.rounds < ROUNDS && self.is_ahead(open)
+    }
+
+    /// The next user, where so many are open. None where nobody waits, or nobody can be accepted now.
+    pub(crate) fn accept(&mut self, open: usize) -> Option<TcpConnection> {
+        self.rounds = 0;
+        self.may_wait = false;
+        if !self.common.reserve() {
+            return None;
+        }
+        let accepted = self.acceptor.accept(open);
+        self.common.settle(accepted.is_some());
+        self.is_left = accepted.is_some() && self.is_ahead(open);
+        if accepted.is_some() {
+            self.note_event();
+        }
+        accepted
+    }
+
+    /// Whether somebody waits, who stays there.
+    pub(crate) fn is_awaited(&self) -> bool {
+        self.acceptor.is_awaited()
+    }
+
+    /// How long a wait may last. None for as long as no event comes.
+    pub(crate) fn limit(&self) -> Option<Duration> {
+        if self.may_wait && !self.is_over() && self.yields(self.open) {
+            let turn = if self.is_left { SHORT_TURN } else { TURN };
+            return Some(Duration::from_millis(turn));
+        }
+        self.acceptor.limit()
+    }
+
+    /// So long a wait is over.
+    pub(crate) fn note_waited(&mut self) {
+        self.rounds = ROUNDS;
+        if self.acceptor.limit().is_some() {
+            self.note_event();
+        }
+    }
+
+    /// One more round begins, in which so many are open here.
+    pub(crate) fn note_open(&mut self, open: usize) {
+        self.rounds = self.rounds.saturating_add(1);
+        if open > self.open {
+            self.common
+                .open
+                .fetch_add(open - self.open, Ordering::SeqCst);
+        } else {
+            self.common
+                .open
+                .fetch_sub(self.open - open, Ordering::SeqCst);
+        }
+        self.open = open;
+    }
+
+    /// Whether no more are accepted here.
+    pub(crate) fn is_over(&self) -> bool {
+        self.acceptor.is_over()
+    }
+
+    /// Whether no more are accepted, as none can be.
+    pub(crate) fn has_failed(&self) -> bool {
+        self.acceptor.has_failed()
+    }
+
+    /// Whether as many are accepted as come.
+    pub(crate) fn is_endless(&self) -> bool {
+        self.common.count.is_none()
+    }
+
+    /// No more are accepted here.
+    pub(crate) fn stop(&mut self) {
+        self.acceptor.stop();
+    }
+
+    /// The session was lost, and none follows: where there are other places, users are left to them.
+    pub(crate) fn note_loss(&mut self) {
+        if !self.common.is_alone {
+            self.stop();
+        }
+    }
+
+    /// One who came can't be served, as the system refuses to watch him.
+    pub(crate) fn fail_unwatched(&mut self) {
+        self.acceptor.fail_unwatched();
+    }
+
+    /// Why the system has refused to accept one, though it goes on, unless that was told.
+    pub(crate) fn take_refusal(&mut self) -> Option<(Named, Reason)> {
+        let reason = self.acceptor.take_refusal()?;
+        Some((Named::Listen(self.address), reason))
+    }
+
+    /// Why none can be accepted any more, if the system has said so.
+    pub(crate) fn failure(&self) -> Option<Reason> {
+        self.acceptor.failure()
+    }
+
+    /// Why nobody comes any more. None where somebody may.
+    pub(crate) fn end(&self) -> Option<Happened> {
+        if self.has_failed() {
+            Some(Happened::NoUsers(self.failure()))
+        } else if self.is_over() {
+            Some(Happened::AllCame)
+        } else {
+            None
+        }
+    }
+}

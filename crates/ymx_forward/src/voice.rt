@@ -1,0 +1,107 @@
+//! Where all goes that a program tells of itself: faults, lines and counts, behind one lock that threads share.
+
+use crate::host::Host;
+use std::alloc::{AllocError, Global};
+use std::net::SocketAddr;
+use std::sync::Mutex;
+use std::time::Instant;
+use ymx_model::{DeviceFault, Outlet, push_all};
+use ymx_page::{Counts, Event, Origin};
+use ymx_policy::{Fault, Notice};
+
+/// Where it goes, and what was counted.
+#[derive(Drop)]
+pub(crate) struct Sink<E, L> {
+    pub(crate) errors: E,
+    pub(crate) lines: L,
+    pub(crate) is_verbose: bool,
+    pub(crate) counts: Counts,
+}
+
+impl<E: Outlet, L: Outlet> Sink<E, L> {
+    /// Counts this, and tells it at this time, if it is to be told. Where a device fails there is nobody left to tell.
+    fn take(&mut self, event: &Event, now: Option<Instant>) {
+        self.counts.count(event);
+        let Some(line) = event.line(self.is_verbose, now) else {
+            return;
+        };
+        let text = line.as_str().as_bytes();
+        let _ = if event.is_fault() {
+            push_all(&mut self.errors, text)
+        } else {
+            push_all(&mut self.lines, text)
+        };
+    }
+}
+
+/// What goes along through all that a place does, and who tells of it.
+pub(crate) struct Context<'a, R, E, L> {
+    pub(crate) rt: &'a R,
+    pub(crate) alloc: Global,
+    pub(crate) sink: &'a Mutex<Sink<E, L>>,
+    /// The number of the link that it is of, if there are several.
+    pub(crate) link: Option<u32>,
+}
+
+impl<R, E, L> Clone for Context<'_, R, E, L> {
+    fn clone(&self) -> Result<Self, AllocError> {
+        Ok(*self)
+    }
+}
+
+impl<R, E, L> Copy for Context<'_, R, E, L> {}
+
+impl<R: Host, E: Outlet, L: Outlet> Context<'_, R, E, L> {
+    /// Tells this, and counts it.
+    pub(crate) fn tell(&self, event: Event) {
+        let now = Instant::now(self.rt).ok();
+        let mut sink = self.sink.lock(self.rt);
+        sink.take(&event, now);
+    }
+
+    /// Says this fault, and before it why, if that is known.
+    pub(crate) fn say(&self, reason: Option<Notice>, fault: Fault) {
+        if let Some(reason) = reason {
+            self.tell(Event::Reason(reason));
+        }
+        self.tell(Event::Fault(fault));
+    }
+
+    /// A connection begins, of somebody at this address, if it is known.
+    pub(crate) fn begin(&self, from: Option<SocketAddr>) -> Origin {
+        let began = Instant::now(self.rt).ok();
+        let from = match from {
+            Some(SocketAddr::V4(address)) => Some(address),
+            _ => None,
+        };
+        let mut sink = self.sink.lock(self.rt);
+        Origin {
+            number: sink.counts.begin(began),
+            from,
+            link: self.link,
+            began,
+        }
+    }
+}
+
+/// An outlet that is another's.
+#[derive(Drop)]
+pub(crate) struct Lent<'a, O> {
+    pub(crate) outlet: &'a mut O,
+}
+
+impl<O: Outlet> Outlet for Lent<'_, O> {
+    ghost contents = { λ l. O.contents l.outlet.now };
+
+    ghost failures = { λ l. O.failures l.outlet.now };
+
+    ghost is_ended = { λ l. O.is_ended l.outlet.now };
+
+    fn push(&mut self, bytes: &[u8]) -> Result<usize, DeviceFault> {
+        self.outlet.push(bytes)
+    }
+
+    fn end(&mut self) -> Result<(), DeviceFault> {
+        self.outlet.end()
+    }
+}
