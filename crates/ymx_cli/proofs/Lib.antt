@@ -1,4 +1,2 @@
-mod Planning
 mod Pushing
 mod Repeating
-mod Saying

@@ -1,7 +1,4 @@
-pub mod Help
+pub mod Doing
 pub mod Log
-pub mod Messages
-pub mod Outcomes
-pub mod Plans
 pub mod Repeats
 pub mod Time

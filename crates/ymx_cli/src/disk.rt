@@ -1,6 +1,6 @@
 //! The files of the system.
 
-ghost use Rattle.std.specs.Prelude.{None, ⊤};
+ghost use Rattle.std.specs.Prelude.{None};
 
 use crate::command::{FileOpener, Unopened};
 use std::fs::File;
@@ -19,8 +19,6 @@ impl<T: Files<File = File>> FileOpener for Disk<'_, T> {
     type File = ReaderInlet<File>;
 
     ghost held = { λ s name. None };
-
-    ghost refuses = { λ s name why. ⊤ };
 
     fn open(&self, name: &str) -> Result<ReaderInlet<File>, Unopened> {
         match opened(self.rt, name) {

@@ -26,18 +26,9 @@ const NOTE: usize = 96;
 
 /// An outlet for lines that can be told not to wait for who reads them.
 pub trait LogOutlet: Outlet {
-    /// How many milliseconds a line may wait at most. None: without end.
-    ghost patience: { Self → Option ℕ };
-
-    /// Whether each line begins with the time.
-    ghost has_times: { Self → Bool };
-
     /// From now on a line is dropped that the device can't take within so many milliseconds, and each begins with the time,
     /// if that is asked for.
-    fn limit(&mut self, milliseconds: u16, is_timed: bool)
-        ensures limited { patience self.new ≡ Some milliseconds }
-        ensures timed { has_times self.new ≡ is_timed }
-        ensures untouched { (Self.contents self.new ≡ Self.contents self.old) × (Self.failures self.new ≡ Self.failures self.old) };
+    fn limit(&mut self, milliseconds: u16, is_timed: bool);
 }
 
 /// A device for lines that can tell whether it takes one now.
@@ -379,10 +370,6 @@ impl<R: Wait + Clock, D: LineDevice> Outlet for LogWriter<'_, R, D> {
 }
 
 impl<R: Wait + Clock, D: LineDevice> LogOutlet for LogWriter<'_, R, D> {
-    ghost patience = { λ s. s.patience };
-
-    ghost has_times = { λ s. s.has_times };
-
     fn limit(&mut self, milliseconds: u16, is_timed: bool) {
         self.patience = Some(milliseconds);
         self.has_times = is_timed;

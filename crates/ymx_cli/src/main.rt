@@ -1,19 +1,18 @@
 //! The program `ymx`: it does what its command line asks for, over the standard devices.
 //!
-//! `ymx_main` says which words get which frames or scripts, with which exit status, and what is said on standard error.
+//! `ymx_main` says which words get which frames or scripts, and with which exit status.
 #![tactic(auto)]
 
 mod command;
 mod disk;
 mod help;
 mod log;
-mod outcome;
 mod repeats;
 mod standard;
 mod time;
 mod tunnel;
 
-use command::{Unopened, cannot_open, no_words, ymx_main};
+use command::{Devices, Unopened, cannot_open, say, ymx_main};
 use disk::Disk;
 use help::words_of_help;
 use log::{Log, LogWriter};
@@ -23,48 +22,54 @@ use std::process::ExitCode;
 use std::rt::Env;
 use std::sync::Mutex;
 use std::{env, io};
-use ymx_model::{ReaderInlet, WriterOutlet};
+use ymx_model::{Outlet, ReaderInlet, WriterOutlet};
 
 fn main(rt: HostRuntime) -> ExitCode {
-    let mut reader = ReaderInlet {
-        reader: rt.stdin(),
-        failures: 0,
-    };
-    let mut writer = WriterOutlet {
-        writer: rt.stdout(),
-        failures: 0,
-    };
     let log = Mutex::new(Log::new(StandardError {
         outlet: WriterOutlet {
             writer: rt.stderr(),
             failures: 0,
         },
     }));
-    let mut errors = LogWriter::new(&rt, &log);
-    let mut lines = LogWriter::new(&rt, &log);
+    let mut devices = Devices {
+        files: Disk { rt: &rt },
+        reader: ReaderInlet {
+            reader: rt.stdin(),
+            failures: 0,
+        },
+        writer: WriterOutlet {
+            writer: rt.stdout(),
+            failures: 0,
+        },
+        errors: LogWriter::new(&rt, &log),
+        lines: LogWriter::new(&rt, &log),
+    };
     if !hold_standard(&mut SystemDescriptors { rt: &rt }) {
-        return ExitCode::from(cannot_open(&mut errors, "/dev/null", Unopened::Other).status());
+        return ExitCode::from(cannot_open(&mut devices.errors, "/dev/null", Unopened::Other));
     }
     let alloc = rt.alloc();
     let status = match words(&rt, alloc) {
-        Ok(words) => ymx_main(
-            &rt,
-            alloc,
-            words_of_help(words.as_slice()),
-            &Disk { rt: &rt },
-            &mut reader,
-            &mut writer,
-            &mut errors,
-            &mut lines,
-        )
-        .status(),
-        Err(error) => no_words(&error, &mut errors),
+        Ok(words) => ymx_main(&rt, alloc, words_of_help(words.as_slice()), &mut devices),
+        Err(error) => no_words(&error, &mut devices.errors),
     };
-    errors.finish();
+    devices.errors.finish();
     ExitCode::from(status)
 }
 
 /// The words of the command line.
 fn words<R: Env + AllocGlobal>(rt: &R, alloc: Global) -> io::Result<Vec<String>> {
     Ok(env::args(rt)?.collect(alloc)?)
+}
+
+/// Says why the words of the command line can't be had, and answers the exit status.
+fn no_words<E: Outlet>(error: &io::Error, errors: &mut E) -> u8 {
+    if error.kind() == io::ErrorKind::InvalidData {
+        say(
+            errors,
+            &[b"error: a word of the command line is not UTF-8\n"],
+        );
+        return 2;
+    }
+    say(errors, &[b"ymx: out of memory\n"]);
+    1
 }
