@@ -12,14 +12,14 @@ What arrives is a beginning of what was sent, and all of it where both statuses 
 stream, as it has no memory for it, says so too. Only where it is refused to watch its connection to the target does it
 reset the stream, as where the target refuses it, and says nothing.
 
-The same is tried of `ymx local --links 2`, which starts three threads, of which one starts those of the links, to a
-`ymx remote --peers 2`: where one can't be made it says that it can't reach its peer, and nobody is served. Of all allocations just those of these threads
-may end so.
+The same is tried of `ymx local --links 2`, which starts a thread for the second link, to a `ymx remote --peers 2`: where it
+can't be made it says that it can't reach its peer, and the first link serves. Of all allocations just those of that thread may
+end so.
 
 The same is tried of a side that is told `--keep`. A `ymx remote` then goes on, so it is ended from outside once
-`ymx local` has ended. It serves each peer in a thread, which another thread starts, and their starts are refused too. Where a
-thread can't be made, the standard library doesn't say whether there was no memory for it. `ymx remote --keep` closes its
-peer then, says nothing, and awaits another. Of all allocations just those of the two threads may end so.
+`ymx local` has ended. It starts a thread for each of 16 peers at first, and these starts are refused too. Where a thread can't
+be made, the standard library doesn't say whether there was no memory for it. `ymx remote --keep` says then that it can't
+listen. Of all allocations just those of these threads may end so.
 
 `ymx selftest` is refused each in the same way, and the start of each thread. It ends within 60 seconds too: with status
 0 and its three lines, or with status 1 and one text: that there was no memory, that it can't listen, or which connection
@@ -54,7 +54,7 @@ REASON = re.compile(r"^ymx: --[a-z]+(?: 127\.0\.0\.1:[0-9]+)?: .*\n(?=ymx: canno
 POLL = "FAIL_POLL_AT"
 # What refuses the start of a thread.
 THREAD = "FAIL_THREAD_AT"
-# How a run ends in which no thread could be made for a peer, or none that starts those of peers.
+# How a run ends in which no thread could be made for a peer, or a link.
 NO_THREAD = "no thread"
 # What `ymx selftest` prints.
 LINES = [f"connection {number}: {size} bytes echoed\n" for number, size in enumerate([0, 1, 300_000], 1)]
@@ -139,10 +139,21 @@ class Side:
         return self.process.returncode, REASON.sub("", said) if out == "" else f"on standard output {out!r}"
 
     def is_at_rest(self):
-        """Whether no thread of a peer is left, and it waits: the first, and the one that starts others, if that could be made."""
-        with open(f"/proc/{self.process.pid}/status") as status:
-            lines = dict(line.split(":", 1) for line in status)
-        return int(lines["Threads"]) <= 2 and lines["State"].split()[0] == "S"
+        """Whether it has no socket but its listener, and all its threads wait, now and a little later."""
+        process = f"/proc/{self.process.pid}"
+        try:
+            for _ in range(2):
+                files = [os.readlink(f"{process}/fd/{number}") for number in os.listdir(f"{process}/fd")]
+                if sum(file.startswith("socket:") for file in files) > 1:
+                    return False
+                for task in os.listdir(f"{process}/task"):
+                    with open(f"{process}/task/{task}/stat") as stat:
+                        if stat.read().rsplit(")", 1)[1].split()[0] != "S":
+                            return False
+                time.sleep(0.01)
+        except OSError:
+            return False
+        return True
 
     def end_kept(self):
         """What it says, as a side that was ended from outside, or its status, if it has ended by itself. Its peer has gone
@@ -261,13 +272,10 @@ def judge(name, variable, near, far, questions, answer, sides):
     good = (0, "")
     refused = {"local": [(1, OUT_OF_MEMORY)], "remote": [(1, OUT_OF_MEMORY)]}
     cannot_listen = (1, f"ymx: cannot listen at 127.0.0.1:{sides[0].port}\n")
-    if name == "remote --keep" and variable != POLL and (near, far, questions, answer) == (good, good, [], b""):
-        return NO_THREAD
     if name == "remote --keep" and variable != POLL and (near, far, questions, answer) == (unreached, cannot_listen, [], b""):
-        # none starts others, so it listens for nobody
         return NO_THREAD
     if name == "local --links 2" and variable != POLL and near == unreached and far == good:
-        assert (questions, answer) == ([], b""), "a user was served without a thread"
+        assert (questions, answer) == ([QUESTION], ANSWER), "the first link doesn't serve"
         return NO_THREAD
     if variable == POLL:
         refused["remote"] = [cannot_listen]
@@ -310,8 +318,8 @@ def try_all(run, name, variable):
         ending, came = run(variable, number)
         counts[ending] += 1
     told = ", ".join(f"{count} {ending}" for ending, count in sorted(counts.items()))
-    # Links allocate side by side, so the allocation for a thread may come under another number in the next run.
-    most = {"remote --keep": 2, "local --links 2": 3 if variable == THREAD else 6}.get(name, 0)
+    # Each start of a thread allocates once or twice.
+    most = {"remote --keep": 16, "local --links 2": 1}.get(name, 0) * (1 if variable == THREAD else 2)
     if counts[NO_THREAD] > most:
         raise SystemExit(f"FAIL  ymx {name}: {variable}: {told}: other threads than those that serve")
     if counts["as ever"] == sum(counts.values()):

@@ -195,7 +195,7 @@ def a_session_that_soon_ends():
 
 
 def a_peer_that_calls_again():
-    """Connections are closed while no peer is there, and served again once one is."""
+    """Connections are closed while no peer is there, and served again once one is. Who calls meanwhile waits."""
     program, place, peer = awaiting("--keep", "--count", "4")
     users = program.place()
     show(peer.connection)
@@ -203,16 +203,20 @@ def a_peer_that_calls_again():
     user = call(users)
     peer.accept(1)
     swap(peer, 1, user, BYTES)
-    assert is_refused(place), "a second peer is connected"
+    following = Peer(call(place))
     break_off(peer.connection)
     assert is_cut(user)
     says(program, connection(1, LOST), GONE)
+    # One that called meanwhile is the next.
+    show(following.connection)
+    says(program, COME)
+    leave(following.connection)
+    says(program, GONE)
     assert is_cut_at(users)
     says(program, connection(2, "no stream: Lost"))
     peer = Peer(call(place))
     show(peer.connection)
     says(program, COME)
-    assert is_refused(place), "a second peer is connected"
     for turn, stream in (3, 1), (4, 3):
         user = call(users)
         peer.accept(stream)
@@ -231,17 +235,6 @@ def a_count_that_ends_without_a_peer():
     says(program, GONE)
     assert is_cut_at(users)
     assert program.end() == (0, connection(1, "no stream: Lost"))
-
-
-def a_place_that_is_taken():
-    """Somebody else listens for the peer once it has gone."""
-    program, place, peer = awaiting("--keep")
-    program.place()
-    show(peer.connection)
-    says(program, COME)
-    with listen_again(place):
-        leave(peer.connection)
-        assert program.end() == (1, f"{GONE}ymx: --bind {place}: address in use\nymx: cannot listen at {place}\n")
 
 
 def many_peers():
@@ -320,7 +313,6 @@ TESTS = (
     ("a session that soon ends", a_session_that_soon_ends, ()),
     ("a peer that calls again", a_peer_that_calls_again, ()),
     ("a count that ends without a peer", a_count_that_ends_without_a_peer, ()),
-    ("a place that is taken", a_place_that_is_taken, ()),
     (f"{SESSIONS} peers of local", many_peers, ()),
     ("killed programs", killed_programs, ()),
 )

@@ -7,6 +7,7 @@ usage: cuts.py YMX
 """
 
 import random
+import select
 import socket
 import sys
 import threading
@@ -42,6 +43,10 @@ def is_cut(connection, sent):
     """Whether a reset comes behind a beginning of these bytes, and no end."""
     came, is_reset = how_it_ends(connection)
     return is_reset and sent.startswith(came)
+
+
+# How many users may be reset, one after another, where a link of several was cut off.
+TRIES = 10
 
 
 class Relay:
@@ -82,6 +87,7 @@ class Tunnel:
     """Both ends, with a target, and a relay between them if there `is_relay`."""
 
     def __init__(self, near=(), far=(), is_relay=False):
+        self.has_links = "--links" in near
         self.target, address = listen()
         self.far = Program("remote", "-v", "--bind", ANY, "--target", address, *far)
         peer = self.far.place()
@@ -96,14 +102,24 @@ class Tunnel:
             reader.start()
 
     def connect(self):
-        """A user and his connection at the target. A byte has gone each way."""
-        user = call(self.place)
-        user.sendall(b"?")
-        other = accept(self.target)
-        assert take(other, 1) == b"?"
-        other.sendall(b"!")
-        assert take(user, 1) == b"!"
-        return user, other
+        """A user and his connection at the target. A byte has gone each way. Of several links one that was cut off, and hasn't
+        seen that yet, may still take a user, who is reset: then the next one is served."""
+        for _ in range(TRIES):
+            user = call(self.place)
+            try:
+                user.sendall(b"?")
+                ready, _, _ = select.select([self.target, user], [], [])
+                if self.target not in ready:
+                    take(user, 1)
+                other = accept(self.target)
+                assert take(other, 1) == b"?"
+                other.sendall(b"!")
+                assert take(user, 1) == b"!"
+                return user, other
+            except ConnectionResetError:
+                if not self.has_links:
+                    raise
+        raise AssertionError("no user is served")
 
     def close(self):
         for program in self.near, self.far:

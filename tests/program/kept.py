@@ -284,7 +284,7 @@ def peers_without_keep():
 
 
 def a_fault_among_peers():
-    """It is told at the end, and the others are served. Who breaks a rule at first isn't told to have come."""
+    """It is told at once, and the others are served. Who breaks a rule at first isn't told to have come."""
     program = Program("remote", "-v", "--peers", "2", "--bind", ANY, "--target", ANY)
     place = program.place()
     peers = [call(place), call(place)]
@@ -294,51 +294,18 @@ def a_fault_among_peers():
         pass
     why = broke(peers[1])
     peers[1].close()
+    says(program, COME, why, "ymx: session broken: B1\n", GONE)
     assert is_served(peers[0])
     leave(peers[0])
-    assert program.end() == (1, f"{COME}{GONE}{GONE}{why}ymx: session broken: B1\n")
-
-
-def remote_without_thread(number, *words):
-    """`ymx remote`, for which the thread of this number can't be made, and where it listens."""
-    program = preloaded("remote", "-v", "--bind", ANY, "--target", ANY, *words, variables={"FAIL_THREAD_AT": str(number)})
-    return program, program.place()
+    assert program.end() == (1, GONE)
 
 
 @preloads
-def no_thread_for_a_peer():
-    """With `--keep` it is closed, which is told and is no fault, and the next one is served. The first thread starts others."""
-    program, place = remote_without_thread(2, "--keep")
-    assert has_ended(call(place))
-    peer = call(place)
-    assert is_served(peer)
-    says(program, NO_THREAD, COME)
-    leave(peer)
-    says(program, GONE)
-    assert program.process.poll() is None, "it has ended"
-
-
-@preloads
-def no_thread_beside_a_peer():
-    """So it is without `--keep`: the first peer and the third are served, and it ends well."""
-    program, place = remote_without_thread(3, "--peers", "2")
-    peers = [call(place)]
-    assert is_served(peers[0])
-    assert has_ended(call(place))
-    peers.append(call(place))
-    assert is_served(peers[1])
-    says(program, COME, NO_THREAD, COME)
-    for peer in peers:
-        leave(peer)
-        says(program, GONE)
-    assert program.end() == (0, "")
-
-
-@preloads
-def no_thread_at_all(*words):
-    """Where no thread starts others it could serve nobody: it listens for nobody, says so, and ends."""
-    program = preloaded("remote", "-v", "--bind", ANY, "--target", ANY, *words, variables={"FAIL_THREAD_AT": "1"})
-    assert program.end() == (1, f"ymx: --bind {ANY}: no thread\nymx: cannot listen at {ANY}\n")
+def no_thread(number, *words):
+    """Where the thread of this number can't be made it listens for nobody, says so, and ends."""
+    words = ("remote", "-v", "--bind", ANY, "--target", ANY, *words)
+    program = preloaded(*words, variables={"FAIL_THREAD_AT": str(number)})
+    assert program.end() == (1, f"{NO_THREAD}ymx: cannot listen at {ANY}\n")
 
 
 def no_descriptor_for_a_peer():
@@ -423,7 +390,7 @@ def used(program):
 
 def many_peers():
     """What one leaves behind is let go of."""
-    program, place, target = remote_kept()
+    program, place, target = remote_kept("--peers", "1")  # so that one thread serves all
     for number in range(1, SESSIONS + 1):
         peer = Peer(call(place))
         peer.open(1)
@@ -433,7 +400,7 @@ def many_peers():
         leave(peer.connection)
         how = "1 bytes to the peer (ended), 1 bytes from the peer (ended)"
         says(program, COME, connection(number, how), GONE)
-        rests(program, 2)  # the first, and the one that starts others
+        rests(program, 2)  # the first, which lets peers in, and the one that serves them
         if number == SETTLED:
             before = used(program)
     files, memory = used(program)
@@ -612,10 +579,10 @@ TESTS = (
     ("streams without memory", streams_without_memory, ()),
     ("--peers without --keep", peers_without_keep, ()),
     ("a fault among peers", a_fault_among_peers, ()),
-    ("no thread for a peer", no_thread_for_a_peer, ()),
-    ("no thread beside a peer", no_thread_beside_a_peer, ()),
-    ("no thread at all", no_thread_at_all, ("--peers", "2")),
-    ("no thread at all, with --keep", no_thread_at_all, ("--keep",)),
+    ("no thread", no_thread, (1, "--peers", "2")),
+    ("no second thread", no_thread, (2, "--peers", "2")),
+    ("no thread, with --keep", no_thread, (1, "--keep")),
+    ("no last thread, with --keep", no_thread, (AT_ONCE, "--keep")),
     ("no descriptor for a peer", no_descriptor_for_a_peer, ()),
     ("a peer that never closes", a_peer_that_never_closes, ()),
     (f"{SESSIONS} peers of remote", many_peers, ()),

@@ -3,8 +3,7 @@ that is lost; also that a link which breaks takes no other with it, and what is 
 
 It says which tests failed, and nothing where none did. No test follows one that hangs.
 
-usage: links.py YMX [DYNAMIC SLOW_ACCEPTOR], where DYNAMIC is the same program, into which SLOW_ACCEPTOR can be loaded. A
-test with that is left out where there is none.
+usage: links.py YMX
 """
 
 import hashlib
@@ -21,7 +20,7 @@ import raw
 from beside import Peer, swap
 from kept import COME, LOST, WHOLE, connection, finish, is_refused, says, show
 from raw import ACK, ANY, BAD, GONE, NOT_HERE, PING, SYN, WINDOW, Program, broke, refused
-from raw import accept, break_off, call, free_place, frame, has_ended, is_cut, is_cut_at, leave, listen, preloaded, preloads
+from raw import accept, break_off, call, free_place, frame, has_ended, is_cut, is_cut_at, leave, listen
 from raw import take
 
 BYTES = random.Random(11).randbytes(300_000)
@@ -30,13 +29,14 @@ LASTING, EARLY = 0.25, 0.01
 # What goes through both ends: so many connections, so many at once, over so many links.
 CONNECTIONS, AT_ONCE, LINKS = 1_000, 20, 4
 FIRST = frame(WINDOW, SYN, 1, 0)
+SILENT = "ymx: the peer has gone without a sign of life\n"
 
 
-def local_links(count, *words, listen_at=ANY, program=Program):
+def local_links(count, *words, listen_at=ANY):
     """`ymx local --links`, where it listens, its links in the order in which it made them, and where its peer listens."""
     listener, address = listen()
     words = ("--links", str(count), "--listen", listen_at, "--peer", address, *words)
-    program = program("local", "-v", *words)
+    program = Program("local", "-v", *words)
     links = [Peer(accept(listener)) for _ in range(count)]
     for link in links:
         sound(link)
@@ -61,11 +61,15 @@ def local_kept(count, *words):
 
 
 def which(links, stream):
-    """The link on which this stream comes next, which takes it."""
-    ready, _, _ = select.select([link.connection for link in links], [], [])
-    link = next(link for link in links if link.connection is ready[0])
-    link.accept(stream)
-    return link
+    """The link on which this stream comes next, which takes it. Others may have ended, as all users have come."""
+    left = list(links)
+    while True:
+        ready, _, _ = select.select([link.connection for link in left], [], [])
+        link = next(link for link in left if link.connection is ready[0])
+        if link.connection.recv(1, socket.MSG_PEEK):
+            link.accept(stream)
+            return link
+        left.remove(link)
 
 
 def is_threads(program, count):
@@ -138,19 +142,20 @@ def a_lost_link():
 
 
 def a_broken_link():
-    """A fault of one is said once all have ended; till then the others serve."""
+    """A fault of one is said at once, and the others serve."""
     program, place, links, _ = local_links(2)
     links[0].connection.sendall(BAD)
     take(links[0].connection, 12)
     assert has_ended(links[0].connection)
     why = broke(links[0].connection)
     links[0].connection.close()
+    says(program, GONE, why, "ymx: session broken: B1\n")
     user = call(place)
     links[1].accept(1)
     swap(links[1], 1, user, BYTES)
     finish(links[1], 1, user)
     leave(links[1].connection)
-    assert program.end() == (1, GONE + connection(1, WHOLE) + GONE + why + "ymx: session broken: B1\n")
+    assert program.end() == (1, connection(1, WHOLE) + GONE)
 
 
 def lost_before_the_count():
@@ -166,16 +171,16 @@ def lost_before_the_count():
     assert program.end() == (1, f"{ended}{GONE}{GONE}ymx: cannot reach {address}\n")
 
 
-@preloads
 def lost_behind_the_last():
-    """Where all have come it ends well, also if the links are gone before it has seen that all have."""
-    program, place, links, _ = local_links(2, "--count", "1", program=preloaded)
+    """Where all have come it ends well, also if the links go then."""
+    program, place, links, _ = local_links(2, "--count", "1")
     user = call(place)
     finish(which(links, 1), 1, user)
     for link in links:
         leave(link.connection)
+    status, said = program.end()
     ended = connection(1, "0 bytes to the peer (ended), 0 bytes from the peer (ended)")
-    assert program.end() == (0, f"{ended}{GONE}{GONE}")
+    assert (status, said.replace(GONE, "")) == (0, ended), (status, said)
 
 
 def which_link_and_how_long():
@@ -207,27 +212,28 @@ def which_link_and_how_long():
 
 
 def no_links_at_first():
-    """All are made, or none: a peer that can't be reached is told before anybody listens."""
+    """Each tells that the peer can't be reached, before anybody listens. With `--keep` the first tells that nobody can listen."""
     place, peer = free_place(), free_place()
     words = ("--links", "2", "--listen", place, "--peer", peer)
-    assert Program("local", *words).end() == (1, f"{refused(peer)}ymx: cannot reach {peer}\n")
+    status, said = Program("local", *words).end()
+    assert status == 1, status
+    assert sorted(said.splitlines(keepends=True)) == sorted([refused(peer), f"ymx: cannot reach {peer}\n"] * 2), said
     assert Program("local", "--keep", "--links", "2", "--listen", raw.NOWHERE, "--peer", peer).end() == (
         1, f"ymx: --listen {raw.NOWHERE}: {NOT_HERE}\nymx: cannot listen at {raw.NOWHERE}\n")
 
 
 def links_are_called_again():
-    """With `--keep` each is called at its first connection, and again at the next one behind a loss. Faults are told as
-    they come."""
-    program, place, listener = local_kept(2, "--count", "4")
+    """With `--keep` all are called at the first connection, and one that is lost again at the next. Faults are told as they
+    come."""
+    program, place, listener = local_kept(2)
     first = call(place)
-    one = Peer(accept(listener))
+    one, other = Peer(accept(listener)), Peer(accept(listener))
     show(one.connection)
     says(program, COME)
     one.accept(1)
-    second = call(place)
-    other = Peer(accept(listener))
     show(other.connection)
     says(program, COME)
+    second = call(place)
     other.accept(1)
     swap(one, 1, first, BYTES)
     other.connection.sendall(BAD)
@@ -237,41 +243,31 @@ def links_are_called_again():
     assert is_cut(second)
     says(program, connection(2, "0 bytes to the peer (lost), 0 bytes from the peer (lost)"), GONE, why, "ymx: session broken: B1\n")
     third = call(place)
-    again = Peer(accept(listener))
-    show(again.connection)
+    again = accept(listener)
+    show(again)
     says(program, COME)
-    again.accept(1)
-    swap(again, 1, third, BYTES)
-    finish(again, 1, third)
-    says(program, connection(3, WHOLE))
-    fourth = call(place)
-    again.accept(3)
-    finish(again, 3, fourth)
-    finish(one, 1, first)
-    for peer in one, again:
-        leave(peer.connection)
-    status, said = program.end()
-    assert status == 1 and said.count(GONE) == 2 and len(said.splitlines()) == 4, (status, said)
+    third.close()
+    swap(one, 1, first, BYTES)
 
 
 def a_peer_that_is_away():
-    """With `--keep` a connection whose link can't be made is closed; the link then rests, and the next one goes elsewhere."""
+    """With `--keep` connections go to the link that is left, where another can't be made."""
     program, place, listener = local_kept(2)
     first = call(place)
-    one = Peer(accept(listener))
+    one, other = accept(listener), accept(listener)
+    one = Peer(one)
     show(one.connection)
     says(program, COME)
     one.accept(1)
-    address = "{}:{}".format(*listener.getsockname())
     listener.close()
-    assert is_cut_at(place)
-    says(program, refused(address), connection(2, "no stream: Lost"))
+    break_off(other)
+    says(program, SILENT)
     for stream in 3, 5:
         user = call(place)
         one.accept(stream)
         swap(one, stream, user, BYTES)
         finish(one, stream, user)
-    says(program, connection(3, WHOLE), connection(4, WHOLE))
+    says(program, connection(2, WHOLE), connection(3, WHOLE))
     swap(one, 1, first, BYTES)
 
 
@@ -321,8 +317,8 @@ def many_through(*words):
         leave(user)
     for program in near, far:
         threading.Thread(target=program.process.stderr.read, daemon=True).start()
-    # A thread that starts the others, and one for each link or peer, beside the first.
-    assert is_threads(near, LINKS + 2) and is_threads(far, LINKS + 2)
+    # One for each link, of which the first has the first; and one for each peer, beside the first, which lets them in.
+    assert is_threads(near, LINKS) and is_threads(far, LINKS + 1)
     used = files(near), files(far)
     for start in range(0, CONNECTIONS, AT_ONCE):
         users = [threading.Thread(target=ask, args=(place, seed, bad)) for seed in range(start, start + AT_ONCE)]
@@ -334,7 +330,7 @@ def many_through(*words):
     # The first users' descriptors may still have been open when they were counted.
     while files(near) > used[0] or files(far) > used[1]:
         time.sleep(0.01)
-    assert is_threads(near, LINKS + 2) and is_threads(far, LINKS + 2)
+    assert is_threads(near, LINKS) and is_threads(far, LINKS + 1)
 
 
 def bad_words():

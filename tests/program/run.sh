@@ -159,12 +159,10 @@ holds 'what local -v says without a target' grep -q '^ymx: connection 1 from 127
 holds 'both ends, frame by frame' python3 "$here/raw.py" "$ymx"
 holds 'connections beside others' python3 -B "$here/beside.py" "$ymx"
 "${CC-cc}" -O2 -shared -fPIC -o refusing.so "$here/../no_memory/failing_malloc.c" -ldl
-"${CC-cc}" -O2 -shared -fPIC -o slow_acceptor.so "$here/slow_acceptor.c" -ldl
-[ -n "$dynamic" ] || left_out 'threads that are refused, and an acceptor that is slow' "$no_dynamic"
+[ -n "$dynamic" ] || left_out 'threads that are refused' "$no_dynamic"
 # shellcheck disable=SC2086
 holds 'one session after another' python3 -B "$here/kept.py" "$ymx" ${dynamic:+"$dynamic" "$scratch/refusing.so"}
-# shellcheck disable=SC2086
-holds 'many links to one peer' python3 -B "$here/links.py" "$ymx" ${dynamic:+"$dynamic" "$scratch/slow_acceptor.so"}
+holds 'many links to one peer' python3 -B "$here/links.py" "$ymx"
 holds 'the side that calls is the one that serves' python3 -B "$here/calling.py" "$ymx"
 holds 'a peer that is silent' python3 -B "$here/silence.py" "$ymx"
 holds 'peers from elsewhere, and too many' python3 -B "$here/strangers.py" "$ymx"

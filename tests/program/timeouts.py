@@ -161,13 +161,20 @@ def links(limit, *words):
     passed(began, limit)
 
 
-def ends(limit, *words):
-    """One that calls first ends with the call."""
+def ends(limit, *words, links=1):
+    """One that calls first ends with the call. Each link says so."""
     silent = Silent()
     began = time.monotonic()
     program = Program(*words, "--peer", silent.place)
-    assert program.end() == (1, timed_out(silent.place) + unreached(silent.place))
+    status, said = program.end()
+    assert status == 1, status
+    assert sorted(said.splitlines(keepends=True)) == sorted([timed_out(silent.place), unreached(silent.place)] * links), said
     passed(began, limit)
+
+
+def ends_of_links(limit, *words):
+    """The same with two links, which call at once."""
+    ends(limit, *LOCAL, "--links", "2", *words, links=2)
 
 
 def a_remote(limit, *words):
@@ -192,8 +199,8 @@ TESTS = (
     ("a lost session", behind_a_lost_session, ()),
     ("--links 2 --keep", links, (9, "--timeout", "9")),
     ("local --timeout 1", ends, (1, *LOCAL, "--timeout", "1")),
-    ("local --links 2", ends, (DEFAULT, *LOCAL, "--links", "2")),
-    ("local --links 2 --timeout 1", ends, (1, *LOCAL, "--links", "2", "--timeout", "1")),
+    ("local --links 2", ends_of_links, (DEFAULT,)),
+    ("local --links 2 --timeout 1", ends_of_links, (1, "--timeout", "1")),
     ("remote --timeout 1", ends, (1, *REMOTE, "--timeout", "1")),
     ("remote --keep", a_remote, (DEFAULT,)),
     ("remote --keep --timeout 1", a_remote, (1, "--timeout", "1")),
