@@ -63,6 +63,11 @@ try 'the program from outside' "$root/tests/program/run.sh"
 try 'the program, installed' "$root/tests/release/installed.sh"
 try '500 random connections' "$root/tests/kill/random.sh" 500
 try 'scripts and what they print' "$root/tests/script/run.sh"
+if command -v tshark > /dev/null; then
+    try 'the dissector for Wireshark' "$root/tests/dissector/run.sh"
+else
+    echo "--    the dissector for Wireshark: left out: no tshark"
+fi
 try 'the C interface' "$root/tests/capi/run.sh"
 try 'the bindings, as programs of others use them' "$root/tests/cases.sh"
 if [ "${1-}" != --no-kit ]; then
