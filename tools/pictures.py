@@ -100,7 +100,7 @@ def screens():
 
 
 def terminal():
-    width, left, step, y = 840, 16, 17, 14
+    width, left, step, y = 920, 16, 17, 14
     lines = []
     for title, command, told in screens():
         lines.append(f'  <text x="{left}" y="{y + 12}">{title}</text>')
