@@ -13,8 +13,9 @@ What it compares, layout aside:
 - everywhere in them and in docs/PROVED.md a formula between backticks: it must stand in a clause or a definition.
 - in docs/THEOREMS.md the table of the lines that a reader must believe: tools/lines_to_believe.py must count as
   many, and README.md must say the same.
-- in docs/PROVED.md the rows of crates: each crate of crates.txt must have one, in that order. The map docs/crates.svg
-  must have just these.
+- in docs/PROVED.md the rows of crates: each crate of crates.txt must have one, in that order, and the crate must have
+  each name of its row. What stands in brackets there must be a clause, a function, a type, a definition or its field. The
+  map docs/crates.svg must have just these crates.
 - in the documents of `OF_OURS` a name between backticks: it must stand in the repository.
 - in README.md and docs/GUIDE.md the name of the kit: it must be the one that made the release.
 
@@ -308,6 +309,23 @@ def compare_crates():
     yield from (f"docs/crates.svg: it has {crate}, and crates.txt hasn't, or the other way round" for crate in set(crates) ^ set(drawn))
 
 
+def words_in(pattern, *files):
+    return {word for glob in files for path in ROOT.glob(glob) if path.is_file() for word in re.findall(pattern, path.read_text(), re.M)}
+
+
+def compare_proved(code):
+    """The names of docs/PROVED.md: those of a row stand in its crate, and those in brackets say what is proved."""
+    clauses = {kind for found in code.clauses.values() for _, kind, _ in found} | set(code.definitions)
+    clauses |= words_in(rf"\b(?:fn|struct|enum|trait) ({NAME})", "crates/*/src/**/*.rt") | words_in(rf"^ +(?:pub )?({NAME}) :", "crates/*/specs/**/*.antt")
+    for number, line in enumerate(Document("docs/PROVED.md").lines, 1):
+        for brackets in re.findall(r"\(([^()]*`[^()]*)\)", line):
+            yield from (f"docs/PROVED.md:{number}: nothing that is proved is called {name}" for name in re.findall(rf"`({NAME})`", brackets) if name not in clauses)
+        row = re.match(r"\| `(\w+)` \|(.*)", line)
+        if row:
+            words = words_in(NAME, f"crates/{row.group(1)}/src/**/*", f"crates/{row.group(1)}/specs/**/*")
+            yield from (f"docs/PROVED.md:{number}: {row.group(1)} has no {name}" for name in re.findall(rf"`({NAME})`", row.group(2)) if name not in words)
+
+
 def compare_kit():
     made = re.search(r"^kit: (.*)$", (ROOT / "release/RELEASE").read_text(), re.M).group(1)
     for name in ("README.md", "docs/GUIDE.md"):
@@ -364,7 +382,7 @@ def main():
         for line, text in document.marked():
             if SIGNS.search(text) and " " in text and "<" not in text:
                 count, wrong = count + 1, wrong + compare_formula(code, name, line, text)
-    wrong.extend([*compare_promise(), *compare_crates(), *compare_kit(), *compare_counts(begun)])
+    wrong.extend([*compare_promise(), *compare_crates(), *compare_proved(code), *compare_kit(), *compare_counts(begun)])
     for text in wrong:
         print(text)
     print(f"{count} quotes, {len(wrong)} not in the code")
