@@ -257,4 +257,4 @@ for page in $pages; do
 done
 put 644 "$root/LICENSE" "$license"
 echo "libymx $version installed below $destdir$prefix"
-[ -n "$destdir" ] || echo "a program may find $soname in $libdir only once \`ldconfig\` has run"
+[ -n "$destdir" ] || echo "programs find $soname in $libdir after \`ldconfig\`, if that looks there, or with LD_LIBRARY_PATH=$libdir"

@@ -82,9 +82,9 @@ ymx: unstripped-binary-or-object [usr/bin/ymx]
 TEXT
     pack "$place" ymx "$2" net 'many TCP connections over one, by yamux' "Built-Using: musl (= $musl)" \
 'ymx carries TCP connections over one connection between two ends, by the
-protocol yamux. The end behind a firewall may be the one that calls. It also
-shows the frames of a recorded session. The program is proved: whatever a
-peer sends, no byte is lost, changed or told of where none came.'
+protocol yamux. The end behind a firewall may be the one that connects. It
+also shows the frames of a recorded session. Its sessions are formally
+verified: no byte of a stream is lost, repeated, reordered or invented.'
 }
 
 # library TARGET ARCHITECTURE COMPILER
