@@ -26,7 +26,7 @@ sum() {
 }
 
 [ "$(fact sources)" = "$("$here/sources.sh")" ] || fail 'the release was made from other sources'
-[ "$(fact parts)" = "$(cat "$here/parts.c" "$here/musl.c" | sha256sum | cut -d ' ' -f 1)" ] || fail 'the release was made with another parts.c or musl.c'
+[ "$(fact parts)" = "$(cat "$here"/*.c | sha256sum | cut -d ' ' -f 1)" ] || fail 'the release was made with other parts in C'
 gzip -dc "$here/$target/ymx.gz" > "$scratch/ymx" || fail "release/$target/ymx.gz can't be unpacked"
 [ "$(sum "$scratch/ymx")" = "$(fact "program $target")" ] || fail "release/$target/ymx.gz isn't the program of which release/RELEASE speaks"
 if [ $what = object ]; then

@@ -3,7 +3,7 @@
 # nothing, links the program, and writes TARGET/ymx.gz, TARGET/libymx_c.a.gz, RELEASE and seconds. That takes an hour and a
 # half of processor time. With --kept it takes over what was proved before, with --gate the libraries as `rt ci` has just
 # proved and built them here: some minutes. Neither makes the library anew where the release has it of the same sources, by
-# the same kit and with the same parts.c and musl.c.
+# the same kit and with the same parts in C.
 # It needs the Rattle kit's `rt` on the PATH, Python 3, and Debian's packages musl-dev for amd64 and arm64, which it fetches
 # where they aren't installed. The sources have to be committed, since RELEASE names their commit.
 set -euo pipefail
@@ -16,7 +16,7 @@ fail() {
     echo "$*" >&2
     exit 1
 }
-[ -z "$(git status --porcelain -- crates crates.txt HANDLES release/parts.c release/musl.c)" ] || fail 'commit the sources first: the release names their commit'
+[ -z "$(git status --porcelain -- crates crates.txt HANDLES 'release/*.c')" ] || fail 'commit the sources first: the release names their commit'
 command -v rt > /dev/null || fail "the proofs are made by a checker, and the Rattle toolchain's rt is not on the PATH"
 
 targets='x86_64 aarch64'
@@ -39,7 +39,7 @@ sum() {
     cat "$@" | sha256sum | cut -d ' ' -f 1
 }
 parts() {
-    sum release/parts.c release/musl.c
+    sum release/*.c
 }
 
 # what release/prove.py is asked for
@@ -70,7 +70,7 @@ which has the name that \`uname -m\` gives such a machine. Each is made of
 
 - the repository's sources, proved and compiled by the kit that is named below, with what they call of its library:
   LICENSE. The compiled code is the object;
-- parts.c, and musl.c in it, compiled by the kit's clang: LICENSE;
+- parts.c, with musl.c and signals.c in it, compiled by the kit's clang: LICENSE;
 - in the programs what they call of musl, a C library, from Debian's package musl-dev: LICENSE.musl.
 
 \`release/make.sh\` makes all of it from nothing. \`./ymx --prove\` proves and compiles the program anew, and compares the

@@ -32,6 +32,7 @@ void rattle_dealloc(void *at) { free(at); }
 #include <sys/ioctl.h>
 #include <sys/socket.h>
 #include <sys/uio.h>
+#include "signals.c"
 
 int rattle_errno(void) { return errno; }
 void rattle_set_errno(int error) { errno = error; }
@@ -55,7 +56,10 @@ unsigned __int128 __udivti3(unsigned __int128 left, unsigned __int128 by) {
 static size_t count;
 static char **words;
 int __real_main(int, char **);
-int __wrap_main(int argc, char **argv) { return count = (size_t)argc, words = argv, __real_main(argc, argv); }
+int __wrap_main(int argc, char **argv) {
+    if (getpid() == 1) end_by(SIGTERM), end_by(SIGINT);
+    return count = (size_t)argc, words = argv, __real_main(argc, argv);
+}
 size_t rattle_arg_count(void) { return count; }
 
 /* The length of that word, which is put into the buffer; -1 where there is none, -2 where it does not fit. */
@@ -71,7 +75,7 @@ struct entry { uint32_t events; uint64_t data; };
 
 int rattle_epoll_ctl(int epoll, int what, int file, uint32_t events, uint64_t data) {
     struct epoll_event entry = {.events = events, .data.u64 = data};
-    return epoll_ctl(epoll, what, file, &entry);
+    return epoll_ctl(epoll, what, file == DRAIN ? drain() : file, &entry);
 }
 
 /* The system's entries come to the start of the room. They are no longer than the kit's, so the last is moved first. */

@@ -1,0 +1,98 @@
+"""Which signal ends the program, and how, also where it is the first process of a container.
+
+It says which tests failed, and ends with 'N passed, M failed'.
+
+usage: parts.py YMX
+"""
+
+import os
+import signal
+import subprocess
+import sys
+
+sys.path.append(os.path.join(os.path.dirname(os.path.abspath(__file__)), "..", "program"))
+import raw
+
+AS_FIRST = ("unshare", "--pid", "--fork", "--kill-child")
+ENDS = {
+    "local": ("local", "-v", "--keep", "--listen", raw.ANY, "--peer", "127.0.0.1:1"),
+    "remote": ("remote", "-v", "--keep", "--bind", raw.ANY, "--target", "127.0.0.1:1"),
+}
+
+
+def begin(words, ahead=(), ignored=()):
+    """The program with these words, which runs once it has said where it listens. These signals are ignored, and no others."""
+    def signals():
+        for number in signal.SIGINT, signal.SIGTERM, signal.SIGUSR1:
+            signal.signal(number, signal.SIG_IGN if number in ignored else signal.SIG_DFL)
+
+    process = subprocess.Popen([*ahead, sys.argv[1], *words], stdin=subprocess.PIPE, stdout=subprocess.PIPE,
+                               stderr=subprocess.STDOUT, preexec_fn=signals, bufsize=0)
+    raw.Program.running.append(process)
+    if "-v" in words:
+        line = process.stdout.readline()
+        assert line.startswith(b"ymx: listening at "), line
+    return process
+
+
+def child(process):
+    with open(f"/proc/{process.pid}/task/{process.pid}/children", encoding="ascii") as children:
+        return int(children.read())
+
+
+def ends_by(end, number):
+    """Its status is the signal's."""
+    process = begin(ENDS[end])
+    process.send_signal(number)
+    assert process.wait() == -number
+
+
+def ends_as_first(end, number):
+    """By default no signal ends such a process."""
+    process = begin(ENDS[end], AS_FIRST)
+    os.kill(child(process), number)
+    assert process.wait() == 128 + number
+
+
+def ignores(ahead, status):
+    """SIGINT that was ignored stays so: else it came first."""
+    process = begin(ENDS["remote"], ahead, (signal.SIGINT,))
+    number = child(process) if ahead else process.pid
+    os.kill(number, signal.SIGINT)
+    os.kill(number, signal.SIGTERM)
+    assert process.wait() == status
+
+
+def asks_no_poll():
+    """SIGUSR1 ends what has no poll that tells of it."""
+    process = begin(("script",))
+    process.send_signal(signal.SIGUSR1)
+    assert process.wait() == -signal.SIGUSR1
+
+
+BOTH = [(end, number) for end in ENDS for number in (signal.SIGTERM, signal.SIGINT)]
+TESTS = [(f"{end}, {number.name}", ends_by, (end, number)) for end, number in BOTH]
+TESTS += [("SIGINT in the background", ignores, ((), -signal.SIGTERM)), ("SIGUSR1 and no poll", asks_no_poll, ())]
+FIRST = [(f"{end} as process 1, {number.name}", ends_as_first, (end, number)) for end, number in BOTH]
+FIRST += [("SIGINT in the background as process 1", ignores, (AS_FIRST, 128 + signal.SIGTERM))]
+
+
+def main():
+    tests = TESTS
+    if subprocess.run([*AS_FIRST, "true"], stderr=subprocess.DEVNULL, check=False).returncode == 0:
+        tests = TESTS + FIRST
+    else:
+        print("--    as process 1: left out: no namespace of processes can be made here")
+    passed = []
+
+    def count(test, *words):
+        test(*words)
+        passed.append(test)
+
+    failed = raw.main([(name, count, (test, *words)) for name, test, words in tests])
+    print(f"{len(passed)} passed, {len(tests) - len(passed)} failed")
+    return failed
+
+
+if __name__ == "__main__":
+    sys.exit(main())
