@@ -30,6 +30,7 @@ void rattle_dealloc(void *at) { free(at); }
 #include <errno.h>
 #include <sys/epoll.h>
 #include <sys/ioctl.h>
+#include <sys/resource.h>
 #include <sys/socket.h>
 #include <sys/uio.h>
 #include "signals.c"
@@ -57,6 +58,9 @@ static size_t count;
 static char **words;
 int __real_main(int, char **);
 int __wrap_main(int argc, char **argv) {
+    /* The soft limit of descriptors is for programs that select(2): it becomes the hard one. */
+    struct rlimit files;
+    if (getrlimit(RLIMIT_NOFILE, &files) == 0) setrlimit(RLIMIT_NOFILE, &(struct rlimit){files.rlim_max, files.rlim_max});
     if (getpid() == 1) end_by(SIGTERM), end_by(SIGINT);
     return count = (size_t)argc, words = argv, __real_main(argc, argv);
 }

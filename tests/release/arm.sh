@@ -75,7 +75,7 @@ if [ "${1-}" = --quick ]; then
     counted
     exit
 fi
-part 'signals' env YMX="$scratch/ymx" YMX_UNDER_QEMU=yes "$here/parts.sh"
+part 'signals and descriptors' env YMX="$scratch/ymx" YMX_UNDER_QEMU=yes "$here/parts.sh"
 part 'the program from outside' env YMX="$scratch/ymx" YMX_UNDER_QEMU=yes "$root/tests/program/run.sh"
 
 # ---- the library for C

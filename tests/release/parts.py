@@ -1,4 +1,5 @@
-"""Which signal ends the program, and how, also where it is the first process of a container.
+"""Which signal ends the program, and how, also where it is the first process of a container; and how many descriptors it may
+have.
 
 It says which tests failed, and ends with 'N passed, M failed'.
 
@@ -6,6 +7,7 @@ usage: parts.py YMX
 """
 
 import os
+import resource
 import signal
 import subprocess
 import sys
@@ -63,6 +65,16 @@ def ignores(ahead, status):
     assert process.wait() == status
 
 
+def raises_the_limit():
+    """Its soft limit of descriptors becomes the hard one."""
+    limit = resource.RLIMIT_NOFILE
+    was = resource.getrlimit(limit)
+    resource.setrlimit(limit, (min(64, was[1]), was[1]))
+    process = begin(ENDS["remote"])
+    resource.setrlimit(limit, was)
+    assert resource.prlimit(process.pid, limit) == (was[1], was[1])
+
+
 def asks_no_poll():
     """SIGUSR1 ends what has no poll that tells of it."""
     process = begin(("script",))
@@ -73,6 +85,7 @@ def asks_no_poll():
 BOTH = [(end, number) for end in ENDS for number in (signal.SIGTERM, signal.SIGINT)]
 TESTS = [(f"{end}, {number.name}", ends_by, (end, number)) for end, number in BOTH]
 TESTS += [("SIGINT in the background", ignores, ((), -signal.SIGTERM)), ("SIGUSR1 and no poll", asks_no_poll, ())]
+TESTS += [("the limit of descriptors", raises_the_limit, ())]
 FIRST = [(f"{end} as process 1, {number.name}", ends_as_first, (end, number)) for end, number in BOTH]
 FIRST += [("SIGINT in the background as process 1", ignores, (AS_FIRST, 128 + signal.SIGTERM))]
 
