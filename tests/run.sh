@@ -61,7 +61,7 @@ else
 fi
 try 'the program from outside' "$root/tests/program/run.sh"
 try 'the program, installed' "$root/tests/release/installed.sh"
-try 'signals and descriptors' "$root/tests/release/parts.sh"
+try 'the parts of the program in C' "$root/tests/release/parts.sh"
 try '500 random connections' "$root/tests/kill/random.sh" 500
 try 'scripts and what they print' "$root/tests/script/run.sh"
 if command -v tshark > /dev/null; then

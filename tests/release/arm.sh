@@ -1,6 +1,6 @@
 #!/bin/sh
 # What the release has for arm64, under qemu's emulation of that processor: the README's first run by ./ymx, which finds such
-# a machine; the program's selftest, scripts, signals, and the program from outside; and the library for C with programs in C, linked
+# a machine; the program's selftest, scripts, parts in C, and the program from outside; and the library for C with programs in C, linked
 # with musl. What counts threads or memory of the program is left out, as qemu has some of its own. So is what no tool is here
 # for: qemu and the libraries are fetched from Debian's packages where they aren't installed, and the programs in C want the
 # kit's clang. With --quick only the first run, selftest and scripts.
@@ -75,7 +75,7 @@ if [ "${1-}" = --quick ]; then
     counted
     exit
 fi
-part 'signals and descriptors' env YMX="$scratch/ymx" YMX_UNDER_QEMU=yes "$here/parts.sh"
+part 'its parts in C' env YMX="$scratch/ymx" YMX_UNDER_QEMU=yes "$here/parts.sh"
 part 'the program from outside' env YMX="$scratch/ymx" YMX_UNDER_QEMU=yes "$root/tests/program/run.sh"
 
 # ---- the library for C

@@ -1,20 +1,24 @@
-"""Which signal ends the program, and how, also where it is the first process of a container; and how many descriptors it may
-have.
+"""Which signal ends the program, and how, also where it is the first process of a container; how many descriptors it may
+have; and how many bytes of its wire may be unsent.
 
 It says which tests failed, and ends with 'N passed, M failed'.
 
 usage: parts.py YMX
 """
 
+import ctypes
 import os
 import resource
 import signal
+import socket
 import subprocess
 import sys
 
 sys.path.append(os.path.join(os.path.dirname(os.path.abspath(__file__)), "..", "program"))
 import raw
 
+# Of pidfd_getfd(2), with which a process sees the sockets of another.
+PIDFD_GETFD = 438
 AS_FIRST = ("unshare", "--pid", "--fork", "--kill-child")
 ENDS = {
     "local": ("local", "-v", "--keep", "--listen", raw.ANY, "--peer", "127.0.0.1:1"),
@@ -34,6 +38,7 @@ def begin(words, ahead=(), ignored=()):
     if "-v" in words:
         line = process.stdout.readline()
         assert line.startswith(b"ymx: listening at "), line
+        process.place = line.split()[-1].decode()
     return process
 
 
@@ -75,6 +80,49 @@ def raises_the_limit():
     assert resource.prlimit(process.pid, limit) == (was[1], was[1])
 
 
+def sockets_of(process):
+    """Its sockets, where the system lets another process have them."""
+    call = ctypes.CDLL(None, use_errno=True).syscall
+    number = os.pidfd_open(process.pid)
+    found = []
+    for name in os.listdir(f"/proc/{process.pid}/fd"):
+        if os.readlink(f"/proc/{process.pid}/fd/{name}").startswith("socket:"):
+            copy = call(PIDFD_GETFD, number, int(name), 0)
+            if copy < 0:
+                raise OSError(ctypes.get_errno(), "pidfd_getfd")
+            found.append(socket.socket(fileno=copy))
+    os.close(number)
+    return found
+
+
+def marks(end):
+    """Each end has the mark on its wire, and on no other of its sockets."""
+    if end == "remote":
+        process = begin(ENDS[end])
+        peer = raw.call(process.place)
+    else:
+        listener, address = raw.listen()
+        process = begin((*ENDS[end][:-1], address))
+        user = raw.call(process.place)
+        peer = raw.accept(listener)
+    peer.sendall(raw.frame(raw.PING, raw.SYN, 0, 1))
+    # (a user's SYN may come first)
+    while raw.next_frame(peer)[:2] != (raw.PING, raw.ACK):
+        pass
+    try:
+        sockets = sockets_of(process)
+    except OSError as fault:
+        print(f"--    the mark of {end}: left out: {fault}")
+        return
+    wires = []
+    for each in sockets:
+        is_wire = each.getsockname() == peer.getpeername() and not each.getsockopt(socket.SOL_SOCKET, socket.SO_ACCEPTCONN)
+        wires.append(is_wire)
+        mark = each.getsockopt(socket.IPPROTO_TCP, socket.TCP_NOTSENT_LOWAT)
+        assert mark == (131_072 if is_wire else 0), (is_wire, mark)
+    assert wires.count(True) == 1 and False in wires, wires
+
+
 def asks_no_poll():
     """SIGUSR1 ends what has no poll that tells of it."""
     process = begin(("script",))
@@ -86,6 +134,7 @@ BOTH = [(end, number) for end in ENDS for number in (signal.SIGTERM, signal.SIGI
 TESTS = [(f"{end}, {number.name}", ends_by, (end, number)) for end, number in BOTH]
 TESTS += [("SIGINT in the background", ignores, ((), -signal.SIGTERM)), ("SIGUSR1 and no poll", asks_no_poll, ())]
 TESTS += [("the limit of descriptors", raises_the_limit, ())]
+TESTS += [(f"the mark of {end}", marks, (end,)) for end in ENDS]
 FIRST = [(f"{end} as process 1, {number.name}", ends_as_first, (end, number)) for end, number in BOTH]
 FIRST += [("SIGINT in the background as process 1", ignores, (AS_FIRST, 128 + signal.SIGTERM))]
 
