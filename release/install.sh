@@ -59,14 +59,25 @@ place_of() {
     esac
 }
 
+# sweep FOLDER: it goes where it is empty, and those above it, but none that a system has from its start
+sweep() {
+    case $1 in
+    "$place" | "$place/bin" | "$place/lib" | "$place/share" | "$place/share/man" | "$destdir/etc") ;;
+    *) ! rmdir "$1" 2> /dev/null || sweep "$(dirname "$1")" ;;
+    esac
+}
+
 if [ $task = uninstall ]; then
     printf '%s\n' "$files" | while read -r _ _ file; do
         # the licence stays as long as the library for C does
         if [ "$file" = share/doc/ymx/LICENSE ] && [ -e "$place/include/ymx.h" ]; then continue; fi
         rm -f "$(place_of "$file")"
+        sweep "$(dirname "$(place_of "$file")")"
     done
-    # (a folder that something else is in stays)
-    rmdir "$place/share/doc/ymx" 2> /dev/null || true
+    case $prefix in
+    '' | /usr | /usr/local) ;;
+    *) rmdir "$place/bin" "$place/lib" "$place/share/man" "$place/share" "$place" 2> /dev/null || true ;;
+    esac
     echo "ymx is no longer below $place"
     exit
 fi
@@ -84,7 +95,12 @@ cp "$here/LICENSE.musl" "$here/share"/* "$scratch/"
 # the services name the program by its place
 literal=$(printf '%s\n' "$prefix" | sed 's/[\\&|]/\\&/g')
 for end in local remote; do
-    sed "s|@prefix@|$literal|" "$here/share/ymx-$end@.service.in" > "$scratch/ymx-$end@.service"
+    # below other folders than these man finds no page by its name, and systemd takes no blank
+    case $prefix in
+    /usr | /usr/local | *' '*) page="ymx-$end(1)" ;;
+    *) page=$literal/share/man/man1/ymx-$end.1 ;;
+    esac
+    sed "s|@prefix@|$literal|; s|@page@|$page|" "$here/share/ymx-$end@.service.in" > "$scratch/ymx-$end@.service"
 done
 # for the folders that are made
 umask 022

@@ -1,7 +1,7 @@
 #!/bin/sh
 # release/install.sh: what is put where, with which modes, is the same under umask 022 and 077; the program that was
-# installed runs; SIGTERM ends it by the signal, which systemd takes for a clean end; `--uninstall` leaves no file, and
-# takes nothing that isn't the program's; fish finds its completions below /usr/local too. And the man pages and the
+# installed runs; SIGTERM ends it by the signal, which systemd takes for a clean end; `--uninstall` leaves no file and no
+# folder, and takes nothing that isn't the program's; systemd finds no fault with the units; fish finds its completions below /usr/local too. And the man pages and the
 # completions have the options of that program, and ymx-local's sample has its words.
 set -eu
 here=$(cd "$(dirname "$0")" && pwd)
@@ -70,6 +70,15 @@ for end in local remote; do
     fi
 done
 
+# systemd takes the units, and `man` finds their pages, also where it doesn't look by itself
+"$root/release/install.sh" elsewhere > said 2>&1 || fail 'it is not installed elsewhere:' said
+if command -v systemd-analyze > /dev/null && command -v man > /dev/null; then
+    if systemd-analyze verify elsewhere/lib/systemd/system/*.service > said 2>&1 && [ ! -s said ]; then good; else bad 'systemd finds fault with the units:' said; fi
+else
+    left_out 'what systemd says of the units' 'no systemd-analyze, or no man'
+fi
+"$root/release/install.sh" --uninstall elsewhere > said
+
 printf 'connection %s bytes echoed\n' '1: 0' '2: 1' '3: 300000' > echoed
 if "$installed/bin/ymx" selftest > got && cmp got echoed; then good; else bad 'the installed program fails its selftest' got; fi
 
@@ -104,7 +113,8 @@ if command -v fish > /dev/null; then
     if grep -q '^frames' found; then good; else bad 'fish completes nothing:' found; fi
 fi
 DESTDIR=$scratch/local "$root/release/install.sh" --uninstall > said
-if [ -z "$(find local ! -type d)" ]; then good; else bad 'something is left below /usr/local or /etc' said; fi
+find local -mindepth 1 | LC_ALL=C sort > left
+if printf 'local/%s\n' etc usr usr/local usr/local/bin usr/local/lib usr/local/share usr/local/share/man | diff - left > differs; then good; else bad 'something is left below /usr/local or /etc:' differs; fi
 
 if python3 "$here/options.py" "$installed/bin/ymx" > said 2>&1; then
     good
@@ -120,5 +130,5 @@ find place022 ! -type d | LC_ALL=C sort > left
 if printf 'place022/opt/%s\n' include/ymx.h share/doc/ymx/LICENSE | diff - left > differs; then good; else bad "what is the library's goes too:" differs; fi
 DESTDIR=place077 "$root/release/install.sh" --uninstall /opt > said
 "$root/release/install.sh" --uninstall "in stalled" > said
-if [ -z "$(find place077 "$installed" ! -type d -o -path '*/doc/ymx')" ]; then good; else bad 'something is left' said; fi
+if [ -z "$(find place077 -mindepth 1)" ] && [ ! -e "$installed" ]; then good; else bad 'something is left' said; fi
 counted
