@@ -1,7 +1,7 @@
 #!/bin/bash
 # image.sh FILE: packs the program into an image of containers, for each target, as a tar of OCI's layout: `skopeo copy
 # oci-archive:FILE docker://..` or `podman load -i FILE` takes it. The image has one file, /ymx, which it runs; it runs as
-# nobody, and has the licences as labels. The same release gives the same bytes: times are those of its commit.
+# nobody, drains at a stop, and has the licences as labels. The same release gives the same bytes: times are those of its commit.
 set -euo pipefail
 here=$(cd "$(dirname "$0")" && pwd)
 root=$(cd "$here/.." && pwd)
@@ -47,7 +47,7 @@ for target in x86_64 aarch64; do
     unpacked=$(sum layer)
     gzip -9n < layer > layer.gz
     layer=$(keep layer.gz layer.v1.tar+gzip)
-    printf '{"created":"%s","architecture":"%s","os":"linux","config":{"User":"65534:65534","Entrypoint":["/ymx"],"Labels":%s},"rootfs":{"type":"layers","diff_ids":["sha256:%s"]},"history":[{"created":"%s","created_by":"release/image.sh"}]}' \
+    printf '{"created":"%s","architecture":"%s","os":"linux","config":{"User":"65534:65534","Entrypoint":["/ymx"],"StopSignal":"SIGUSR1","Labels":%s},"rootfs":{"type":"layers","diff_ids":["sha256:%s"]},"history":[{"created":"%s","created_by":"release/image.sh"}]}' \
         "$date" "$architecture" "$labels" "$unpacked" "$date" > config
     config=$(keep config config.v1+json)
     printf '{"schemaVersion":2,"mediaType":"application/vnd.oci.image.manifest.v1+json","config":%s,"layers":[%s]}' "$config" "$layer" > manifest

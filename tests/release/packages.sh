@@ -58,6 +58,7 @@ is 'the program of the archive for arm64' runs_on_arm of_aarch64/usr/bin/ymx
 # ---- the image
 
 twice image.sh image image_again
+is 'a stop of the image drains' sh -c "tar -xOf image | grep -aq '\"StopSignal\":\"SIGUSR1\"'"
 if has skopeo umoci; then
     for processor in amd64 arm64; do
         is "skopeo copies the image for $processor" skopeo --override-arch $processor copy -q oci-archive:image "oci:layout:$processor"

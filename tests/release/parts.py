@@ -123,6 +123,32 @@ def marks(end):
     assert wires.count(True) == 1 and False in wires, wires
 
 
+def drains(end, ahead):
+    """SIGUSR1 asks it to end with its last connection: at once where there is none."""
+    process = begin(ENDS[end], ahead)
+    os.kill(child(process) if ahead else process.pid, signal.SIGUSR1)
+    assert process.wait() == 0
+
+
+def drains_twice():
+    """A second SIGUSR1 changes nothing: a stream that came before is served to its end."""
+    target, address = raw.listen()
+    process = begin((*ENDS["remote"][:-1], address))
+    peer = raw.call(process.place)
+    peer.sendall(raw.frame(raw.WINDOW, raw.SYN, 1, 0))
+    service = raw.accept(target)
+    for _ in range(2):
+        process.send_signal(signal.SIGUSR1)
+    while raw.next_frame(peer)[0] != raw.AWAY:
+        pass
+    process.send_signal(signal.SIGUSR1)
+    service.sendall(b"all of it")
+    service.close()
+    assert raw.next_frame(peer) == (raw.DATA, 0, 1)
+    peer.sendall(raw.frame(raw.WINDOW, raw.FIN, 1, 0))
+    assert process.wait() == 0
+
+
 def asks_no_poll():
     """SIGUSR1 ends what has no poll that tells of it."""
     process = begin(("script",))
@@ -135,7 +161,9 @@ TESTS = [(f"{end}, {number.name}", ends_by, (end, number)) for end, number in BO
 TESTS += [("SIGINT in the background", ignores, ((), -signal.SIGTERM)), ("SIGUSR1 and no poll", asks_no_poll, ())]
 TESTS += [("the limit of descriptors", raises_the_limit, ())]
 TESTS += [(f"the mark of {end}", marks, (end,)) for end in ENDS]
+TESTS += [(f"SIGUSR1 of {end}", drains, (end, ())) for end in ENDS] + [("SIGUSR1 three times", drains_twice, ())]
 FIRST = [(f"{end} as process 1, {number.name}", ends_as_first, (end, number)) for end, number in BOTH]
+FIRST += [(f"SIGUSR1 of {end} as process 1", drains, (end, AS_FIRST)) for end in ENDS]
 FIRST += [("SIGINT in the background as process 1", ignores, (AS_FIRST, 128 + signal.SIGTERM))]
 
 

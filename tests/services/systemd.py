@@ -65,10 +65,9 @@ def write(path, text):
         file.write(text)
 
 
-def options(end, words, told=True):
-    """The file of options of this unit: with `told` a stop asks at its status's address."""
-    status = f"STATUS={STATUS[end]}\n" if told else ""
-    write(f"/etc/ymx/{end}-web.conf", f"OPTIONS=-v --keep {words} --status {STATUS[end]}\n{status}")
+def options(end, words):
+    """The file of options of this unit."""
+    write(f"/etc/ymx/{end}-web.conf", f"OPTIONS=-v --keep {words} --status {STATUS[end]}\n")
 
 
 def journal(end, since):
@@ -95,10 +94,10 @@ def wait_for(wanted):
 class Units:
     """Both units, enabled and begun, and a target."""
 
-    def __init__(self, told=True):
+    def __init__(self):
         self.target, self.address = listen()
-        options("remote", f"--bind {PEER} --target {self.address}", told)
-        options("local", f"--listen {USERS} --peer {PEER}", told)
+        options("remote", f"--bind {PEER} --target {self.address}")
+        options("local", f"--listen {USERS} --peer {PEER}")
         systemctl("daemon-reload")
         systemctl("enable", "--now", unit("remote"))
         wait_for(lambda: health("remote") == "serving\n")
@@ -207,11 +206,12 @@ def restarts(end):
     units.end()
 
 
-def is_stopped_at_once():
-    """Without STATUS a stop ends it by SIGTERM, which is no failure, and cuts who is there."""
-    units = Units(told=False)
+def is_ended_at_once():
+    """`systemctl kill` ends it by SIGTERM, which is no failure, and cuts who is there."""
+    units = Units()
     user, service = units.begin()
-    systemctl("stop", unit("local"))
+    systemctl("kill", unit("local"))
+    wait_for(lambda: facts("local", "ActiveState") == ("inactive",))
     assert facts("local", "ActiveState", "Result", "ExecMainCode", "ExecMainStatus") == ("inactive", "success", KILLED, "15")
     assert is_over(user) and is_over(service)
     units.end()
@@ -267,7 +267,7 @@ TESTS = (
     ("the units start, and stop", starts, ()),
     ("a restart of remote", restarts, ("remote",)),
     ("a restart of local", restarts, ("local",)),
-    ("a stop without STATUS", is_stopped_at_once, ()),
+    ("an end at once", is_ended_at_once, ()),
     ("a stop that waits in vain", waits_no_longer_than_its_limit, ()),
     ("one that was killed", comes_back, ()),
     ("a bad command line", stays_down, ()),
