@@ -7,11 +7,17 @@ use std::collections::BTreeMap;
 use std::time::Instant;
 use ymx_model::CallFault;
 
-/// What is counted. Each count stays at the greatest `u64`.
+/// What is counted of an end since it began.
 #[derive(Drop)]
 pub struct Counts {
     /// When each connection began that is open, by its number.
     open_since: BTreeMap<u64, Instant>,
+    pub(crate) numbers: Numbers,
+}
+
+/// The counts, each of which stays at the greatest `u64`.
+#[derive(Drop, Default)]
+pub(crate) struct Numbers {
     pub(crate) to_peer: u64,
     pub(crate) from_peer: u64,
     pub(crate) begun: u64,
@@ -38,37 +44,19 @@ impl Counts {
     pub fn new(alloc: Global) -> Counts {
         Counts {
             open_since: BTreeMap::new(alloc),
-            to_peer: 0,
-            from_peer: 0,
-            begun: 0,
-            open: 0,
-            ended: 0,
-            failed: 0,
-            reset: 0,
-            lost: 0,
-            lacked_memory: 0,
-            refused: 0,
-            declined_lost: 0,
-            declined_away: 0,
-            declined_memory: 0,
-            declined_unwatched: 0,
-            declined_other: 0,
-            sessions_begun: 0,
-            sessions_ended: 0,
-            rejected: 0,
-            system_refusals: 0,
+            numbers: Numbers::default(),
         }
     }
 
     /// A connection begins, now if the time is known. Its number: 1, 2, 3, ..
     pub fn begin(&mut self, now: Option<Instant>) -> u64 {
-        add(&mut self.begun, 1);
-        add(&mut self.open, 1);
+        add(&mut self.numbers.begun, 1);
+        add(&mut self.numbers.open, 1);
         if let Some(now) = now {
             // Where there is no memory for it, this one's age is not told.
-            let _ = self.open_since.insert(self.begun, now);
+            let _ = self.open_since.insert(self.numbers.begun, now);
         }
-        self.begun
+        self.numbers.begun
     }
 
     /// Counts this.
@@ -76,18 +64,18 @@ impl Counts {
         match event {
             Event::Ended(origin, ended) => {
                 self.end(origin.number);
-                add(&mut self.to_peer, ended.to_peer.bytes);
-                add(&mut self.from_peer, ended.from_peer.bytes);
+                add(&mut self.numbers.to_peer, ended.to_peer.bytes);
+                add(&mut self.numbers.from_peer, ended.from_peer.bytes);
                 add(self.ended_so(ended.ending()), 1);
             }
             Event::Declined(origin, why) => {
                 self.end(origin.number);
                 add(self.declined_so(*why), 1);
             }
-            Event::SessionBegan => add(&mut self.sessions_begun, 1),
-            Event::SessionEnded => add(&mut self.sessions_ended, 1),
-            Event::Rejected(count, _) => add(&mut self.rejected, *count),
-            Event::Refused(_, _) => add(&mut self.system_refusals, 1),
+            Event::SessionBegan => add(&mut self.numbers.sessions_begun, 1),
+            Event::SessionEnded => add(&mut self.numbers.sessions_ended, 1),
+            Event::Rejected(count, _) => add(&mut self.numbers.rejected, *count),
+            Event::Refused(_, _) => add(&mut self.numbers.system_refusals, 1),
             Event::Fault(_) | Event::Reason(_) | Event::Notice(_) => {}
         }
     }
@@ -103,31 +91,33 @@ impl Counts {
     /// The connection of this number is open no more.
     fn end(&mut self, number: u64) {
         let _ = self.open_since.remove(&number);
-        self.open = self.open.saturating_sub(1);
+        self.numbers.open = self.numbers.open.saturating_sub(1);
     }
 
     /// The count of connections that ended so.
     fn ended_so(&mut self, ending: Ending) -> &mut u64 {
         match ending {
-            Ending::Ended => &mut self.ended,
-            Ending::ConnectionFailed => &mut self.failed,
-            Ending::Reset => &mut self.reset,
-            Ending::Lost => &mut self.lost,
-            Ending::OutOfMemory => &mut self.lacked_memory,
-            Ending::Refused => &mut self.refused,
+            Ending::Ended => &mut self.numbers.ended,
+            Ending::ConnectionFailed => &mut self.numbers.failed,
+            Ending::Reset => &mut self.numbers.reset,
+            Ending::Lost => &mut self.numbers.lost,
+            Ending::OutOfMemory => &mut self.numbers.lacked_memory,
+            Ending::Refused => &mut self.numbers.refused,
         }
     }
 
     /// The count of connections that got no stream for this reason.
     fn declined_so(&mut self, why: Declined) -> &mut u64 {
         match why {
-            Declined::BySession(CallFault::Lost | CallFault::Closed) => &mut self.declined_lost,
-            Declined::BySession(CallFault::PeerAway) => &mut self.declined_away,
+            Declined::BySession(CallFault::Lost | CallFault::Closed) => &mut self
+                .numbers
+                .declined_lost,
+            Declined::BySession(CallFault::PeerAway) => &mut self.numbers.declined_away,
             Declined::BySession(CallFault::OutOfMemory(_)) | Declined::OutOfMemory => {
-                &mut self.declined_memory
+                &mut self.numbers.declined_memory
             }
-            Declined::Unwatched => &mut self.declined_unwatched,
-            Declined::BySession(_) => &mut self.declined_other,
+            Declined::Unwatched => &mut self.numbers.declined_unwatched,
+            Declined::BySession(_) => &mut self.numbers.declined_other,
         }
     }
 }
