@@ -65,7 +65,10 @@ pub fn parse<'a, S: AsStr>(alloc: Global, words: &'a [S]) -> Result<Task<'a>, Co
     let matches = command(alloc)?.try_get_matches_from(words)?;
     match task_of(&matches) {
         Ok(task) => Ok(task),
-        Err(bad) => Err(fault_for(alloc, name_of(&matches), bad)?),
+        Err(bad) => {
+            let name = matches.subcommand().map_or("", |(name, _)| name);
+            Err(fault_for(alloc, name, bad)?)
+        }
     }
 }
 
@@ -92,14 +95,6 @@ fn task_for<'a>(name: &str, found: &ArgMatches<'a>) -> Result<Task<'a>, BadOptio
         "local" => Ok(Task::Local(local_options(found)?)),
         "remote" => Ok(Task::Remote(remote_options(found)?)),
         _ => Ok(Task::Selftest),
-    }
-}
-
-/// The name of the subcommand that was met.
-fn name_of<'a>(matches: &ArgMatches<'a>) -> &'a str {
-    match matches.subcommand() {
-        Some((name, _)) => name,
-        None => "",
     }
 }
 
@@ -141,21 +136,20 @@ fn message_of(alloc: Global, bad: BadOption<'_>) -> Result<String, AllocError> {
     match bad {
         BadOption::Number { name, text } => {
             let row = row_of(name);
-            let value = row.value_name();
             format!(in alloc;
-                "invalid value '{text}' for '--{name} <{value}>': a number is decimal digits alone, from {} to {}",
-                row.least, row.most
+                "invalid value '{text}' for '--{name} <{}>': a number is decimal digits alone, from {} to {}",
+                row.value_name(),
+                row.least,
+                row.most
             )
         }
         BadOption::Address { name, text } => format!(in alloc;
             "bad address '{text}' for '--{name}'"
         ),
-        BadOption::Clash { name, other } => {
-            let value = row_of(name).value_name();
-            format!(in alloc;
-                "the argument '--{name} <{value}>' cannot be used with '--{other} <ADDRESS>'"
-            )
-        }
+        BadOption::Clash { name, other } => format!(in alloc;
+            "the argument '--{name} <{}>' cannot be used with '--{other} <ADDRESS>'",
+            row_of(name).value_name()
+        ),
         BadOption::NoPeer => format!(in alloc;
             "the following required arguments were not provided:\n  <--peer <ADDRESS>|--bind <ADDRESS>>"
         ),

@@ -74,10 +74,7 @@ pub(crate) struct Row {
 impl Row {
     /// What the help calls its value.
     pub(crate) fn value_name(&self) -> &'static str {
-        match self.value {
-            [name, ..] => name,
-            [] => "",
-        }
+        self.value.first().copied().unwrap_or("")
     }
 }
 
