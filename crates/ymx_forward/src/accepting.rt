@@ -1,6 +1,6 @@
 //! Where connections come in: users, or peers, and who lets peers in.
 
-use crate::host::Host;
+use crate::Host;
 use crate::peer::Peer;
 use crate::silence::{has_passed, time_of};
 use crate::system::{Listener, Poll, TcpConnection};
@@ -103,11 +103,6 @@ impl Acceptor {
         self.listener.is_none()
     }
 
-    /// Whether no more are accepted, as none can be.
-    pub(crate) fn has_failed(&self) -> bool {
-        self.has_failed
-    }
-
     /// Whether one waits, which stays there.
     pub(crate) fn is_awaited(&self) -> bool {
         match &self.listener {
@@ -150,9 +145,9 @@ impl Acceptor {
         self.refusal.take()
     }
 
-    /// Why none can be accepted any more, if the system has said so.
-    pub(crate) fn failure(&self) -> Option<Reason> {
-        if self.has_failed { self.refusal } else { None }
+    /// That none can be accepted any more, and why, if the system has said so. None where one may be.
+    pub(crate) fn failure(&self) -> Option<Option<Reason>> {
+        self.has_failed.then_some(self.refusal)
     }
 }
 
@@ -170,9 +165,9 @@ pub(crate) enum Caller {
 /// Where peers come in.
 #[derive(Drop)]
 pub(crate) struct PeerAcceptor {
-    acceptor: Acceptor,
+    pub(crate) acceptor: Acceptor,
     /// Where it is.
-    at: SocketAddrV4,
+    pub(crate) at: SocketAddrV4,
     /// From where they may call.
     from: Networks,
     /// When somebody was last closed who was told.
@@ -197,10 +192,7 @@ impl PeerAcceptor {
     }
 
     /// Who called next. Who may not call from where he does is closed, and nothing of him is read.
-    pub(crate) fn next<R: Host, E: Outlet, L: Outlet>(
-        &mut self,
-        context: Context<'_, R, E, L>,
-    ) -> Caller {
+    pub(crate) fn next<R: Host, D: Outlet>(&mut self, context: Context<'_, R, D>) -> Caller {
         let Some(socket) = self.acceptor.accept(0) else {
             if let Some(reason) = self.acceptor.take_refusal() {
                 context.tell(Event::Refused(Named::Bind(self.at), reason));
@@ -208,18 +200,17 @@ impl PeerAcceptor {
             return Caller::Nobody;
         };
         let peer = Peer::of(socket);
-        let address = peer.address();
-        if self.from.admits(address) {
+        if self.from.admits(peer.address) {
             return Caller::Peer(peer);
         }
-        self.tell_closed(context, Notice::Stranger(address));
+        self.tell_closed(context, Notice::Stranger(peer.address));
         Caller::Closed
     }
 
     /// Tells of somebody who is closed. Of those in a second the first is told.
-    pub(crate) fn tell_closed<R: Host, E: Outlet, L: Outlet>(
+    pub(crate) fn tell_closed<R: Host, D: Outlet>(
         &mut self,
-        context: Context<'_, R, E, L>,
+        context: Context<'_, R, D>,
         notice: Notice,
     ) {
         let now = time_of(context.rt);
@@ -229,24 +220,13 @@ impl PeerAcceptor {
         }
     }
 
-    /// How long a wait for callers may last. None for as long as no event comes.
-    pub(crate) fn limit(&self) -> Option<Duration> {
-        self.acceptor.limit()
-    }
-
     /// Says that nobody can come in any more, and why.
-    pub(crate) fn say_failure<R: Host, E: Outlet, L: Outlet>(&self, context: Context<'_, R, E, L>) {
+    pub(crate) fn say_failure<R: Host, D: Outlet>(&self, context: Context<'_, R, D>) {
         let reason = match self.acceptor.failure() {
-            Some(reason) => Some(Notice::Refused(Named::Bind(self.at), reason)),
-            None => None,
+            Some(Some(reason)) => Some(Notice::Refused(Named::Bind(self.at), reason)),
+            _ => None,
         };
         context.say(reason, Fault::CannotListen(self.at));
-    }
-
-    /// Why nobody can come in any more, if the system has said so. None of both where somebody may.
-    pub(crate) fn failure(&self) -> Option<Option<Reason>> {
-        let has_failed = self.acceptor.has_failed();
-        has_failed.then_some(self.acceptor.failure())
     }
 }
 

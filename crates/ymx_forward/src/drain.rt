@@ -24,13 +24,18 @@ impl Drain {
 
     /// From now on it takes no more connections. Asked once more it does nothing further.
     pub(crate) fn ask<R: Wait>(&self, rt: &R) {
-        self.is_asked.store(true, Ordering::SeqCst);
+        self.note_asked();
         let sleepers = self.sleepers.lock(rt);
         for sleeper in sleepers.as_slice() {
             if let Some(waker) = sleeper {
                 waker.wake();
             }
         }
+    }
+
+    /// It was asked by a signal, of which each poll tells.
+    pub(crate) fn note_asked(&self) {
+        self.is_asked.store(true, Ordering::SeqCst);
     }
 
     /// Whether it was asked.
@@ -60,13 +65,5 @@ impl Drain {
         if let Some(sleeper) = sleepers.as_mut_slice().get_mut(seat) {
             *sleeper = None;
         }
-    }
-}
-
-/// Whether that was asked, if it can be.
-pub(crate) fn is_asked(drain: &Option<Arc<Drain, Global>>) -> bool {
-    match drain {
-        Some(drain) => drain.is_asked(),
-        None => false,
     }
 }

@@ -7,11 +7,13 @@
 //! and is proved over every one.
 #![tactic(auto)]
 
+use std::net::{Net, TcpListener, TcpStream};
+use std::sync::Wait;
+use std::time::Clock;
+
 mod accepting;
-mod closing;
 mod drain;
 mod echoing;
-mod host;
 mod peer;
 mod place;
 mod places;
@@ -25,6 +27,10 @@ mod system;
 mod users;
 mod voice;
 
-pub use host::Host;
-pub use places::{run_local, run_remote};
+pub use places::run_end;
 pub use selftest::{AllEchoed, run_selftest};
+
+/// What an end of a tunnel runs on: TCP, the clock, and waiting.
+pub trait Host: Net<Stream = TcpStream, Listener = TcpListener> + Clock + Wait {}
+
+impl<R: Net<Stream = TcpStream, Listener = TcpListener> + Clock + Wait> Host for R {}

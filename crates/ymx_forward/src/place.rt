@@ -2,21 +2,23 @@
 
 ghost use Rattle.std.specs.Prelude.{None};
 
+use crate::Host;
 use crate::accepting::{Caller, PeerAcceptor};
-use crate::host::Host;
 use crate::peer::Peer;
-use crate::places::QueuedPeers;
+use crate::places::PeerQueue;
 use crate::session::{LISTENER, Side, run_session};
-use crate::silence::shorter;
+use crate::silence::{has_passed, shorter, time_of};
 use crate::stream::Stream;
-use crate::system::{NoEvents, Poll, StartFault, TcpConnection, Waker, listen};
+use crate::system::{NoEvents, Poll, StartFault, TcpConnection, Waker, begin_call, listen};
 use crate::users::{Common, Users, place_of};
 use crate::voice::Context;
 use std::alloc::Global;
-use std::net::{SocketAddr, SocketAddrV4};
+use std::io::ErrorKind;
+use std::net::SocketAddr;
 use std::sync::Arc;
-use std::thread;
+use std::sync::atomic::Ordering;
 use std::time::Duration;
+use std::{io, thread};
 use ymx_model::{CallFault, Outlet};
 use ymx_page::{Declined, Event};
 use ymx_policy::{
@@ -27,24 +29,24 @@ use ymx_policy::{
 /// How many users are closed at once at most: as many as wait in the system.
 const WAITING: u32 = 4_096;
 
-/// How many milliseconds go by at once where it pauses.
-const GLANCE: u64 = 100;
+/// How many milliseconds go by at once where it pauses, or calls its peer.
+const GLANCE: i32 = 100;
 
 /// How many such times are a second.
 const GLANCES: u64 = 10;
 
 /// What a place has.
 #[derive(Drop)]
-pub(crate) struct Place<'a, R, E, L> {
-    context: Context<'a, R, E, L>,
+pub(crate) struct Place<'a, R, D> {
+    context: Context<'a, R, D>,
     plan: Plan,
     /// What it shares with other places.
     common: Arc<Common, Global>,
     /// Others may ask for the drain, so it is woken then.
     is_woken: bool,
     /// Where peers are handed to it, if another thread lets them in.
-    queued: Option<QueuedPeers<'a>>,
-    /// It says where users or peers come in, and why they can't.
+    queue: Option<&'a PeerQueue>,
+    /// It says where users or peers come in.
     is_first: bool,
     /// What tells it of events, once it needs that.
     poll: Option<Poll>,
@@ -60,41 +62,34 @@ pub(crate) struct Place<'a, R, E, L> {
     rests: bool,
 }
 
-impl<'a, R: Host, E: Outlet, L: Outlet> Place<'a, R, E, L> {
-    /// Nothing is open.
-    pub(crate) fn new(
-        context: Context<'a, R, E, L>,
-        plan: Plan,
-        common: Arc<Common, Global>,
-        is_woken: bool,
-        queued: Option<QueuedPeers<'a>>,
-    ) -> Place<'a, R, E, L> {
-        Place {
-            context,
-            plan,
-            common,
-            is_woken,
-            queued,
-            is_first: match queued {
-                Some(queued) => queued.is_first,
-                None => true,
-            },
-            poll: None,
-            seat: None,
-            side: None,
-            callers: None,
-            peer: None,
-            rests: false,
-        }
-    }
+/// Runs a place of an end. Whether it said a fault.
+pub(crate) fn run_place<'a, R: Host, D: Outlet>(
+    context: Context<'a, R, D>,
+    plan: Plan,
+    common: Arc<Common, Global>,
+    is_woken: bool,
+    queue: Option<&'a PeerQueue>,
+) -> bool {
+    let mut place = Place {
+        context,
+        plan,
+        common,
+        is_woken,
+        queue,
+        is_first: queue.is_none(),
+        poll: None,
+        seat: None,
+        side: None,
+        callers: None,
+        peer: None,
+        rests: false,
+    };
+    let status = run(context.rt, plan, &mut place);
+    place.common.places.fetch_sub(1, Ordering::SeqCst);
+    status != 0
+}
 
-    /// Runs the end that it is a place of. Whether a fault was said.
-    pub(crate) fn run(&mut self) -> bool {
-        let status = run(self.context.rt, self.plan, self);
-        self.common.leave();
-        status != 0
-    }
-
+impl<'a, R: Host, D: Outlet> Place<'a, R, D> {
     /// Says this.
     fn say(&self, words: Words) {
         let context = self.context;
@@ -115,7 +110,8 @@ impl<'a, R: Host, E: Outlet, L: Outlet> Place<'a, R, E, L> {
     fn prepare(&mut self) -> Result<&mut Poll, StartFault> {
         if self.poll.is_none() {
             let Context { rt, alloc, .. } = self.context;
-            let poll = Poll::new(rt, alloc)?;
+            let mut poll = Poll::new(rt, alloc)?;
+            poll.hear_signal(Arc::try_clone(&self.common.drain)?);
             if self.is_woken {
                 let waker = Arc::new(alloc, Waker::new(&poll, LISTENER)?)?;
                 let seat = self.common.drain.wakes(rt, waker);
@@ -134,69 +130,63 @@ impl<'a, R: Host, E: Outlet, L: Outlet> Place<'a, R, E, L> {
         }
     }
 
-    /// Whether another session follows one that is lost.
-    fn is_kept(&self) -> bool {
-        self.plan.terms().goes_on
+    /// Does this. The error is why something can't begin.
+    fn carry_out(&mut self, deed: Deed) -> Result<Happened, StartFault> {
+        match deed {
+            Deed::ListenForPeer(peers) => self.listen_for_peer(peers),
+            Deed::ListenForUsers(users) => self.listen_for_users(users),
+            Deed::Call(callee) => Ok(self.call(callee)),
+            Deed::AwaitPeer => Ok(self.await_peer()),
+            Deed::AwaitUser => Ok(self.await_user()),
+            Deed::Serve(session) => self.serve(session),
+            Deed::CloseUsers if self.common.has_sessions() => Ok(Happened::Done),
+            Deed::CloseUsers => Ok(self.close_waiting().err().unwrap_or(Happened::Done)),
+            Deed::Pause(seconds) => {
+                self.pause(seconds);
+                Ok(Happened::Done)
+            }
+            Deed::End(_) => Ok(Happened::Done),
+        }
     }
 
     // ---- where users and peers come in
 
-    /// Listens for its peer.
-    fn listen_for_peer(&mut self, peers: Peers) -> Happened {
-        match self.open_callers(peers) {
-            Err(_) if !self.is_first => Happened::AllCame,
-            Err(fault) => failed(fault),
-            Ok(at) => Happened::Listening(at),
+    /// Listens for its peer, unless another thread does.
+    fn listen_for_peer(&mut self, peers: Peers) -> Result<Happened, StartFault> {
+        if self.queue.is_some() {
+            return Ok(Happened::Listening(peers.address));
         }
-    }
-
-    /// Listens for its peer, unless another thread does, and says where.
-    fn open_callers(&mut self, peers: Peers) -> Result<SocketAddrV4, StartFault> {
-        if let Some(queued) = self.queued {
-            return queued.opened;
-        }
-        let is_kept = self.is_kept();
+        let is_kept = self.plan.terms().goes_on;
         let listener = listen(self.context.rt, SocketAddr::V4(peers.address))?;
         let at = place_of(&listener, peers.address);
         let callers = PeerAcceptor::new(listener, at, peers.from, is_kept, self.prepare()?)?;
         self.callers = Some(callers);
-        Ok(at)
+        Ok(Happened::Listening(at))
     }
 
     /// Listens for users. Where another place said that nobody can, it has none.
-    fn listen_for_users(&mut self, users: Comers) -> Happened {
-        match self.open_users(users) {
-            Ok(Some(at)) => Happened::Listening(at),
-            Ok(None) => Happened::AllCame,
-            Err(fault) => failed(fault),
-        }
-    }
-
-    /// Listens for users, and says where. None where another place couldn't.
-    fn open_users(&mut self, users: Comers) -> Result<Option<SocketAddrV4>, StartFault> {
+    fn listen_for_users(&mut self, users: Comers) -> Result<Happened, StartFault> {
         let common = Arc::try_clone(&self.common)?;
-        let Some(opened) = common.open(self.context.rt, users.address)? else {
-            return Ok(None);
+        let Some((listener, is_first)) = common.open(self.context.rt, users.address)? else {
+            return Ok(Happened::AllCame);
         };
-        let at = opened.at;
-        self.is_first = opened.is_first;
-        let users = Users::new(opened.listener, users, common, self.prepare()?)?;
+        let at = place_of(&listener, users.address);
+        self.is_first = is_first;
+        let users = Users::new(listener, users, common, self.prepare()?)?;
         self.side = Some(Side::Local(users));
-        Ok(Some(at))
+        Ok(Happened::Listening(at))
     }
 
     // ---- its peer
 
     /// Calls its peer, unless no more sessions are to begin.
     fn call(&mut self, callee: Callee) -> Happened {
-        if self.common.drain.is_asked() {
-            return Happened::AllCame;
-        }
-        match Peer::call(self.context.rt, callee) {
-            Ok(peer) => {
+        match self.reach(callee) {
+            Ok(Some(peer)) => {
                 self.peer = Some(peer);
                 Happened::PeerCame
             }
+            Ok(None) => Happened::AllCame,
             Err(error) => {
                 self.rests = self.common.has_sessions();
                 Happened::Failed(Some(Reason::of(&error)))
@@ -204,10 +194,41 @@ impl<'a, R: Host, E: Outlet, L: Outlet> Place<'a, R, E, L> {
         }
     }
 
+    /// The peer that is called. After its limit, if it has one, the error is `TimedOut`. None where no more sessions are to begin.
+    fn reach(&mut self, callee: Callee) -> io::Result<Option<Peer>> {
+        let rt = self.context.rt;
+        let began = time_of(rt);
+        // so that a signal is heard meanwhile
+        let _ = self.prepare();
+        let socket = begin_call(rt, SocketAddr::V4(callee.address))?;
+        for _ in rt.forever() {
+            if self.is_drained() {
+                return Ok(None);
+            }
+            if socket.is_there(GLANCE)? {
+                return Ok(Some(Peer::of(socket)));
+            }
+            if let Some(seconds) = callee.limit {
+                if has_passed(began, time_of(rt), Duration::from_secs(seconds as u64)) {
+                    return Err(io::Error::from(ErrorKind::TimedOut));
+                }
+            }
+        }
+        unreachable!()
+    }
+
+    /// Whether no more sessions are to begin, as a signal may say just now.
+    fn is_drained(&mut self) -> bool {
+        if let Some(poll) = &mut self.poll {
+            let _ = poll.look();
+        }
+        self.common.drain.is_asked()
+    }
+
     /// Waits until a peer is handed to it, or calls.
     fn await_peer(&mut self) -> Happened {
-        let met = match self.queued {
-            Some(queued) => queued.queue.next(self.context.rt).ok_or(Happened::AllCame),
+        let met = match self.queue {
+            Some(queue) => queue.next(self.context.rt).ok_or(Happened::AllCame),
             None => self.meet(),
         };
         match met {
@@ -223,7 +244,7 @@ impl<'a, R: Host, E: Outlet, L: Outlet> Place<'a, R, E, L> {
     /// listens for another peer then.
     fn meet(&mut self) -> Result<Peer, Happened> {
         let context = self.context;
-        let is_kept = self.is_kept();
+        let is_kept = self.plan.terms().goes_on;
         for _ in self.context.rt.forever() {
             if self.common.drain.is_asked() {
                 return Err(Happened::AllCame);
@@ -253,14 +274,14 @@ impl<'a, R: Host, E: Outlet, L: Outlet> Place<'a, R, E, L> {
         let Some(callers) = &self.callers else {
             return Err(Happened::Failed(None));
         };
-        if let Some(why) = callers.failure() {
+        if let Some(why) = callers.acceptor.failure() {
             return Err(Happened::Failed(why));
         }
         let users = match &self.side {
             Some(Side::Local(users)) => users.limit(),
             _ => None,
         };
-        let limit = shorter(users, callers.limit());
+        let limit = shorter(users, callers.acceptor.limit());
         self.wait(limit).map_err(|_| Happened::Failed(None))
     }
 
@@ -280,7 +301,7 @@ impl<'a, R: Host, E: Outlet, L: Outlet> Place<'a, R, E, L> {
             if let Some(end) = users.end() {
                 return end;
             }
-            if users.is_awaited() {
+            if users.acceptor.is_awaited() {
                 return Happened::UserCame;
             }
             if self.wait(None).is_err() {
@@ -290,18 +311,7 @@ impl<'a, R: Host, E: Outlet, L: Outlet> Place<'a, R, E, L> {
         unreachable!()
     }
 
-    /// Closes the users that wait, unless another place has a session.
-    fn close_users(&mut self) -> Happened {
-        if self.common.has_sessions() {
-            return Happened::Done;
-        }
-        match self.close_waiting() {
-            Ok(()) => Happened::Done,
-            Err(end) => end,
-        }
-    }
-
-    /// Closes the users that wait. The one that came first is the last: so none is closed that comes because it was.
+    /// Closes the users that wait here. The one that came first is the last: so none is closed that comes because it was.
     fn close_waiting(&mut self) -> Result<(), Happened> {
         let context = self.context;
         let Some(Side::Local(users)) = &mut self.side else {
@@ -325,15 +335,16 @@ impl<'a, R: Host, E: Outlet, L: Outlet> Place<'a, R, E, L> {
 
     // ---- its sessions
 
-    /// Runs a session with the peer that is there.
-    fn serve(&mut self, session: Session) -> Happened {
-        let happened = match self.run_session(session) {
-            Ok(happened) => happened,
-            Err(fault) => failed(fault),
-        };
-        if let Some(queued) = self.queued {
-            self.close_poll();
-            queued.queue.leave(self.context.rt);
+    /// Runs a session with the peer that is there. Who is handed peers has its poll anew for the next: another place may need
+    /// the descriptor.
+    fn serve(&mut self, session: Session) -> Result<Happened, StartFault> {
+        let happened = self.run_session(session);
+        if let Some(queue) = self.queue {
+            if let Some(seat) = self.seat.take() {
+                self.common.drain.forget(self.context.rt, seat);
+            }
+            self.poll = None;
+            queue.leave(self.context.rt);
         }
         happened
     }
@@ -347,77 +358,52 @@ impl<'a, R: Host, E: Outlet, L: Outlet> Place<'a, R, E, L> {
             self.side = Some(Side::Remote {
                 target: SocketAddr::V4(target),
                 limit: (workers as usize).max(1),
-                drain: Arc::try_clone(&self.common.drain).ok(),
+                drain: Arc::try_clone(&self.common.drain)?,
             });
         }
         self.prepare()?;
         let (Some(side), Some(poll)) = (&mut self.side, &mut self.poll) else {
             return Ok(Happened::Failed(None));
         };
-        self.common.note_session(true);
+        self.common.sessions.fetch_add(1, Ordering::SeqCst);
         if let Side::Local(users) = side {
             users.note_event();
         }
         let end = run_session(self.context, poll, side, peer, session);
         if let Side::Local(users) = side {
-            users.note_open(0);
+            users.note_open(self.context, 0);
         }
-        self.common.note_session(false);
+        self.common.sessions.fetch_sub(1, Ordering::SeqCst);
         self.rests = session.is_followed && !end.is_coming_told;
         Ok(Happened::SessionEnded(end))
     }
 
-    /// Closes its poll, which the next session has anew: another place may need the descriptor.
-    fn close_poll(&mut self) {
-        if let Some(seat) = self.seat.take() {
-            self.common.drain.forget(self.context.rt, seat);
-        }
-        self.poll = None;
-    }
-
     /// Lets so many seconds go by, or fewer where no more sessions are to begin.
-    fn pause(&self, seconds: u64) {
+    fn pause(&mut self, seconds: u64) {
         for _ in 0..seconds.saturating_mul(GLANCES) {
-            if self.common.drain.is_asked() {
+            if self.is_drained() {
                 return;
             }
-            thread::sleep(self.context.rt, Duration::from_millis(GLANCE));
+            thread::sleep(self.context.rt, Duration::from_millis(GLANCE as u64));
         }
     }
 }
 
-impl<R: Host, E: Outlet, L: Outlet> World for Place<'_, R, E, L> {
+impl<R: Host, D: Outlet> World for Place<'_, R, D> {
     ghost log = { λ _. None };
 
     fn perform(&mut self, ask: Ask) -> Happened {
         self.say(ask.words);
-        match ask.deed {
-            Deed::ListenForPeer(peers) => self.listen_for_peer(peers),
-            Deed::ListenForUsers(users) => self.listen_for_users(users),
-            Deed::Call(callee) => self.call(callee),
-            Deed::AwaitPeer => self.await_peer(),
-            Deed::AwaitUser => self.await_user(),
-            Deed::Serve(session) => self.serve(session),
-            Deed::CloseUsers => self.close_users(),
-            Deed::Pause(seconds) => {
-                self.pause(seconds);
-                Happened::Done
-            }
-            Deed::End(_) => Happened::Done,
+        match self.carry_out(ask.deed) {
+            Ok(happened) => happened,
+            Err(StartFault::Refused(reason)) => Happened::Failed(Some(reason)),
+            Err(StartFault::OutOfMemory) => Happened::LackedMemory,
         }
     }
 }
 
-/// Something can't begin.
-fn failed(fault: StartFault) -> Happened {
-    match fault {
-        StartFault::Refused(reason) => Happened::Failed(Some(reason)),
-        StartFault::OutOfMemory => Happened::LackedMemory,
-    }
-}
-
 /// Closes a user for whom there is no session.
-fn decline<R: Host, E: Outlet, L: Outlet>(context: Context<'_, R, E, L>, user: TcpConnection) {
+fn decline<R: Host, D: Outlet>(context: Context<'_, R, D>, user: TcpConnection) {
     let origin = context.begin(user.peer());
     let why = Declined::BySession(CallFault::Lost);
     context.tell(Event::Declined(origin, why));

@@ -1,10 +1,10 @@
 //! `ymx local` and `ymx remote`: one place or several, each in a thread of its own, and what they share.
 
+use crate::Host;
 use crate::accepting::{Caller, PeerAcceptor};
 use crate::drain::Drain;
-use crate::host::Host;
 use crate::peer::Peer;
-use crate::place::Place;
+use crate::place::run_place;
 use crate::session::LISTENER;
 use crate::status::Page;
 use crate::system::{Poll, StartFault, Waker, listen};
@@ -18,46 +18,56 @@ use std::sync::{Arc, Mutex, Wait};
 use std::thread;
 use std::thread::{Threads, join_mut};
 use ymx_model::Outlet;
-use ymx_page::Counts;
+use ymx_page::{Counts, Event};
 use ymx_policy::{Fault, LocalOptions, Named, Notice, PeerAddress, Plan, Reason, RemoteOptions};
 
-/// Runs `ymx local`: forwards each connection that comes as a stream of a session with its peer. Says faults on `errors`.
-/// On `lines` it tells why they came, before each, and all that `is_verbose` asks for. Answers the exit status: 0 where no
-/// fault was said, else 1.
-pub fn run_local<R: Host + Threads + Sync, E: Outlet + Send, L: Outlet + Send>(
+/// Runs an end of a tunnel by this plan, and beside it its page, if it has one. `ymx local` forwards each connection that comes as
+/// a stream of a session with its peer; `ymx remote` connects each stream of its peers to the target. Says faults on `errors`. On
+/// `lines` it tells why they came, before each, and all that `-v` asks for. Answers the exit status: 0 where no fault was said,
+/// else 1.
+pub fn run_end<R: Host + Threads + Sync, D: Outlet + Send>(
     rt: &R,
     alloc: Global,
-    options: LocalOptions,
-    errors: &mut E,
-    lines: &mut L,
+    plan: Plan,
+    errors: &mut D,
+    lines: &mut D,
 ) -> u8 {
-    let sink = new_sink(alloc, options.is_verbose, errors, lines);
+    let (is_verbose, status) = match plan {
+        Plan::Local(options) => (options.is_verbose, options.status),
+        Plan::Remote(options) => (options.is_verbose, options.status),
+    };
+    let sink = new_sink(alloc, is_verbose, errors, lines);
     let context = context_of(rt, alloc, &sink);
-    run_end(context, Plan::Local(options), options.status)
-}
-
-/// Runs `ymx remote`: meets its peers, and connects each of their streams to the target. Says faults on `errors`. On
-/// `lines` it tells why they came, before each, and all that `is_verbose` asks for. Answers the exit status: 0 where no
-/// fault was said, else 1.
-pub fn run_remote<R: Host + Threads + Sync, E: Outlet + Send, L: Outlet + Send>(
-    rt: &R,
-    alloc: Global,
-    options: RemoteOptions,
-    errors: &mut E,
-    lines: &mut L,
-) -> u8 {
-    let sink = new_sink(alloc, options.is_verbose, errors, lines);
-    let context = context_of(rt, alloc, &sink);
-    run_end(context, Plan::Remote(options), options.status)
+    let terms = plan.terms();
+    let Ok(common) = Common::new(alloc, terms.users.count, terms.places as usize) else {
+        context.say(None, Fault::OutOfMemory);
+        return 1;
+    };
+    let end = End {
+        context,
+        plan,
+        common,
+        is_watched: status.is_some(),
+        has_failed: AtomicBool::new(false),
+    };
+    match status {
+        None => end.run(),
+        Some(address) => end.run_beside_page(address),
+    }
+    if end.has_failed.load(Ordering::SeqCst) {
+        1
+    } else {
+        0
+    }
 }
 
 /// Where all is told, with nothing counted yet.
-pub(crate) fn new_sink<'a, E: Outlet, L: Outlet>(
+pub(crate) fn new_sink<'a, D: Outlet>(
     alloc: Global,
     is_verbose: bool,
-    errors: &'a mut E,
-    lines: &'a mut L,
-) -> Mutex<Sink<Lent<'a, E>, Lent<'a, L>>> {
+    errors: &'a mut D,
+    lines: &'a mut D,
+) -> Mutex<Sink<Lent<'a, D>>> {
     Mutex::new(Sink {
         errors: Lent { outlet: errors },
         lines: Lent { outlet: lines },
@@ -67,11 +77,11 @@ pub(crate) fn new_sink<'a, E: Outlet, L: Outlet>(
 }
 
 /// What goes along, where all is told there.
-pub(crate) fn context_of<'a, R: Host, E: Outlet, L: Outlet>(
+pub(crate) fn context_of<'a, R: Host, D: Outlet>(
     rt: &'a R,
     alloc: Global,
-    sink: &'a Mutex<Sink<E, L>>,
-) -> Context<'a, R, E, L> {
+    sink: &'a Mutex<Sink<D>>,
+) -> Context<'a, R, D> {
     Context {
         rt,
         alloc,
@@ -80,82 +90,44 @@ pub(crate) fn context_of<'a, R: Host, E: Outlet, L: Outlet>(
     }
 }
 
-/// Runs the end of this plan, and beside it the page at this address, if there is one. The exit status.
-fn run_end<R: Host + Threads + Sync, E: Outlet + Send, L: Outlet + Send>(
-    context: Context<'_, R, E, L>,
-    plan: Plan,
-    status: Option<SocketAddrV4>,
-) -> u8 {
-    let Ok(common) = new_common(context.alloc, plan) else {
-        context.say(None, Fault::OutOfMemory);
-        return 1;
-    };
-    let end = End {
-        context,
-        plan,
-        common,
-        is_watched: status.is_some(),
-    };
-    let has_failed = match status {
-        None => end.run(),
-        Some(address) => end.run_beside_page(address),
-    };
-    if has_failed { 1 } else { 0 }
-}
-
-/// What the places of this plan share.
-fn new_common(alloc: Global, plan: Plan) -> Result<Arc<Common, Global>, AllocError> {
-    let terms = plan.terms();
-    let drain = Arc::new(alloc, Drain::new(alloc))?;
-    let common = Common::new(drain, terms.users.count, terms.places as usize);
-    Ok(Arc::new(alloc, common)?)
-}
-
 /// An end of a tunnel.
 #[derive(Drop)]
-struct End<'a, R, E, L> {
-    context: Context<'a, R, E, L>,
+struct End<'a, R, D> {
+    context: Context<'a, R, D>,
     plan: Plan,
     common: Arc<Common, Global>,
     /// It has a page, through which it can be asked to take no more connections.
     is_watched: bool,
+    /// A fault was said.
+    has_failed: AtomicBool,
 }
 
-impl<'a, R: Host + Threads + Sync, E: Outlet + Send, L: Outlet + Send> End<'a, R, E, L> {
-    /// Runs it, and beside it its page at this address. Whether a fault was said.
-    fn run_beside_page(&self, address: SocketAddrV4) -> bool {
+impl<'a, R: Host + Threads + Sync, D: Outlet + Send> End<'a, R, D> {
+    /// Runs it, and beside it its page at this address.
+    fn run_beside_page(&self, address: SocketAddrV4) {
         let context = self.context;
         let Context { rt, alloc, .. } = context;
         let ended = Drain::new(alloc);
         let mut page = match Page::new(rt, alloc, address, &ended) {
             Ok(page) => page,
-            Err(StartFault::Refused(reason)) => {
-                let refused = Notice::Refused(Named::Status(address), reason);
-                context.say(Some(refused), Fault::CannotListen(address));
-                return true;
-            }
-            Err(StartFault::OutOfMemory) => {
-                context.say(None, Fault::OutOfMemory);
-                return true;
+            Err(fault) => {
+                return self.fail_to_listen(Named::Status(address), address, fault);
             }
         };
-        let ((), has_failed) = join_mut(
+        join_mut(
             rt,
             &mut || page.run(context, &self.common.drain, &ended),
             &mut || {
-                let has_failed = self.run();
+                self.run();
                 ended.ask(rt);
-                has_failed
             },
         );
-        has_failed
     }
 
-    /// Runs its places. Whether a fault was said.
-    fn run(&self) -> bool {
-        let has_failed = AtomicBool::new(false);
+    /// Runs its places.
+    fn run(&self) {
         match self.plan {
-            Plan::Local(options) if options.links > 1 => self.run_links(options, &has_failed),
+            Plan::Local(options) if options.links > 1 => self.run_links(options),
             Plan::Remote(
                 RemoteOptions {
                     peer: PeerAddress::Listen(address),
@@ -164,34 +136,39 @@ impl<'a, R: Host + Threads + Sync, E: Outlet + Send, L: Outlet + Send> End<'a, R
                     ..
                 },
             ) if is_kept || peers.is_some() => match self.new_queue(is_kept) {
-                Ok((queue, senders)) => self.run_peers(&queue, senders, address, &has_failed),
-                Err(_) => self.fail(None, Fault::OutOfMemory, &has_failed),
+                Ok((give, queue)) => self.run_peers(give, &queue, address),
+                Err(_) => self.fail(None, Fault::OutOfMemory),
             },
-            _ => self.run_place(None, None, &has_failed),
+            _ => self.run_place(None, None),
         }
-        has_failed.load(Ordering::SeqCst)
     }
 
     /// Says this fault, and before it why, if that is known.
-    fn fail(&self, reason: Option<Notice>, fault: Fault, has_failed: &AtomicBool) {
+    fn fail(&self, reason: Option<Notice>, fault: Fault) {
         self.context.say(reason, fault);
-        has_failed.store(true, Ordering::SeqCst);
+        self.has_failed.store(true, Ordering::SeqCst);
     }
 
-    /// Runs a place, by the link of this number, or for one peer after another. Notes whether it has said a fault.
-    fn run_place(
-        &self,
-        link: Option<u32>,
-        queued: Option<QueuedPeers<'_>>,
-        has_failed: &AtomicBool,
-    ) {
+    /// Nobody can listen at this address, which that option names.
+    fn fail_to_listen(&self, named: Named, address: SocketAddrV4, fault: StartFault) {
+        match fault {
+            StartFault::Refused(reason) => {
+                let refused = Notice::Refused(named, reason);
+                self.fail(Some(refused), Fault::CannotListen(address));
+            }
+            StartFault::OutOfMemory => self.fail(None, Fault::OutOfMemory),
+        }
+    }
+
+    /// Runs a place, by the link of this number, or for one peer of this queue after another.
+    fn run_place(&self, link: Option<u32>, queue: Option<&PeerQueue>) {
         let mut context = self.context;
         context.link = link;
         let Ok(common) = Arc::try_clone(&self.common) else {
-            return self.fail(None, Fault::OutOfMemory, has_failed);
+            return self.fail(None, Fault::OutOfMemory);
         };
-        if Place::new(context, self.plan, common, self.is_watched, queued).run() {
-            has_failed.store(true, Ordering::SeqCst);
+        if run_place(context, self.plan, common, self.is_watched, queue) {
+            self.has_failed.store(true, Ordering::SeqCst);
         }
     }
 
@@ -199,118 +176,89 @@ impl<'a, R: Host + Threads + Sync, E: Outlet + Send, L: Outlet + Send> End<'a, R
 
     /// Runs a place for each link, the first in this thread. Where none is left though users were still to come, and no fault
     /// was said, that is one.
-    fn run_links(&self, options: LocalOptions, has_failed: &AtomicBool) {
+    fn run_links(&self, options: LocalOptions) {
         let (PeerAddress::Connect(peer) | PeerAddress::Listen(peer)) = options.peer;
         let fault = Fault::CannotReach(peer);
         thread::scope(thread::scope_env(), self.context.rt, move |scope| {
             for number in 2..=options.links {
-                let started = scope.spawn(move || self.run_place(Some(number), None, has_failed));
-                if started.is_err() {
-                    self.common.leave();
-                    self.fail(Some(no_thread(Named::Links)), fault, has_failed);
+                if scope
+                    .spawn(move || self.run_place(Some(number), None))
+                    .is_err()
+                {
+                    self.common.places.fetch_sub(1, Ordering::SeqCst);
+                    self.fail(Some(no_thread(Named::Links)), fault);
                 }
             }
-            self.run_place(Some(1), None, has_failed);
+            self.run_place(Some(1), None);
         });
         let is_short = options.count.is_some() && !self.common.is_over();
-        if is_short && !has_failed.load(Ordering::SeqCst) {
-            self.fail(None, fault, has_failed);
+        if is_short && !self.has_failed.load(Ordering::SeqCst) {
+            self.fail(None, fault);
         }
     }
 
     // ---- peers
 
-    /// Where peers wait for a place, and who hands them there.
-    fn new_queue(&self, is_kept: bool) -> Result<(PeerQueue, QueueSenders), AllocError> {
+    /// Who hands peers to places, and where they wait for one.
+    fn new_queue(&self, is_kept: bool) -> Result<(Sender<Peer, Global>, PeerQueue), AllocError> {
         let places = self.plan.terms().places as usize;
-        let alloc = self.context.alloc;
-        let (give, peers) = bounded::<Peer, Global>(alloc, places)?;
-        let (begin, begun) = bounded::<Opened, Global>(alloc, places)?;
+        let (give, peers) = bounded::<Peer, Global>(self.context.alloc, places)?;
         let queue = PeerQueue {
             peers,
-            begun,
             places,
             taken: AtomicUsize::new(0),
             is_kept,
             common: Arc::try_clone(&self.common)?,
         };
-        Ok((queue, QueueSenders { give, begin }))
+        Ok((give, queue))
     }
 
     /// Makes a thread for each place, and then lets peers in that call at this address.
-    fn run_peers(
-        &self,
-        queue: &PeerQueue,
-        senders: QueueSenders,
-        address: SocketAddrV4,
-        has_failed: &AtomicBool,
-    ) {
+    fn run_peers(&self, give: Sender<Peer, Global>, queue: &PeerQueue, address: SocketAddrV4) {
         thread::scope(thread::scope_env(), self.context.rt, move |scope| {
-            let senders = senders;
-            for number in 0..queue.places {
-                let started = scope.spawn(move || self.run_queued(queue, number == 0, has_failed));
-                if started.is_err() {
-                    let fault = Fault::CannotListen(address);
-                    return self.fail(Some(no_thread(Named::Peers)), fault, has_failed);
+            let give = give;
+            for _ in 0..queue.places {
+                if scope
+                    .spawn(move || self.run_place(None, Some(queue)))
+                    .is_err()
+                {
+                    return self.fail(Some(no_thread(Named::Peers)), Fault::CannotListen(address));
                 }
             }
-            self.let_in(queue, senders, address, has_failed);
+            self.let_in(queue, &give, address);
         });
     }
 
-    /// Runs a place for one peer after another, once it is known where they call.
-    fn run_queued(&self, queue: &PeerQueue, is_first: bool, has_failed: &AtomicBool) {
-        if let Ok(opened) = queue.begun.recv(self.context.rt) {
-            let queued = QueuedPeers {
-                queue,
-                opened,
-                is_first,
-            };
-            self.run_place(None, Some(queued), has_failed);
-        }
-    }
-
-    /// Listens at this address, tells the places, and hands peers to them until no more are to be let in.
-    fn let_in(
-        &self,
-        queue: &PeerQueue,
-        senders: QueueSenders,
-        address: SocketAddrV4,
-        has_failed: &AtomicBool,
-    ) {
-        let rt = self.context.rt;
-        let (opened, entry) = match self.open(address) {
-            Ok((at, poll, callers)) => (Ok(at), Some((poll, callers))),
-            Err(fault) => (Err(fault), None),
-        };
-        for _ in 0..queue.places {
-            let _ = senders.begin.send(rt, opened);
-        }
-        if let Some((mut poll, mut callers)) = entry {
-            if !self.receive(queue, &senders.give, &mut poll, &mut callers) {
-                callers.say_failure(self.context);
-                has_failed.store(true, Ordering::SeqCst);
+    /// Listens at this address, and hands peers to places until no more are to be let in.
+    fn let_in(&self, queue: &PeerQueue, give: &Sender<Peer, Global>, address: SocketAddrV4) {
+        match self.open(address) {
+            Ok((mut poll, mut callers)) => {
+                let listening = Notice::Listening(callers.at);
+                self.context.tell(Event::Notice(listening));
+                if !self.receive(queue, give, &mut poll, &mut callers) {
+                    callers.say_failure(self.context);
+                    self.has_failed.store(true, Ordering::SeqCst);
+                }
             }
+            Err(fault) => self.fail_to_listen(Named::Bind(address), address, fault),
         }
     }
 
-    /// Listens at this address, and says where.
-    fn open(
-        &self,
-        address: SocketAddrV4,
-    ) -> Result<(SocketAddrV4, Poll, PeerAcceptor), StartFault> {
+    /// Listens at this address.
+    fn open(&self, address: SocketAddrV4) -> Result<(Poll, PeerAcceptor), StartFault> {
         let Context { rt, alloc, .. } = self.context;
         let listener = listen(rt, SocketAddr::V4(address))?;
         let at = place_of(&listener, address);
-        let poll = Poll::new(rt, alloc)?;
+        let mut poll = Poll::new(rt, alloc)?;
+        poll.hear_signal(Arc::try_clone(&self.common.drain)?);
         let waker = Arc::new(alloc, Waker::new(&poll, LISTENER)?)?;
         let seat = self.common.drain.wakes(rt, waker);
         let _ = seat.ok_or(StartFault::OutOfMemory)?;
         let callers = PeerAcceptor::new(listener, at, self.plan.terms().from, true, &poll)?;
-        Ok((at, poll, callers))
+        Ok((poll, callers))
     }
 
-    /// QueueSenders each peer that comes to a place. Where none waits for one it is closed. Whether no more are to be let in, or nobody
+    /// Hands each peer that comes to a place. Where none waits for one it is closed. Whether no more are to be let in, or nobody
     /// can be any more.
     fn receive(
         &self,
@@ -329,11 +277,12 @@ impl<'a, R: Host + Threads + Sync, E: Outlet + Send, L: Outlet + Send> End<'a, R
                     let _ = give.send(context.rt, peer);
                 }
                 Caller::Peer(peer) => {
-                    callers.tell_closed(context, Notice::Crowded(peer.address()));
+                    callers.tell_closed(context, Notice::Crowded(peer.address));
                 }
                 Caller::Closed => {}
                 Caller::Nobody => {
-                    if callers.failure().is_some() || poll.wait(callers.limit()).is_err() {
+                    let acceptor = &callers.acceptor;
+                    if acceptor.failure().is_some() || poll.wait(acceptor.limit()).is_err() {
                         return false;
                     }
                 }
@@ -348,37 +297,16 @@ fn no_thread(named: Named) -> Notice {
     Notice::Refused(named, Reason::NoThread)
 }
 
-/// Where peers call, or why they can't.
-type Opened = Result<SocketAddrV4, StartFault>;
-
 /// Where peers wait for a place.
 #[derive(Drop)]
 pub(crate) struct PeerQueue {
     peers: Receiver<Peer, Global>,
-    begun: Receiver<Opened, Global>,
     /// How many places there are.
     places: usize,
     /// How many of them have a peer, or are handed one.
     taken: AtomicUsize,
     is_kept: bool,
     common: Arc<Common, Global>,
-}
-
-/// Who hands peers there.
-#[derive(Drop)]
-struct QueueSenders {
-    give: Sender<Peer, Global>,
-    begin: Sender<Opened, Global>,
-}
-
-/// What a place has that is handed its peers.
-#[derive(Clone, Copy)]
-pub(crate) struct QueuedPeers<'a> {
-    pub(crate) queue: &'a PeerQueue,
-    /// Where they call, or why they can't.
-    pub(crate) opened: Opened,
-    /// It says so.
-    pub(crate) is_first: bool,
 }
 
 impl PeerQueue {

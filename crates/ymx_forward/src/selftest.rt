@@ -9,13 +9,15 @@ ghost use Rattle.std.specs.Prelude.{◌≡◌, IfOk, IfSome, IsSome, OnOk};
 ghost use Rattle.std.specs.Io.KnownBytes.{Appends, Keeps};
 ghost use Rattle.ymx_forward.specs.Echoes.{echo_lines, line_of};
 
+use crate::Host;
 use crate::drain::Drain;
 use crate::echoing::{Echoed, line_of, size_of};
-use crate::host::Host;
 use crate::peer::Peer;
 use crate::places::{context_of, new_sink};
 use crate::session::{Side, run_session};
-use crate::system::{Poll, StartFault, accept, address_of, connect, echo, finish, listen, send};
+use crate::system::{
+    Poll, StartFault, TcpConnection, accept, address_of, connect, echo, finish, listen, send,
+};
 use crate::users::{Common, Users};
 use arrayvec::ArrayString;
 use crossbeam_channel::{Receiver, Sender, bounded};
@@ -43,23 +45,15 @@ pub struct AllEchoed {
     third: Echoed,
 }
 
-/// What the servers own: where two of them listen, and both ends of the connection that carries the session.
+/// What the servers own: where two of them listen, with the addresses, and both ends of the connection that carries the session.
 #[derive(Drop)]
 struct Owned {
     echo: TcpListener,
+    echo_at: SocketAddr,
     local: TcpListener,
+    local_at: SocketAddr,
     near: TcpStream,
     far: TcpStream,
-}
-
-/// What is to run beside the lines.
-#[derive(Drop)]
-struct Trial {
-    /// Where the echo server listens, and where the client connects to.
-    echo: SocketAddr,
-    local: SocketAddr,
-    /// What the servers own, and where the client leaves each echo, until it runs.
-    parts: Option<(Owned, Sender<Echoed, Global>)>,
 }
 
 /// Why the lines of the test stop.
@@ -85,15 +79,19 @@ pub fn run_selftest<R: Host + Threads + Sync, W: Outlet + Send, E: Outlet>(
     ensures good { IsSome result → Keeps (E.contents errors.old) (E.contents errors.new) }
     ensures done { IsSome result → Appends (W.contents writer.old) (W.contents writer.new) echo_lines }
 {
-    let Some((echo, local, owned)) = prepare(rt) else {
+    let Some(owned) = prepare(rt) else {
         say(errors, fault_text(Fault::CannotListen(any_port())).as_str());
         return None;
     };
-    match run_all(rt, alloc, (echo, local), owned, writer) {
+    match run_all(rt, alloc, owned, writer) {
         Ok(echoed) => Some(echoed),
         Err(stop) => {
             match stop {
-                Stop::Connection(number) => say_failed(number, errors),
+                Stop::Connection(number) => {
+                    let mut text = ArrayString::<64>::new();
+                    let _ = writeln!(text, "ymx: selftest failed: connection {number}");
+                    say(errors, text.as_str());
+                }
                 Stop::Writing => say(errors, "ymx: writing failed\n"),
                 Stop::Memory(_) => say(errors, fault_text(Fault::OutOfMemory).as_str()),
             }
@@ -107,19 +105,11 @@ fn say<E: Outlet>(errors: &mut E, text: &str) {
     let _ = push_all(errors, text.as_bytes());
 }
 
-/// Says that a connection failed.
-fn say_failed<E: Outlet>(number: u8, errors: &mut E) {
-    let mut text = ArrayString::<64>::new();
-    let _ = writeln!(text, "ymx: selftest failed: connection {number}");
-    say(errors, text.as_str());
-}
-
 /// Runs the three servers and the client, and prints a line for each connection as it ends. Where a thread can't be made the
 /// first connection has failed.
 fn run_all<R: Host + Threads + Sync, W: Outlet + Send>(
     rt: &R,
     alloc: Global,
-    places: (SocketAddr, SocketAddr),
     owned: Owned,
     writer: &mut W,
 ) -> Result<AllEchoed, Stop>
@@ -129,50 +119,50 @@ fn run_all<R: Host + Threads + Sync, W: Outlet + Send>(
         Ok(ends) => ends,
         Err(refused) => return Err(Stop::Memory(refused)),
     };
-    let (echo, local) = places;
-    let mut trial = Trial {
-        echo,
-        local,
-        parts: Some((owned, sender)),
-    };
+    let mut parts = Some((owned, sender));
     let (printed, ()) = join_mut(
         rt,
         &mut ||
             ensures { OnOk result (Appends (W.contents writer.entry.now) (W.contents writer.exit.now) echo_lines) }
         { print_all(rt, &receiver, writer) },
-        &mut || trial.run(rt, alloc),
+        &mut || {
+            if let Some((owned, sender)) = parts.take() {
+                run_servers(rt, alloc, owned, sender);
+            }
+        },
     );
     printed
 }
 
-impl Trial {
-    /// Runs the servers in threads and the client in this one, until all have ended.
-    fn run<R: Host + Threads + Sync>(&mut self, rt: &R, alloc: Global) {
-        let Some((owned, sender)) = self.parts.take() else {
-            return;
-        };
-        let (echo_place, local_place) = (self.echo, self.local);
-        let Owned {
-            echo,
-            local,
-            near,
-            far,
-        } = owned;
-        thread::scope(thread::scope_env(), rt, move |scope| {
-            let has_echo = scope.spawn(move || serve_echoes(echo)).is_ok();
-            let has_far = scope
-                .spawn(move || run_remote_end(rt, alloc, far, echo_place))
-                .is_ok();
-            let has_near = scope
-                .spawn(move || run_local_end(rt, alloc, near, local))
-                .is_ok();
-            if has_echo && has_far && has_near {
-                run_client(rt, alloc, local_place, sender);
-            }
-            release(rt, local_place);
-            release(rt, echo_place);
-        })
-    }
+/// Runs the servers in threads and the client in this one, until all have ended.
+fn run_servers<R: Host + Threads + Sync>(
+    rt: &R,
+    alloc: Global,
+    owned: Owned,
+    sender: Sender<Echoed, Global>,
+) {
+    let Owned {
+        echo,
+        echo_at,
+        local,
+        local_at,
+        near,
+        far,
+    } = owned;
+    thread::scope(thread::scope_env(), rt, move |scope| {
+        let has_echo = scope.spawn(move || serve_echoes(echo)).is_ok();
+        let has_far = scope
+            .spawn(move || run_remote_end(rt, alloc, far, echo_at))
+            .is_ok();
+        let has_near = scope
+            .spawn(move || run_local_end(rt, alloc, near, local))
+            .is_ok();
+        if has_echo && has_far && has_near {
+            run_client(rt, alloc, local_at, sender);
+        }
+        release(rt, local_at);
+        release(rt, echo_at);
+    })
 }
 
 /// A port of 127.0.0.1 that the system chooses.
@@ -182,21 +172,20 @@ fn any_port() -> SocketAddrV4 {
 
 /// Listens at two ports, that of the echo server and that of the client's end, and connects both ends of the session, so that
 /// neither has to wait for the other: the system makes that connection before it is accepted.
-fn prepare<R: Host>(rt: &R) -> Option<(SocketAddr, SocketAddr, Owned)> {
+fn prepare<R: Host>(rt: &R) -> Option<Owned> {
     let echo = listen(rt, SocketAddr::V4(any_port())).ok()?;
     let local = listen(rt, SocketAddr::V4(any_port())).ok()?;
     let meeting = listen(rt, SocketAddr::V4(any_port())).ok()?;
     let near = connect(rt, address_of(&meeting).ok()?).ok()?;
     let far = accept(&meeting).ok()?;
-    let echo_place = address_of(&echo).ok()?;
-    let local_place = address_of(&local).ok()?;
-    let owned = Owned {
+    Some(Owned {
+        echo_at: address_of(&echo).ok()?,
         echo,
+        local_at: address_of(&local).ok()?,
         local,
         near,
         far,
-    };
-    Some((echo_place, local_place, owned))
+    })
 }
 
 // ---- the lines
@@ -262,12 +251,14 @@ fn serve_echoes(listener: TcpListener) {
 
 /// The end of the tunnel at the echo server.
 fn run_remote_end<R: Host>(rt: &R, alloc: Global, connection: TcpStream, target: SocketAddr) {
-    let side = Side::Remote {
-        target,
-        limit: CONNECTIONS as usize,
-        drain: None,
-    };
-    if let Ok(poll) = Poll::new(rt, alloc) {
+    let drain = Arc::new(alloc, Drain::new(alloc));
+    if let (Ok(poll), Ok(drain)) = (Poll::new(rt, alloc), drain) {
+        let limit = CONNECTIONS as usize;
+        let side = Side::Remote {
+            target,
+            limit,
+            drain,
+        };
         run_one(rt, alloc, connection, poll, side);
     }
 }
@@ -291,25 +282,21 @@ fn new_users<R: Host>(
         count: Some(CONNECTIONS as u32),
         is_patient: false,
     };
-    let drain = Arc::new(alloc, Drain::new(alloc))?;
-    let common = Arc::new(alloc, Common::new(drain, wanted.count, 1))?;
+    let common = Common::new(alloc, wanted.count, 1)?;
     let users = Users::new(listener, wanted, common, &poll)?;
     Ok((poll, users))
 }
 
 /// Runs the only session of this side over this connection. Of what is told nothing is heard.
 fn run_one<R: Host>(rt: &R, alloc: Global, connection: TcpStream, poll: Poll, side: Side) {
-    let Ok(peer) = Peer::over(connection) else {
+    let Ok(connection) = TcpConnection::of(connection) else {
         return;
     };
-    let mut nobody = WriterOutlet {
+    let silent = || WriterOutlet {
         writer: io::sink(),
         failures: 0,
     };
-    let mut nowhere = WriterOutlet {
-        writer: io::sink(),
-        failures: 0,
-    };
+    let (mut nobody, mut nowhere) = (silent(), silent());
     let sink = new_sink(alloc, false, &mut nobody, &mut nowhere);
     // what it is asked to serve, the side says
     let session = Session {
@@ -322,7 +309,7 @@ fn run_one<R: Host>(rt: &R, alloc: Global, connection: TcpStream, poll: Poll, si
     };
     let (mut poll, mut side) = (poll, side);
     let context = context_of(rt, alloc, &sink);
-    let _ = run_session(context, &mut poll, &mut side, peer, session);
+    let _ = run_session(context, &mut poll, &mut side, Peer::of(connection), session);
 }
 
 // ---- the client

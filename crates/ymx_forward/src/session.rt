@@ -15,14 +15,13 @@ ghost use Rattle.ymx_forward.specs.declared.session.Outcome.TheVariants as Outco
 ghost use Rattle.ymx_law_session.specs.Limits.{IsWithin};
 ghost use Rattle.ymx_model.specs.session.Sessions.{is_running};
 
-use crate::closing::close;
-use crate::drain::{Drain, is_asked};
-use crate::host::Host;
-use crate::peer::Peer;
+use crate::Host;
+use crate::drain::Drain;
+use crate::peer::{Peer, close};
 use crate::silence::{Cause, Due, Silence, has_passed, is_sign, shorter, time_of};
 use crate::socket::Socket;
 use crate::stream::Stream;
-use crate::system::{Event as PollEvent, NoEvents, Poll, TcpConnection, begin_call};
+use crate::system::{NoEvents, Poll, SIGNALLED, TcpConnection, begin_call, said};
 use crate::users::Users;
 use crate::voice::Context;
 use std::alloc::Global;
@@ -76,16 +75,24 @@ pub(crate) enum Side {
     Remote {
         target: SocketAddr,
         limit: usize,
-        drain: Option<Arc<Drain, Global>>,
+        drain: Arc<Drain, Global>,
     },
 }
 
 impl Side {
+    /// Its role in the session.
+    fn role(&self) -> Role {
+        match self {
+            Side::Local(_) => Role::Client,
+            Side::Remote { .. } => Role::Server,
+        }
+    }
+
     /// Whether no more connections are to come, as that was asked for.
     fn is_drained(&self) -> bool {
         match self {
             Side::Local(_) => false,
-            Side::Remote { drain, .. } => is_asked(drain),
+            Side::Remote { drain, .. } => drain.is_asked(),
         }
     }
 }
@@ -122,23 +129,19 @@ enum Outcome {
 /// connection that is accepted after the session was lost or, where another session follows, as soon as it is lost. A
 /// server ends with the session. Both end only once all connections have. Where another session follows, connections
 /// that have taken nothing for ten seconds since the loss are closed.
-pub(crate) fn run_session<R: Host, E: Outlet, L: Outlet>(
-    context: Context<'_, R, E, L>,
+pub(crate) fn run_session<R: Host, D: Outlet>(
+    context: Context<'_, R, D>,
     poll: &mut Poll,
     side: &mut Side,
     peer: Peer,
     session: Asked,
 ) -> SessionEnd {
     let began = time_of(context.rt);
-    let address = peer.address();
+    let address = peer.address;
     context.tell(Event::SessionBegan);
     let mut how = match peer.into_wire(&session, poll, WIRE) {
         Ok(wire) => run_over(context, poll, side, wire, (session, address)),
-        Err(_) => {
-            let mut how = SessionEnd::clean();
-            how.is_unwatched = true;
-            how
-        }
+        Err(_) => unwatched(),
     };
     context.tell(Event::SessionEnded);
     how.peer = address;
@@ -146,25 +149,30 @@ pub(crate) fn run_session<R: Host, E: Outlet, L: Outlet>(
     how
 }
 
+/// How a session ends whose events the system refuses to tell.
+fn unwatched() -> SessionEnd {
+    let mut how = SessionEnd::clean();
+    how.is_unwatched = true;
+    how
+}
+
 /// Runs such a session over this wire, with the peer at this address, if it is known, and closes the wire.
-fn run_over<R: Host, E: Outlet, L: Outlet>(
-    context: Context<'_, R, E, L>,
+fn run_over<R: Host, D: Outlet>(
+    context: Context<'_, R, D>,
     poll: &mut Poll,
     side: &mut Side,
     wire: Socket,
     asked: (Asked, Option<SocketAddrV4>),
 ) -> SessionEnd {
     let (session, peer) = asked;
-    let tunnel = match new_tunnel(context.alloc, wire, role_of(side), session.window) {
+    let tunnel = match new_tunnel(context.alloc, wire, side.role(), session.window) {
         Ok(tunnel) => tunnel,
-        Err(fault) => {
+        Err(NewFault::OutOfMemory(_)) => {
             let mut how = SessionEnd::clean();
-            match fault {
-                NewFault::OutOfMemory(_) => how.lacked_memory = true,
-                _ => how.is_unwatched = true,
-            }
+            how.lacked_memory = true;
             return how;
         }
+        Err(_) => return unwatched(),
     };
     let mut session_loop = SessionLoop {
         context,
@@ -179,21 +187,22 @@ fn run_over<R: Host, E: Outlet, L: Outlet>(
         is_heard: !session.is_sounded,
         is_leaving: false,
         still_since: None,
-        silence: None,
+        silence: Silence::new(time_of(context.rt), session.ping),
         pending: None,
     };
     let outcome = session_loop.run(poll);
     let how = session_loop.ended(outcome);
     let limit = session_loop.close_limit();
-    let mut wire = session_loop.into_wire();
+    let SessionLoop { tunnel, .. } = session_loop;
+    let mut wire = tunnel.into_wire();
     close(context.rt, poll, &mut wire, how.broken.is_some(), limit);
     how
 }
 
 /// One session of a tunnel's end.
 #[derive(Drop)]
-struct SessionLoop<'a, R, E, L> {
-    context: Context<'a, R, E, L>,
+struct SessionLoop<'a, R, D> {
+    context: Context<'a, R, D>,
     tunnel: Tunnel<Socket, Socket>,
     side: &'a mut Side,
     session: Asked,
@@ -217,7 +226,7 @@ struct SessionLoop<'a, R, E, L> {
     pending: Option<u32>,
 }
 
-impl<R: Host, E: Outlet, L: Outlet> SessionLoop<'_, R, E, L> {
+impl<R: Host, D: Outlet> SessionLoop<'_, R, D> {
     /// Runs until this side and all its connections have ended, and the wire has taken all that is due or has failed. Where
     /// another session follows, it is also left once the session is lost and nothing has moved for too long.
     fn run(&mut self, poll: &mut Poll) -> Outcome
@@ -254,11 +263,6 @@ impl<R: Host, E: Outlet, L: Outlet> SessionLoop<'_, R, E, L> {
     fn begin(&mut self)
         ensures { Runs self.old.tunnel self.new.tunnel }
     {
-        let patience = match self.session.ping {
-            Some(seconds) => Some(Duration::from_secs(seconds as u64)),
-            None => None,
-        };
-        self.silence = Silence::new(time_of(self.context.rt), patience);
         if self.session.is_sounded {
             self.ask();
         }
@@ -269,47 +273,25 @@ impl<R: Host, E: Outlet, L: Outlet> SessionLoop<'_, R, E, L> {
     fn hear_silence(&mut self) -> Option<Duration>
         ensures { Runs self.old.tunnel self.new.tunnel }
     {
+        if self.is_lost() {
+            return None;
+        }
         let now = time_of(self.context.rt);
-        match self.due(now)? {
+        let mut silence = self.silence?;
+        silence.note_sent(now, self.tunnel.wire().pushed);
+        silence.hear(now, self.tunnel.wire().pulled, self.tunnel.unframed());
+        let due = silence.due(now);
+        self.silence = Some(silence);
+        match due {
             Due::In(left) => Some(left),
             Due::Ping => {
                 self.ask();
-                Some(self.note_asked(now))
+                Some(silence.patience)
             }
             Due::Loss(silent) => {
                 self.give_up_wire(Cause::Silent(silent));
                 Some(Duration::ZERO)
             }
-        }
-    }
-
-    /// What is due now of a peer that may be silent. None where nobody listens for silence, or the session is over.
-    fn due(&mut self, now: Option<Duration>) -> Option<Due>
-        ensures { self.new.tunnel ≡ self.old.tunnel }
-    {
-        if self.is_lost() {
-            return None;
-        }
-        let pulled = self.tunnel.wire().pulled();
-        let unframed = self.tunnel.unframed();
-        self.is_heard |= is_sign(0, pulled, unframed);
-        let mut silence = self.silence?;
-        silence.note_sent(now, self.tunnel.wire().pushed());
-        silence.hear(now, pulled, unframed);
-        self.silence = Some(silence);
-        Some(silence.due(now))
-    }
-
-    /// The peer was asked for a sign. How long it may be silent now.
-    fn note_asked(&mut self, now: Option<Duration>) -> Duration
-        ensures { self.new.tunnel ≡ self.old.tunnel }
-    {
-        match &mut self.silence {
-            Some(silence) => {
-                silence.note_asked(now);
-                silence.patience
-            }
-            None => Duration::ZERO,
         }
     }
 
@@ -361,36 +343,22 @@ impl<R: Host, E: Outlet, L: Outlet> SessionLoop<'_, R, E, L> {
             self.still_since = None;
             return poll.look();
         }
-        self.begin_stillness();
-        poll.wait(shorter(self.timeout(), limit))?;
-        self.note_waited(poll.events().next().is_none());
-        Ok(())
-    }
-
-    /// Nothing moves from now on, if something did before.
-    fn begin_stillness(&mut self)
-        ensures { self.new.tunnel ≡ self.old.tunnel }
-    {
         if self.still_since.is_none() {
             self.still_since = time_of(self.context.rt);
         }
-    }
-
-    /// It has waited, in vain or not.
-    fn note_waited(&mut self, is_vain: bool)
-        ensures { self.new.tunnel ≡ self.old.tunnel }
-    {
-        if !is_vain {
+        poll.wait(shorter(self.timeout(), limit))?;
+        if poll.events().next().is_some() {
             self.still_since = None;
         } else if let Side::Local(users) = &mut *self.side {
             users.note_waited();
         }
+        Ok(())
     }
 
     /// How long it waits for events. None if for as long as none comes.
     fn timeout(&self) -> Option<Duration> {
         match &*self.side {
-            _ if self.is_to_be_followed() => Some(Duration::from_secs(GLANCE)),
+            _ if self.session.is_followed && self.is_lost() => Some(Duration::from_secs(GLANCE)),
             Side::Local(users) => users.limit(),
             Side::Remote { .. } => None,
         }
@@ -424,26 +392,23 @@ impl<R: Host, E: Outlet, L: Outlet> SessionLoop<'_, R, E, L> {
         // Where it has none, nothing can be moved without an event.
         ensures { Serving self.now.tunnel → result ≡ false → NeedsEvents self.now.tunnel }
     {
-        self.has_user() || self.has_offer() || self.tunnel.has_work()
+        let has_offer = self.free_target().is_some() && self.tunnel.offered_count() > 0;
+        has_offer || self.has_user() || self.tunnel.has_work()
     }
 
     /// Whether a user may wait who is to be accepted now: those that come for the next session are left to it, and others
     /// to when there is a place, and the peer has given a sign of life.
     fn has_user(&self) -> bool {
-        let may_accept = match &*self.side {
-            Side::Local(users) => users.may_accept(self.tunnel.len()),
-            Side::Remote { .. } => false,
+        let Side::Local(users) = &*self.side else {
+            return false;
         };
         let can_open_later = !self.is_lost()
             && !self.tunnel.is_peer_away()
             && self.tunnel.next_id() < FIRST_EXHAUSTED;
         let has_place = self.tunnel.len() < MOST_RECORDS && self.tunnel.opens_left() > 0;
-        may_accept && !self.leaves_users() && (!can_open_later || has_place && self.is_heard)
-    }
-
-    /// Whether a stream waits that is to be accepted now.
-    fn has_offer(&self) -> bool {
-        self.free_target().is_some() && self.tunnel.offered_count() > 0
+        users.may_accept(self.tunnel.len())
+            && !self.leaves_users()
+            && (!can_open_later || has_place && self.is_heard)
     }
 
     /// Where a stream goes to that is accepted now. None where it has to wait, or none is accepted at all.
@@ -459,7 +424,7 @@ impl<R: Host, E: Outlet, L: Outlet> SessionLoop<'_, R, E, L> {
         ensures { result ≡ true → IsOver self.now.tunnel }
     {
         let is_side_over = match &*self.side {
-            Side::Local(users) => users.is_over() || self.leaves_users(),
+            Side::Local(users) => users.acceptor.is_over() || self.leaves_users(),
             Side::Remote { .. } => {
                 (self.is_lost() || self.is_leaving) && self.tunnel.offered_count() == 0
             }
@@ -477,18 +442,12 @@ impl<R: Host, E: Outlet, L: Outlet> SessionLoop<'_, R, E, L> {
         }
     }
 
-    /// Whether the session is over, and another one follows.
-    fn is_to_be_followed(&self) -> bool
-        ensures { result ≡ true → is_running self.now.tunnel.engine.session.status ≡ false }
-    {
-        self.session.is_followed && self.is_lost()
-    }
-
     /// Whether the session was lost, another one follows, and nothing has moved for too long.
     fn is_to_be_left(&self) -> bool
         ensures { result ≡ true → is_running self.now.tunnel.engine.session.status ≡ false }
     {
-        self.is_to_be_followed()
+        self.session.is_followed
+            && self.is_lost()
             && has_passed(
                 self.still_since,
                 time_of(self.context.rt),
@@ -508,24 +467,19 @@ impl<R: Host, E: Outlet, L: Outlet> SessionLoop<'_, R, E, L> {
         ensures { Runs self.old.tunnel self.new.tunnel }
     {
         'event: for event in poll.events() {
-            self.note(PollEvent::of(event));
+            let (token, ready) = said(event);
+            self.note(token, ready);
         }
     }
 
-    /// Notes what an event says. A socket that fails may be used at once, so that it says so.
-    fn note(&mut self, event: PollEvent)
+    /// Notes what an event under this token says.
+    fn note(&mut self, token: usize, ready: Readiness)
         ensures { Runs self.old.tunnel self.new.tunnel }
     {
-        let is_closing = event.is_read_closed || event.is_error;
-        let ready = Readiness {
-            can_pull: event.is_readable || is_closing,
-            can_push: event.is_writable || is_closing,
-            is_closing,
-        };
-        match event.token {
+        match token {
             WIRE if self.tunnel.wire().has_failed() => {}
             WIRE => self.tunnel.note_wire(ready),
-            LISTENER => {
+            LISTENER | SIGNALLED => {
                 if let Side::Local(users) = &mut *self.side {
                     users.note_event();
                 }
@@ -545,67 +499,42 @@ impl<R: Host, E: Outlet, L: Outlet> SessionLoop<'_, R, E, L> {
         ensures { Runs self.old.tunnel self.new.tunnel }
     {
         'accept: for _ in 0..ACCEPTS {
-            let Some(socket) = self.next_user() else {
+            if !self.has_user() {
+                return;
+            }
+            let open = self.tunnel.len();
+            let Side::Local(users) = &mut *self.side else {
+                return;
+            };
+            let Some(socket) = users.accept(open) else {
                 return;
             };
             self.begin_user(socket, poll);
         }
     }
 
-    /// A user who came, if one may be accepted.
-    fn next_user(&mut self) -> Option<TcpConnection>
-        ensures { self.new.tunnel ≡ self.old.tunnel }
-    {
-        if !self.has_user() {
-            return None;
-        }
-        let open = self.tunnel.len();
-        match &mut *self.side {
-            Side::Local(users) => users.accept(open),
-            Side::Remote { .. } => None,
-        }
-    }
-
-    /// Tells why the system has refused to accept a user, if it has and that wasn't told, and notes how many are open.
+    /// Notes how many users are open.
     fn note_users(&mut self)
         ensures { self.new.tunnel ≡ self.old.tunnel }
     {
-        let context = self.context;
         let open = self.tunnel.len();
         if let Side::Local(users) = &mut *self.side {
-            users.note_open(open);
-            if let Some((named, reason)) = users.take_refusal() {
-                context.tell(Event::Refused(named, reason));
-            }
+            users.note_open(self.context, open);
         }
     }
 
-    /// Opens a stream for a user. Once the session is lost the user is closed, and it is the last one unless others are
-    /// counted on.
+    /// Opens a stream for a user.
     fn begin_user(&mut self, socket: TcpConnection, poll: &Poll)
         ensures { Runs self.old.tunnel self.new.tunnel }
     {
         let context = self.context;
         let origin = context.begin(socket.peer());
-        self.stop_if_lost();
         self.prepare(&socket);
         let opened = self
             .tunnel
             .open(Socket::connected(socket, origin), &mut Tokens { poll });
         if let Err(why) = opened {
             self.decline(origin, why);
-        }
-    }
-
-    /// Once the session is lost no more users are accepted, if as many are as come.
-    fn stop_if_lost(&mut self)
-        ensures { self.new.tunnel ≡ self.old.tunnel }
-    {
-        let is_lost = self.is_lost();
-        if let Side::Local(users) = &mut *self.side {
-            if is_lost && users.is_endless() {
-                users.stop();
-            }
         }
     }
 
@@ -618,7 +547,7 @@ impl<R: Host, E: Outlet, L: Outlet> SessionLoop<'_, R, E, L> {
         }
     }
 
-    /// Says why a user got no stream.
+    /// Says why a user got no stream. Once the session is lost it is the last one, unless others are counted on.
     fn decline(&mut self, origin: Origin, why: NotJoined)
         ensures { self.new.tunnel ≡ self.old.tunnel }
     {
@@ -634,20 +563,22 @@ impl<R: Host, E: Outlet, L: Outlet> SessionLoop<'_, R, E, L> {
             Declined::BySession(CallFault::OutOfMemory(_)) | Declined::OutOfMemory => {
                 self.how.lacked_memory = true;
             }
-            Declined::Unwatched => self.fail_unwatched(),
+            Declined::Unwatched => {
+                // he counts as one that could not be accepted
+                self.how.accept_failed = true;
+                if let Side::Local(users) = &mut *self.side {
+                    users.acceptor.fail_unwatched();
+                }
+            }
             Declined::BySession(_) => {}
         }
-        context.tell(Event::Declined(origin, declined));
-    }
-
-    /// The system refuses to watch a user who came: he counts as one that could not be accepted.
-    fn fail_unwatched(&mut self)
-        ensures { self.new.tunnel ≡ self.old.tunnel }
-    {
-        self.how.accept_failed = true;
+        let is_lost = self.is_lost();
         if let Side::Local(users) = &mut *self.side {
-            users.fail_unwatched();
+            if is_lost && users.is_endless() {
+                users.acceptor.stop();
+            }
         }
+        context.tell(Event::Declined(origin, declined));
     }
 
     // ---- streams that come
@@ -679,23 +610,17 @@ impl<R: Host, E: Outlet, L: Outlet> SessionLoop<'_, R, E, L> {
         ensures { Runs self.old.tunnel self.new.tunnel }
     {
         let context = self.context;
-        let from = self.tunnel.wire().connection().peer();
-        let origin = context.begin(from);
-        match begin_call(context.rt, target) {
-            Ok(socket) => self.join_first(socket, origin, poll),
+        let origin = context.begin(self.tunnel.wire().socket.peer());
+        let socket = match begin_call(context.rt, target) {
+            Ok(socket) => socket,
             Err(error) => {
                 if self.tunnel.reject() {
                     let why = Some(Reason::of(&error));
                     self.tell_ended(origin, Ending::ConnectionFailed, why);
                 }
+                return;
             }
-        }
-    }
-
-    /// Joins this connection to the stream that came first, or says why that can't be.
-    fn join_first(&mut self, socket: TcpConnection, origin: Origin, poll: &Poll)
-        ensures { Runs self.old.tunnel self.new.tunnel }
-    {
+        };
         self.prepare(&socket);
         let joined = self
             .tunnel
@@ -766,7 +691,7 @@ impl<R: Host, E: Outlet, L: Outlet> SessionLoop<'_, R, E, L> {
         if let (Some(socket), Some(ways)) = (self.tunnel.forget(id), ways) {
             let ended = socket.ended(ways, is_lost);
             self.how.lacked_memory |= ended.lacked_memory();
-            if let Some(origin) = socket.origin() {
+            if let Some(origin) = socket.origin {
                 context.tell(Event::Ended(origin, ended));
             }
         }
@@ -798,32 +723,24 @@ impl<R: Host, E: Outlet, L: Outlet> SessionLoop<'_, R, E, L> {
     // ---- what is told
 
     /// Tells, once each, that the peer has come, where others follow its session, and that the session was lost, where none
-    /// does. One who has broken a rule gives no sign of life.
+    /// does: then users are left to other places, if there are some. One who has broken a rule gives no sign of life.
     fn tell_peer(&mut self)
         ensures { self.new.tunnel ≡ self.old.tunnel }
     {
-        let is_kept = self.session.is_followed;
         let is_broken = matches!(self.tunnel.status(), Status::Broken(_));
-        let pulled = self.tunnel.wire().pulled();
+        let pulled = self.tunnel.wire().pulled;
         let has_spoken = !is_broken && is_sign(0, pulled, self.tunnel.unframed());
-        if is_kept && has_spoken && !self.how.is_coming_told {
+        self.is_heard |= has_spoken;
+        let is_followed = self.session.is_followed;
+        if is_followed && has_spoken && !self.how.is_coming_told {
             self.how.is_coming_told = true;
             self.context
                 .tell(Event::Notice(Notice::PeerCame(self.peer)));
         }
-        if self.is_lost() && !self.is_loss_told {
-            self.is_loss_told = true;
-            self.note_loss();
-        }
-    }
-
-    /// The session was lost. Where none follows that is told, and users are left to other places, if there are some.
-    fn note_loss(&mut self)
-        ensures { self.new.tunnel ≡ self.old.tunnel }
-    {
-        if self.session.is_followed {
+        if is_followed || !self.is_lost() || self.is_loss_told {
             return;
         }
+        self.is_loss_told = true;
         if let Side::Local(users) = &mut *self.side {
             users.note_loss();
         }
@@ -849,8 +766,9 @@ impl<R: Host, E: Outlet, L: Outlet> SessionLoop<'_, R, E, L> {
     fn ended(&self, outcome: Outcome) -> SessionEnd {
         let mut how = self.how;
         if let Side::Local(users) = &*self.side {
-            how.accept_failed |= !self.session.is_followed && users.has_failed();
-            how.accept_reason = users.failure();
+            let failure = users.acceptor.failure();
+            how.accept_failed |= !self.session.is_followed && failure.is_some();
+            how.accept_reason = failure.unwrap_or(None);
         }
         if let Status::Broken(fault) = self.tunnel.status() {
             how.broken = Some(fault.number());
@@ -869,20 +787,6 @@ impl<R: Host, E: Outlet, L: Outlet> SessionLoop<'_, R, E, L> {
             None if !self.session.is_followed && !self.side.is_drained() => None,
             _ => Some(Duration::from_secs(PATIENCE)),
         }
-    }
-
-    /// Closes the connections that are left, and gives the wire back.
-    fn into_wire(self) -> Socket {
-        let SessionLoop { tunnel, .. } = self;
-        tunnel.into_wire()
-    }
-}
-
-/// The role of a side in the session.
-fn role_of(side: &Side) -> Role {
-    match side {
-        Side::Local(_) => Role::Client,
-        Side::Remote { .. } => Role::Server,
     }
 }
 

@@ -58,10 +58,11 @@ pub(crate) struct Silence {
 }
 
 impl Silence {
-    /// It gives a sign at this time. None where nobody listens for silence, or the time is unknown.
-    pub(crate) fn new(now: Option<Duration>, patience: Option<Duration>) -> Option<Silence> {
+    /// It gives a sign at this time, and may be silent for so many seconds. None where nobody listens for silence, or the time
+    /// is unknown.
+    pub(crate) fn new(now: Option<Duration>, seconds: Option<u32>) -> Option<Silence> {
         Some(Silence {
-            patience: patience?,
+            patience: Duration::from_secs(seconds? as u64),
             since: now?,
             was_asked: false,
             heard: 0,
@@ -88,23 +89,19 @@ impl Silence {
         self.sent = sent;
     }
 
-    /// It was asked for a sign, and has as long again.
-    pub(crate) fn note_asked(&mut self, now: Option<Duration>) {
-        self.was_asked = true;
-        self.sent_with_ping = self.sent.saturating_add(AHEAD);
-        self.since = now.unwrap_or(self.since);
-    }
-
-    /// What is due now. Where the time is unknown, nothing is.
-    pub(crate) fn due(&self, now: Option<Duration>) -> Due {
-        match now {
-            Some(now) => due_after(
-                self.patience,
-                now.saturating_sub(self.since),
-                self.was_asked,
-            ),
-            None => Due::In(self.patience),
+    /// What is due now. Where the time is unknown, nothing is. Who is to be asked for a sign has as long again.
+    pub(crate) fn due(&mut self, now: Option<Duration>) -> Due {
+        let Some(now) = now else {
+            return Due::In(self.patience);
+        };
+        let passed = now.saturating_sub(self.since);
+        let due = due_after(self.patience, passed, self.was_asked);
+        if matches!(due, Due::Ping) {
+            self.was_asked = true;
+            self.sent_with_ping = self.sent.saturating_add(AHEAD);
+            self.since = now;
         }
+        due
     }
 }
 

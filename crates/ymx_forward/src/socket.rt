@@ -82,17 +82,17 @@ impl Marks {
 #[derive(Drop)]
 pub(crate) struct Socket<S: Stream = TcpConnection> {
     /// Which connection it is. None of one that carries a session, and not a stream.
-    origin: Option<Origin>,
-    socket: S,
+    pub(crate) origin: Option<Origin>,
+    pub(crate) socket: S,
     state: ConnectState,
     /// What was first the matter with a call of it.
     failure: Option<SocketFault>,
     /// Why, where the system says so.
     reason: Option<Reason>,
     /// How many bytes it gave. It stays at the greatest `u64`.
-    pulled: u64,
+    pub(crate) pulled: u64,
     /// How many it took. It stays at the greatest `u64`.
-    pushed: u64,
+    pub(crate) pushed: u64,
     /// It has said that no more bytes come from it.
     has_ended: bool,
     /// Its writing side was shut, as the stream's end was read.
@@ -149,31 +149,11 @@ impl<S: Stream + Drop> Socket<S> {
         }
     }
 
-    /// Which connection it is. None of one that carries a session.
-    pub(crate) fn origin(&self) -> Option<Origin> {
-        self.origin
-    }
-
-    /// Its connection.
-    pub(crate) fn connection(&self) -> &S {
-        &self.socket
-    }
-
     /// From now on this poll tells of it under this token. False where the system refuses.
     pub(crate) fn register(&mut self, poll: &Poll, token: usize) -> bool
         ensures { ⟦<Socket<S> as Device>⟧.seen self.new ≡ ⟦<Socket<S> as Device>⟧.seen self.old }
     {
         self.socket.register(poll, token).is_ok()
-    }
-
-    /// How many bytes it has given. It stays at the greatest `u64`.
-    pub(crate) fn pulled(&self) -> u64 {
-        self.pulled
-    }
-
-    /// How many bytes it has taken. It stays at the greatest `u64`.
-    pub(crate) fn pushed(&self) -> u64 {
-        self.pushed
     }
 
     /// Whether no more bytes come from it, as it said so or failed.
@@ -245,35 +225,17 @@ impl<S: Stream + Drop> Socket<S> {
         }
     }
 
-    /// What comes of a read while its connection isn't there. None where it is.
-    fn pull_early(&mut self) -> Option<Pulled>
-        ensures none { IfSome result (λ pulled. (pulled_count pulled ≡ 0) × (gives pulled ≡ false) × (is_end pulled ≡ false)) }
-        ensures failed { IfSome result (λ pulled. is_some self.new.failure ≡ (is_some self.old.failure || is_pull_failure pulled)) }
+    /// Whether a call of it fails while its connection isn't there. None where it is.
+    fn early(&mut self) -> Option<bool>
+        ensures failed { IfSome result (λ fails. is_some self.new.failure ≡ (is_some self.old.failure || fails)) }
         ensures there { IfNone result (self.new ≡ self.old) }
         ensures rest { self.new ≡ record self.old { failure = self.new.failure; reason = self.new.reason } }
     {
         match self.state {
-            ConnectState::Connecting => Some(Pulled::NotNow),
+            ConnectState::Connecting => Some(false),
             ConnectState::Unreachable => {
                 self.fail(SocketFault::Push, None);
-                Some(Pulled::Failed)
-            }
-            ConnectState::Connected => None,
-        }
-    }
-
-    /// What comes of a write while its connection isn't there. None where it is.
-    fn push_early(&mut self) -> Option<Pushed>
-        ensures none { IfSome result (λ pushed. (pushed_count pushed ≡ 0) × (takes pushed ≡ false)) }
-        ensures failed { IfSome result (λ pushed. is_some self.new.failure ≡ (is_some self.old.failure || is_push_failure pushed)) }
-        ensures there { IfNone result (self.new ≡ self.old) }
-        ensures rest { self.new ≡ record self.old { failure = self.new.failure; reason = self.new.reason } }
-    {
-        match self.state {
-            ConnectState::Connecting => Some(Pushed::NotNow),
-            ConnectState::Unreachable => {
-                self.fail(SocketFault::Push, None);
-                Some(Pushed::Failed)
+                Some(true)
             }
             ConnectState::Connected => None,
         }
@@ -369,8 +331,9 @@ impl<S: Stream + Drop> Device for Socket<S> {
         ensures { IsPulled result buffer.new (⟦<Socket<S> as Device>⟧.seen self.old) (⟦<Socket<S> as Device>⟧.seen self.new) }
     {
         self.count_call();
-        let pulled = match self.pull_early() {
-            Some(pulled) => pulled,
+        let pulled = match self.early() {
+            Some(true) => Pulled::Failed,
+            Some(false) => Pulled::NotNow,
             None if buffer.is_empty() => Pulled::NotNow,
             None => {
                 let read = self.socket.read(buffer);
@@ -386,8 +349,9 @@ impl<S: Stream + Drop> Device for Socket<S> {
         ensures { IsPushed result bytes.now (⟦<Socket<S> as Device>⟧.seen self.old) (⟦<Socket<S> as Device>⟧.seen self.new) }
     {
         self.count_call();
-        let pushed = match self.push_early() {
-            Some(pushed) => pushed,
+        let pushed = match self.early() {
+            Some(true) => Pushed::Failed,
+            Some(false) => Pushed::NotNow,
             None => {
                 let written = self.socket.write(bytes);
                 self.hear_written(written, bytes.is_empty())
@@ -403,8 +367,9 @@ impl<S: Stream + Drop> Device for Socket<S> {
         ensures { IsPushed result (io_slices_bytes pieces.now) (⟦<Socket<S> as Device>⟧.seen self.old) (⟦<Socket<S> as Device>⟧.seen self.new) }
     {
         self.count_call();
-        let pushed = match self.push_early() {
-            Some(pushed) => pushed,
+        let pushed = match self.early() {
+            Some(true) => Pushed::Failed,
+            Some(false) => Pushed::NotNow,
             None => {
                 let written = self.socket.write_pieces(pieces);
                 self.hear_written(written, fit(pieces, 0))

@@ -1,10 +1,10 @@
 //! The page of an end, served to who asks at an address of its own, beside the end and in a thread of its own. The first
 //! line of a request is read, up to 8,192 bytes, and within two seconds. One that is stuck holds up no other.
 
+use crate::Host;
 use crate::drain::Drain;
-use crate::host::Host;
 use crate::stream::Stream;
-use crate::system::{Listener, NoEvents, Poll, StartFault, TcpConnection, Waker, listen};
+use crate::system::{Listener, Poll, StartFault, TcpConnection, Waker, listen};
 use crate::voice::Context;
 use std::alloc::Global;
 use std::collections::VecDeque;
@@ -16,13 +16,13 @@ use ymx_model::Outlet;
 use ymx_page::{Answer, RequestLine, answer_to};
 
 /// The token of the listener.
-const CALLERS: usize = 0;
+const CALLERS: usize = 1;
 
 /// The token of the end, which tells that it has ended.
-const ENDED: usize = 1;
+const ENDED: usize = 2;
 
 /// The token of all who ask.
-const ASKING: usize = 2;
+const ASKING: usize = 3;
 
 /// How many are answered at once at most. Where one more comes, the oldest is closed.
 const AT_ONCE: usize = 16;
@@ -69,9 +69,9 @@ impl Page {
     }
 
     /// Answers until the end has ended, and those who are there then.
-    pub(crate) fn run<R: Host, E: Outlet, L: Outlet>(
+    pub(crate) fn run<R: Host, D: Outlet>(
         &mut self,
-        context: Context<'_, R, E, L>,
+        context: Context<'_, R, D>,
         drain: &Drain,
         ended: &Drain,
     ) {
@@ -80,7 +80,9 @@ impl Page {
             if is_over && self.callers.is_empty() {
                 return;
             }
-            match self.wait() {
+            // where somebody is there it waits not for long
+            let limit = (!self.callers.is_empty()).then_some(Duration::from_secs(GLANCE));
+            match self.poll.wait(limit) {
                 Err(e) if e.kind != ErrorKind::Interrupted => return,
                 _ => {}
             }
@@ -90,13 +92,6 @@ impl Page {
             self.serve_all(context, drain);
         }
         unreachable!()
-    }
-
-    /// Waits until something can be done, and where somebody is there not for long.
-    fn wait(&mut self) -> Result<(), NoEvents> {
-        let has_callers = !self.callers.is_empty();
-        self.poll
-            .wait(has_callers.then_some(Duration::from_secs(GLANCE)))
     }
 
     /// Lets those in who have come.
@@ -133,11 +128,7 @@ impl Page {
     }
 
     /// Goes on with each who is there.
-    fn serve_all<R: Host, E: Outlet, L: Outlet>(
-        &mut self,
-        context: Context<'_, R, E, L>,
-        drain: &Drain,
-    ) {
+    fn serve_all<R: Host, D: Outlet>(&mut self, context: Context<'_, R, D>, drain: &Drain) {
         for _ in 0..self.callers.len() {
             let Some(caller) = self.callers.pop_front() else {
                 return;
@@ -178,13 +169,10 @@ enum Step {
 impl Caller {
     /// Goes on as far as it can now. What still comes behind its answer is forgotten: else the answer could be lost with the
     /// connection.
-    fn go_on<R: Host, E: Outlet, L: Outlet>(
-        &mut self,
-        context: Context<'_, R, E, L>,
-        drain: &Drain,
-    ) -> Step {
-        if !self.has_time(context.rt) {
-            return Step::Gone;
+    fn go_on<R: Host, D: Outlet>(&mut self, context: Context<'_, R, D>, drain: &Drain) -> Step {
+        match self.since.elapsed(context.rt) {
+            Ok(passed) if passed < Duration::from_secs(PATIENCE) => {}
+            _ => return Step::Gone,
         }
         if self.answer.is_none() {
             match self.read() {
@@ -195,14 +183,6 @@ impl Caller {
         match self.write() {
             Step::Done => self.read(),
             other => other,
-        }
-    }
-
-    /// Whether its time isn't over.
-    fn has_time<R: Clock>(&self, rt: &R) -> bool {
-        match self.since.elapsed(rt) {
-            Ok(passed) => passed < Duration::from_secs(PATIENCE),
-            Err(_) => false,
         }
     }
 
@@ -225,11 +205,7 @@ impl Caller {
     }
 
     /// Decides on the answer, and does what is asked for.
-    fn decide<R: Host, E: Outlet, L: Outlet>(
-        &mut self,
-        context: Context<'_, R, E, L>,
-        drain: &Drain,
-    ) {
+    fn decide<R: Host, D: Outlet>(&mut self, context: Context<'_, R, D>, drain: &Drain) {
         let rt = context.rt;
         let answer = answer_to(self.line.bytes());
         if answer == Answer::Drain {

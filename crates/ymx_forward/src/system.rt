@@ -11,17 +11,21 @@ ghost use Rattle.mio.specs.Events.{items};
 ghost use Rattle.libc.specs.Net.{SockOption};
 ghost use Rattle.ymx_forward.specs.Counts.{CountsOne};
 
+use crate::drain::Drain;
 use crate::stream::Stream;
 use libc::net as c;
 use libc::types::pollfd;
 use mio::event::Iter;
+use mio::unix::SourceFd;
 use mio::{Interest, Token};
 use std::alloc::{AllocError, AllocFailed, Global};
 use std::io::{ErrorKind, IoSlice, Write};
 use std::net::{Net, Shutdown, SocketAddr, TcpListener, TcpStream};
 use std::os::fd::AsRawFd;
+use std::sync::Arc;
 use std::time::Duration;
 use std::{io, net};
+use ymx_engine::Readiness;
 use ymx_model::{read, write};
 use ymx_policy::{Keepalive, Reason};
 
@@ -31,6 +35,10 @@ const RETRIES: u32 = 1_000_000;
 const BACKLOG: i32 = 4_096;
 /// How many events are taken at once.
 const EVENTS: usize = 256;
+/// What stands for SIGUSR1 in place of a descriptor.
+const SIGNAL: i32 = -2;
+/// The token of that signal, which no stream has.
+pub(crate) const SIGNALLED: usize = usize::MAX;
 
 /// Why something can't begin.
 #[derive(Clone, Copy)]
@@ -130,6 +138,20 @@ impl TcpConnection {
         connection.gives = false;
         connection.takes = false;
         connection
+    }
+
+    /// Whether one that was begun is there, after so many milliseconds at most. The error is why it can't be made.
+    pub(crate) fn is_there(&self, milliseconds: i32) -> io::Result<bool> {
+        let mut asked = [pollfd {
+            fd: self.inner.as_raw_fd(),
+            events: c::POLLOUT,
+            revents: 0,
+        }];
+        c::poll(&mut asked, milliseconds);
+        match self.inner.take_error()? {
+            Some(error) => Err(error),
+            None => Ok(self.inner.peer_addr().is_ok()),
+        }
     }
 
     /// What is written goes out at once.
@@ -265,6 +287,8 @@ impl Listener {
 pub(crate) struct Poll {
     inner: mio::Poll,
     events: mio::Events,
+    /// What a signal asks for.
+    drain: Option<Arc<Drain, Global>>,
     /// How often it has waited. It stays at the greatest `u64`.
     waits: u64,
     /// How often events were taken, with a wait or without. It stays at the greatest `u64`.
@@ -277,9 +301,32 @@ impl Poll {
         Ok(Poll {
             events: mio::Events::with_capacity(alloc, EVENTS)?,
             inner: mio::Poll::new(rt)?,
+            drain: None,
             waits: 0,
             looks: 0,
         })
+    }
+
+    /// From now on each wait and each look asks for this drain once the program was sent SIGUSR1: where the program is linked so,
+    /// the poll tells of that by a descriptor which no file has. Elsewhere the system refuses that, and nothing is asked for.
+    pub(crate) fn hear_signal(&mut self, drain: Arc<Drain, Global>) {
+        let mut signal = SourceFd(&SIGNAL);
+        let registry = self.inner.registry();
+        let _ = registry.register(&mut signal, Token(SIGNALLED), Interest::READABLE);
+        self.drain = Some(drain);
+    }
+
+    /// Takes events, after so long a wait at most, and heeds a signal.
+    fn take(&mut self, limit: Option<Duration>) -> Result<(), NoEvents>
+        ensures { (self.new.waits ≡ self.old.waits) × (self.new.looks ≡ self.old.looks) }
+    {
+        let taken = told(self.inner.poll(&mut self.events, limit));
+        let mut events = self.events.iter();
+        let is_signalled = events.any(|event| event.token() == Token(SIGNALLED));
+        if let (true, Some(drain)) = (is_signalled, &self.drain) {
+            drain.note_asked();
+        }
+        taken
     }
 
     /// Waits for events, and no longer than the limit, if there is one. They take the place of those that were there.
@@ -289,7 +336,7 @@ impl Poll {
     {
         self.waits = self.waits.saturating_add(1);
         self.looks = self.looks.saturating_add(1);
-        told(self.inner.poll(&mut self.events, limit))
+        self.take(limit)
     }
 
     /// Takes the events that are there, which take the place of those before. It doesn't wait.
@@ -298,10 +345,10 @@ impl Poll {
         ensures looks { CountsOne self.old.looks self.new.looks }
     {
         self.looks = self.looks.saturating_add(1);
-        told(self.inner.poll(&mut self.events, Some(Duration::ZERO)))
+        self.take(Some(Duration::ZERO))
     }
 
-    /// Each event, as the system gave it: [`Event::of`] reads it.
+    /// Each event, as the system gave it: [`said`] reads it.
     pub(crate) fn events(&self) -> Iter<'_>
         ensures rest { iter_rest result ≡ items self.now.events }
         ensures len { length (iter_rest result) < 2 ^ 64 }
@@ -311,33 +358,17 @@ impl Poll {
     }
 }
 
-/// What an event says.
-#[derive(Clone, Copy)]
-pub(crate) struct Event {
-    /// Under which token something was registered.
-    pub(crate) token: usize,
-    /// It may give bytes, or connections.
-    pub(crate) is_readable: bool,
-    /// It may take bytes.
-    pub(crate) is_writable: bool,
-    /// No more bytes come behind those that wait.
-    pub(crate) is_read_closed: bool,
-    /// It has failed.
-    pub(crate) is_error: bool,
-}
-
-impl Event {
-    /// What this event of the system says.
-    pub(crate) fn of(event: &mio::event::Event) -> Event {
-        let Token(token) = event.token();
-        Event {
-            token,
-            is_readable: event.is_readable(),
-            is_writable: event.is_writable(),
-            is_read_closed: event.is_read_closed(),
-            is_error: event.is_error(),
-        }
-    }
+/// What an event says: the token under which something was registered, and what that is ready for. Where it has failed it may
+/// be used at once, so that it says so.
+pub(crate) fn said(event: &mio::event::Event) -> (usize, Readiness) {
+    let Token(token) = event.token();
+    let is_closing = event.is_read_closed() || event.is_error();
+    let ready = Readiness {
+        can_pull: event.is_readable() || is_closing,
+        can_push: event.is_writable() || is_closing,
+        is_closing,
+    };
+    (token, ready)
 }
 
 /// What ends the wait of a poll from another thread.
@@ -365,19 +396,6 @@ pub(crate) fn connect<R: Net<Stream = TcpStream>>(
     address: SocketAddr,
 ) -> io::Result<TcpStream> {
     TcpStream::connect(rt, address)
-}
-
-/// Calls this address, and waits until somebody is there, or for so long at most. The connection never waits then.
-pub(crate) fn call<R: Net<Stream = TcpStream>>(
-    rt: &R,
-    address: SocketAddr,
-    limit: Option<Duration>,
-) -> io::Result<TcpConnection> {
-    let connection = match limit {
-        Some(limit) => TcpStream::connect_timeout(rt, &address, limit)?,
-        None => TcpStream::connect(rt, address)?,
-    };
-    TcpConnection::of(connection)
 }
 
 /// Listens at this address. Where the system refuses so long a backlog, its own stays.

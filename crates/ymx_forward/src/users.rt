@@ -1,17 +1,20 @@
 //! The users of a `local`: what its places share of them, and whom each place takes.
 
+use crate::Host;
 use crate::accepting::Acceptor;
 use crate::drain::Drain;
-use crate::host::Host;
 use crate::session::LISTENER;
 use crate::system::{Poll, StartFault, TcpConnection, address_of, duplicate, listen};
-use std::alloc::Global;
+use crate::voice::Context;
+use std::alloc::{AllocError, Global};
 use std::io;
 use std::net::{SocketAddr, SocketAddrV4, TcpListener};
 use std::sync::atomic::{AtomicU32, AtomicUsize, Ordering};
 use std::sync::{Arc, Mutex};
 use std::time::Duration;
-use ymx_policy::{Happened, Named, Reason, Users as Wanted};
+use ymx_model::Outlet;
+use ymx_page::Event;
+use ymx_policy::{Happened, Named, Users as Wanted};
 
 /// How many milliseconds a place that is ahead of its share lets go by before it accepts one more, and how many where the last
 /// one was left to it.
@@ -38,9 +41,9 @@ pub(crate) struct Common {
     /// There is one place alone.
     is_alone: bool,
     /// How many places there are still.
-    places: AtomicUsize,
+    pub(crate) places: AtomicUsize,
     /// How many of them have a session.
-    sessions: AtomicUsize,
+    pub(crate) sessions: AtomicUsize,
     shared: Mutex<Shared>,
 }
 
@@ -54,20 +57,15 @@ struct Shared {
     is_asked: bool,
 }
 
-/// Where users come in, for one place.
-#[derive(Drop)]
-pub(crate) struct Opened {
-    pub(crate) listener: TcpListener,
-    pub(crate) at: SocketAddrV4,
-    /// It was opened for this place.
-    pub(crate) is_first: bool,
-}
-
 impl Common {
     /// So many places, to which so many users are to come.
-    pub(crate) fn new(drain: Arc<Drain, Global>, count: Option<u32>, places: usize) -> Common {
-        Common {
-            drain,
+    pub(crate) fn new(
+        alloc: Global,
+        count: Option<u32>,
+        places: usize,
+    ) -> Result<Arc<Common, Global>, AllocError> {
+        let common = Common {
+            drain: Arc::new(alloc, Drain::new(alloc))?,
             count,
             reserved: AtomicU32::new(0),
             come: AtomicU32::new(0),
@@ -80,49 +78,34 @@ impl Common {
                 takers: places,
                 is_asked: false,
             }),
-        }
+        };
+        Ok(Arc::new(alloc, common)?)
     }
 
-    /// Where users come in, for one more place: the first opens it at this address, and the others have duplicates. None where
-    /// the first couldn't.
+    /// Where users come in, for one more place, and whether that is the first: it opens the listener at this address. The others
+    /// have duplicates, and the last one itself. None where the first couldn't open it.
     pub(crate) fn open<R: Host>(
         &self,
         rt: &R,
         address: SocketAddrV4,
-    ) -> io::Result<Option<Opened>> {
+    ) -> io::Result<Option<(TcpListener, bool)>> {
         let mut shared = self.shared.lock(rt);
         let is_first = !shared.is_asked;
         if is_first {
             shared.is_asked = true;
             shared.listener = Some(listen(rt, SocketAddr::V4(address))?);
         }
-        let Some(listener) = shared.take()? else {
-            return Ok(None);
+        shared.takers = shared.takers.saturating_sub(1);
+        let taken = match &shared.listener {
+            Some(listener) if shared.takers > 0 => Some(duplicate(listener)?),
+            _ => shared.listener.take(),
         };
-        Ok(Some(Opened {
-            at: place_of(&listener, address),
-            listener,
-            is_first,
-        }))
-    }
-
-    /// A place has a session, or has none any more.
-    pub(crate) fn note_session(&self, is_there: bool) {
-        if is_there {
-            self.sessions.fetch_add(1, Ordering::SeqCst);
-        } else {
-            self.sessions.fetch_sub(1, Ordering::SeqCst);
-        }
+        Ok(taken.map(|listener| (listener, is_first)))
     }
 
     /// Whether a place has a session.
     pub(crate) fn has_sessions(&self) -> bool {
         self.sessions.load(Ordering::SeqCst) > 0
-    }
-
-    /// A place has ended.
-    pub(crate) fn leave(&self) {
-        self.places.fetch_sub(1, Ordering::SeqCst);
     }
 
     /// Whether no more users are to come: as many have come, or that was asked for.
@@ -155,20 +138,6 @@ impl Common {
     }
 }
 
-impl Shared {
-    /// A duplicate of it, or for the last place itself. None where it couldn't be opened.
-    fn take(&mut self) -> io::Result<Option<TcpListener>> {
-        self.takers = self.takers.saturating_sub(1);
-        if self.takers == 0 {
-            return Ok(self.listener.take());
-        }
-        match &self.listener {
-            Some(listener) => Ok(Some(duplicate(listener)?)),
-            None => Ok(None),
-        }
-    }
-}
-
 /// Where this listener is.
 pub(crate) fn place_of(listener: &TcpListener, address: SocketAddrV4) -> SocketAddrV4 {
     match address_of(listener) {
@@ -180,7 +149,7 @@ pub(crate) fn place_of(listener: &TcpListener, address: SocketAddrV4) -> SocketA
 /// The users who come to one place.
 #[derive(Drop)]
 pub(crate) struct Users {
-    acceptor: Acceptor,
+    pub(crate) acceptor: Acceptor,
     common: Arc<Common, Global>,
     /// Where they come in.
     address: SocketAddrV4,
@@ -226,7 +195,7 @@ impl Users {
     /// Whether somebody may wait who is to be accepted now, where so many are open.
     pub(crate) fn may_accept(&self, open: usize) -> bool {
         let may_wait = self.may_wait || self.acceptor.has_room(open);
-        may_wait && !self.is_over() && !self.yields(open)
+        may_wait && !self.acceptor.is_over() && !self.yields(open)
     }
 
     /// Whether more are open here than its share, where so many are.
@@ -257,14 +226,9 @@ impl Users {
         accepted
     }
 
-    /// Whether somebody waits, who stays there.
-    pub(crate) fn is_awaited(&self) -> bool {
-        self.acceptor.is_awaited()
-    }
-
     /// How long a wait may last. None for as long as no event comes.
     pub(crate) fn limit(&self) -> Option<Duration> {
-        if self.may_wait && !self.is_over() && self.yields(self.open) {
+        if self.may_wait && !self.acceptor.is_over() && self.yields(self.open) {
             let turn = if self.is_left { SHORT_TURN } else { TURN };
             return Some(Duration::from_millis(turn));
         }
@@ -279,29 +243,24 @@ impl Users {
         }
     }
 
-    /// One more round begins, in which so many are open here.
-    pub(crate) fn note_open(&mut self, open: usize) {
+    /// One more round begins, in which so many are open here. Tells why the system has refused to accept one, if it has and that
+    /// wasn't told.
+    pub(crate) fn note_open<R: Host, D: Outlet>(
+        &mut self,
+        context: Context<'_, R, D>,
+        open: usize,
+    ) {
         self.rounds = self.rounds.saturating_add(1);
+        let all = &self.common.open;
         if open > self.open {
-            self.common
-                .open
-                .fetch_add(open - self.open, Ordering::SeqCst);
+            all.fetch_add(open - self.open, Ordering::SeqCst);
         } else {
-            self.common
-                .open
-                .fetch_sub(self.open - open, Ordering::SeqCst);
+            all.fetch_sub(self.open - open, Ordering::SeqCst);
         }
         self.open = open;
-    }
-
-    /// Whether no more are accepted here.
-    pub(crate) fn is_over(&self) -> bool {
-        self.acceptor.is_over()
-    }
-
-    /// Whether no more are accepted, as none can be.
-    pub(crate) fn has_failed(&self) -> bool {
-        self.acceptor.has_failed()
+        if let Some(reason) = self.acceptor.take_refusal() {
+            context.tell(Event::Refused(Named::Listen(self.address), reason));
+        }
     }
 
     /// Whether as many are accepted as come.
@@ -309,42 +268,18 @@ impl Users {
         self.common.count.is_none()
     }
 
-    /// No more are accepted here.
-    pub(crate) fn stop(&mut self) {
-        self.acceptor.stop();
-    }
-
     /// The session was lost, and none follows: where there are other places, users are left to them.
     pub(crate) fn note_loss(&mut self) {
         if !self.common.is_alone {
-            self.stop();
+            self.acceptor.stop();
         }
-    }
-
-    /// One who came can't be served, as the system refuses to watch him.
-    pub(crate) fn fail_unwatched(&mut self) {
-        self.acceptor.fail_unwatched();
-    }
-
-    /// Why the system has refused to accept one, though it goes on, unless that was told.
-    pub(crate) fn take_refusal(&mut self) -> Option<(Named, Reason)> {
-        let reason = self.acceptor.take_refusal()?;
-        Some((Named::Listen(self.address), reason))
-    }
-
-    /// Why none can be accepted any more, if the system has said so.
-    pub(crate) fn failure(&self) -> Option<Reason> {
-        self.acceptor.failure()
     }
 
     /// Why nobody comes any more. None where somebody may.
     pub(crate) fn end(&self) -> Option<Happened> {
-        if self.has_failed() {
-            Some(Happened::NoUsers(self.failure()))
-        } else if self.is_over() {
-            Some(Happened::AllCame)
-        } else {
-            None
+        match self.acceptor.failure() {
+            Some(reason) => Some(Happened::NoUsers(reason)),
+            None => self.acceptor.is_over().then_some(Happened::AllCame),
         }
     }
 }

@@ -1,6 +1,6 @@
 //! Where all goes that a program tells of itself: faults, lines and counts, behind one lock that threads share.
 
-use crate::host::Host;
+use crate::Host;
 use std::alloc::{AllocError, Global};
 use std::net::SocketAddr;
 use std::sync::Mutex;
@@ -11,14 +11,14 @@ use ymx_policy::{Fault, Notice};
 
 /// Where it goes, and what was counted.
 #[derive(Drop)]
-pub(crate) struct Sink<E, L> {
-    pub(crate) errors: E,
-    pub(crate) lines: L,
+pub(crate) struct Sink<D> {
+    pub(crate) errors: D,
+    pub(crate) lines: D,
     pub(crate) is_verbose: bool,
     pub(crate) counts: Counts,
 }
 
-impl<E: Outlet, L: Outlet> Sink<E, L> {
+impl<D: Outlet> Sink<D> {
     /// Counts this, and tells it at this time, if it is to be told. Where a device fails there is nobody left to tell.
     fn take(&mut self, event: &Event, now: Option<Instant>) {
         self.counts.count(event);
@@ -35,23 +35,23 @@ impl<E: Outlet, L: Outlet> Sink<E, L> {
 }
 
 /// What goes along through all that a place does, and who tells of it.
-pub(crate) struct Context<'a, R, E, L> {
+pub(crate) struct Context<'a, R, D> {
     pub(crate) rt: &'a R,
     pub(crate) alloc: Global,
-    pub(crate) sink: &'a Mutex<Sink<E, L>>,
+    pub(crate) sink: &'a Mutex<Sink<D>>,
     /// The number of the link that it is of, if there are several.
     pub(crate) link: Option<u32>,
 }
 
-impl<R, E, L> Clone for Context<'_, R, E, L> {
+impl<R, D> Clone for Context<'_, R, D> {
     fn clone(&self) -> Result<Self, AllocError> {
         Ok(*self)
     }
 }
 
-impl<R, E, L> Copy for Context<'_, R, E, L> {}
+impl<R, D> Copy for Context<'_, R, D> {}
 
-impl<R: Host, E: Outlet, L: Outlet> Context<'_, R, E, L> {
+impl<R: Host, D: Outlet> Context<'_, R, D> {
     /// Tells this, and counts it.
     pub(crate) fn tell(&self, event: Event) {
         let now = Instant::now(self.rt).ok();

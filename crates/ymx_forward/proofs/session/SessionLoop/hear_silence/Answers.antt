@@ -1,8 +1,11 @@
-use Rattle.ymx_forward.proofs.Going.{same}
+use Rattle.ymx_engine.proofs.Attending.{runs_same}
 use Rattle.ymx_forward.proofs.session.SessionLoop.hear_silence.Goals as goal
 
-pub returns-in_err-left : goal.returns-in_err-left
-returns-in_err-left g c = same _ _ c.due.ensures
+pub returns-then-is_lost : goal.returns-then-is_lost
+returns-then-is_lost g c = runs_same _
+
+pub returns-in_err-silence : goal.returns-in_err-silence
+returns-in_err-silence g c = runs_same _
 
 pub returns-in-In : goal.returns-in-In
-returns-in-In g c = same _ _ c.due.ensures
+returns-in-In g c = runs_same _
