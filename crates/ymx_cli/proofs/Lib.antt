@@ -1,2 +1,1 @@
-mod Pushing
 mod Repeating

@@ -35,16 +35,12 @@ IsInMonth leap over month day =
 abbrev pub two : ℕ → List ℕ
 two n = (48 + n / 10) ∷ (48 + n % 10) ∷ []
 
--- three decimal digits
-abbrev pub three : ℕ → List ℕ
-three n = (48 + n / 100) ∷ (48 + n / 10 % 10) ∷ (48 + n % 10) ∷ []
-
 -- a date and a time of day, and a space
 abbrev pub moment_text : (year month day seconds millisecond : ℕ) → List ℕ
 moment_text year month day seconds millisecond =
     two (year / 100) ++ (two (year % 100) ++ (codes "-" ++ (two month ++ (codes "-" ++ (two day ++ (codes "T"
     ++ (two (seconds / 3600 % 24) ++ (codes ":" ++ (two (seconds / 60 % 60) ++ (codes ":" ++ (two (seconds % 60) ++ (codes "."
-    ++ (three millisecond ++ codes "Z ")))))))))))))
+    ++ (48 + millisecond / 100) ∷ (two (millisecond % 100) ++ codes "Z ")))))))))))))
 
 -- The text tells the time in UTC, so many seconds and milliseconds after the beginning of 1970, as 2026-11-27T18:55:00.123Z and a space.
 abbrev pub TellsTime : (seconds millisecond : ℕ) → List ℕ → Type 0

@@ -10,7 +10,6 @@ ghost use Rattle.ymx_arguments.specs.declared.reading.Task.TheVariants as TaskOf
 ghost use Rattle.ymx_cli.specs.Doing.{Does, IsUntouched, PlaysFile, PlaysScript, PrintsFile, PrintsFrames, Refuses, change_of};
 
 use crate::log::LogOutlet;
-use clap::Error;
 use clap::error::ErrorKind;
 use std::alloc::Global;
 use std::convert::AsStr;
@@ -19,9 +18,14 @@ use std::sync::Wait;
 use std::thread::Threads;
 use std::time::Clock;
 use ymx_arguments::{CommandFault, Task, parse};
+use ymx_forward::{Host, run_end, run_selftest};
 use ymx_frames::{FramesEnd, frames};
 use ymx_model::{Inlet, Outlet, push_all};
+use ymx_policy::Plan;
 use ymx_script::{ScriptEnd, script};
+
+/// How many milliseconds the last words of an end may wait to be said.
+const LAST_WORDS: u16 = 1_000;
 
 /// Why a file can't be opened.
 #[derive(Clone, Copy)]
@@ -51,14 +55,14 @@ pub trait FileOpener {
 
 /// What the program reads and writes.
 #[derive(Drop)]
-pub struct Devices<F, R, W, E, L> {
+pub struct Devices<F, R, W, D> {
     pub files: F,
     pub reader: R,
     pub writer: W,
     /// Where faults are said.
-    pub errors: E,
+    pub errors: D,
     /// Where it is said why they came, and what `-v` asks for.
-    pub lines: L,
+    pub lines: D,
 }
 
 /// Does what the words of a command line ask for, the first of which is the program's name. Answers the exit status: 0 if
@@ -69,13 +73,12 @@ pub fn ymx_main<
     F: FileOpener,
     R: Inlet,
     W: Outlet + Send,
-    E: LogOutlet + Send,
-    L: LogOutlet + Send,
->(rt: &T, alloc: Global, words: &[S], devices: &mut Devices<F, R, W, E, L>) -> u8
+    D: LogOutlet + Send,
+>(rt: &T, alloc: Global, words: &[S], devices: &mut Devices<F, R, W, D>) -> u8
     // It does the task that the words name, with what their options say, or says a fault that they have.
     ensures { let input = change_of R.remaining R.failures devices.old.reader devices.new.reader in
         let output = change_of W.contents W.failures devices.old.writer devices.new.writer in
-        let errors = change_of E.contents E.failures devices.old.errors devices.new.errors in
+        let errors = change_of D.contents D.failures devices.old.errors devices.new.errors in
         ((task : Task) × IsTaskOf (subcommand_of ymx_app (map S.text words.now)) task × Does (F.held devices.old.files) task result input output errors)
         ⊎ ((fault : CommandFault) × IsFaultOf (map S.text words.now) fault × IsUntouched input × Refuses fault result output errors) }
 {
@@ -85,57 +88,58 @@ pub fn ymx_main<
     }
 }
 
-impl<F: FileOpener, R: Inlet, W: Outlet + Send, E: LogOutlet + Send, L: LogOutlet + Send> Devices<
-    F,
-    R,
-    W,
-    E,
-    L,
-> {
+impl<F: FileOpener, R: Inlet, W: Outlet + Send, D: LogOutlet + Send> Devices<F, R, W, D> {
     /// Does this task, and answers the status.
-    fn run<T: Net<Stream = TcpStream, Listener = TcpListener> + Threads + Clock + Wait + Sync>(
-        &mut self,
-        rt: &T,
-        alloc: Global,
-        task: Task,
-    ) -> u8
+    fn run<T: Host + Threads + Sync>(&mut self, rt: &T, alloc: Global, task: Task) -> u8
         ensures { Does (F.held self.old.files) task.entry result (change_of R.remaining R.failures self.old.reader self.new.reader)
-            (change_of W.contents W.failures self.old.writer self.new.writer) (change_of E.contents E.failures self.old.errors self.new.errors) }
+            (change_of W.contents W.failures self.old.writer self.new.writer) (change_of D.contents D.failures self.old.errors self.new.errors) }
     {
+        let (reader, writer, errors) = (&mut self.reader, &mut self.writer, &mut self.errors);
         match task {
             Task::Frames { limit, file } => self.run_frames(rt, alloc, limit, file),
-            Task::Script { file: None } => self.play(rt, alloc),
+            Task::Script { file: None } => finish_script(script(rt, alloc, reader, writer), errors),
             Task::Script { file: Some(name) } => self.play_file(rt, alloc, name),
-            Task::Local(options) => self.run_local(rt, alloc, options),
-            Task::Remote(options) => self.run_remote(rt, alloc, options),
-            Task::Selftest => self.run_selftest(rt, alloc),
+            Task::Local(options) => self.run_end(rt, alloc, Plan::Local(options)),
+            Task::Remote(options) => self.run_end(rt, alloc, Plan::Remote(options)),
+            Task::Selftest => u8::from(run_selftest(rt, alloc, writer, errors).is_none()),
         }
     }
 
+    /// Runs the end of this plan, and answers the status. No line waits to be said, unless it may be the last words of an end that
+    /// neither lasts nor tells of each connection.
+    fn run_end<T: Host + Threads + Sync>(&mut self, rt: &T, alloc: Global, plan: Plan) -> u8
+        ensures { (self.new.reader ≡ self.old.reader) × (self.new.writer ≡ self.old.writer) }
+    {
+        let (is_verbose, has_times) = match plan {
+            Plan::Local(it) => (it.is_verbose, it.has_times),
+            Plan::Remote(it) => (it.is_verbose, it.has_times),
+        };
+        let terms = plan.terms();
+        let of_errors = LAST_WORDS * u16::from(!terms.goes_on && terms.places <= 1);
+        let of_lines = of_errors * u16::from(!is_verbose);
+        self.errors.limit(of_errors, has_times);
+        self.lines.limit(of_lines, has_times);
+        run_end(rt, alloc, plan, &mut self.errors, &mut self.lines)
+    }
+
     /// Prints the frames of the reader, or of the file of this name, and answers the status.
-    fn run_frames(&mut self, rt: &impl Wait, alloc: Global, limit: u32, file: Option<&str>) -> u8
+    fn run_frames<T: Wait>(&mut self, rt: &T, alloc: Global, limit: u32, file: Option<&str>) -> u8
         ensures { Does (F.held self.old.files) (TaskOf.Frames limit file.entry) result (change_of R.remaining R.failures self.old.reader self.new.reader)
-            (change_of W.contents W.failures self.old.writer self.new.writer) (change_of E.contents E.failures self.old.errors self.new.errors) }
+            (change_of W.contents W.failures self.old.writer self.new.writer) (change_of D.contents D.failures self.old.errors self.new.errors) }
     {
         match file {
-            None => self.print(rt, alloc, limit),
+            None => {
+                let end = frames(rt, alloc, &mut self.reader, &mut self.writer, limit);
+                finish(end, &mut self.errors)
+            }
             Some(name) => self.print_file(rt, alloc, limit, name),
         }
     }
 
-    /// Prints the frames of the reader, and answers the status.
-    fn print(&mut self, rt: &impl Wait, alloc: Global, limit: u32) -> u8
-        ensures { PrintsFrames limit result (change_of R.remaining R.failures self.old.reader self.new.reader)
-            (change_of W.contents W.failures self.old.writer self.new.writer) (change_of E.contents E.failures self.old.errors self.new.errors) }
-    {
-        let end = frames(rt, alloc, &mut self.reader, &mut self.writer, limit);
-        finish(end, &mut self.errors)
-    }
-
     /// Prints the frames of the file of this name, and answers the status.
-    fn print_file(&mut self, rt: &impl Wait, alloc: Global, limit: u32, name: &str) -> u8
+    fn print_file<T: Wait>(&mut self, rt: &T, alloc: Global, limit: u32, name: &str) -> u8
         ensures printed { PrintsFile limit result (F.held self.old.files name.now)
-            (change_of W.contents W.failures self.old.writer self.new.writer) (change_of E.contents E.failures self.old.errors self.new.errors) }
+            (change_of W.contents W.failures self.old.writer self.new.writer) (change_of D.contents D.failures self.old.errors self.new.errors) }
         ensures unread { self.new.reader ≡ self.old.reader }
     {
         match self.files.open(name) {
@@ -147,19 +151,10 @@ impl<F: FileOpener, R: Inlet, W: Outlet + Send, E: LogOutlet + Send, L: LogOutle
         }
     }
 
-    /// Plays the script of the reader, and answers the status.
-    fn play(&mut self, rt: &impl Wait, alloc: Global) -> u8
-        ensures { PlaysScript result (change_of R.remaining R.failures self.old.reader self.new.reader)
-            (change_of W.contents W.failures self.old.writer self.new.writer) (change_of E.contents E.failures self.old.errors self.new.errors) }
-    {
-        let end = script(rt, alloc, &mut self.reader, &mut self.writer);
-        finish_script(end, &mut self.errors)
-    }
-
     /// Plays the script in the file of this name, and answers the status.
-    fn play_file(&mut self, rt: &impl Wait, alloc: Global, name: &str) -> u8
+    fn play_file<T: Wait>(&mut self, rt: &T, alloc: Global, name: &str) -> u8
         ensures played { PlaysFile result (F.held self.old.files name.now)
-            (change_of W.contents W.failures self.old.writer self.new.writer) (change_of E.contents E.failures self.old.errors self.new.errors) }
+            (change_of W.contents W.failures self.old.writer self.new.writer) (change_of D.contents D.failures self.old.errors self.new.errors) }
         ensures unread { self.new.reader ≡ self.old.reader }
     {
         match self.files.open(name) {
@@ -174,48 +169,37 @@ impl<F: FileOpener, R: Inlet, W: Outlet + Send, E: LogOutlet + Send, L: LogOutle
     /// Says why the words of a command line name no task, or shows the help or the version that they ask for.
     fn explain(&mut self, alloc: Global, fault: &CommandFault) -> u8
         ensures refused { Refuses fault.now result (change_of W.contents W.failures self.old.writer self.new.writer)
-            (change_of E.contents E.failures self.old.errors self.new.errors) }
+            (change_of D.contents D.failures self.old.errors self.new.errors) }
         ensures unread { self.new.reader ≡ self.old.reader }
     {
-        match fault {
-            CommandFault::Clap(error) => self.show(alloc, error),
+        let errors = &mut self.errors;
+        let error = match fault {
+            CommandFault::Clap(error) => error,
             CommandFault::BadAddress(option, text) => {
                 let form = b": it wants an IPv4 address and a port, as 127.0.0.1:8080\n";
                 say(&mut self.lines, &[b"ymx: --", option.as_bytes(), form]);
-                say(
-                    &mut self.errors,
-                    &[b"ymx: bad address ", text.as_bytes(), b"\n"],
-                );
+                say(errors, &[b"ymx: bad address ", text.as_bytes(), b"\n"]);
+                return 2;
+            }
+        };
+        match error.to_string(alloc) {
+            Ok(text) if error.kind() != ErrorKind::OutOfMemory && error.use_stderr() => {
+                say(errors, &[text.as_bytes()]);
                 2
             }
-        }
-    }
-
-    /// Shows what clap says: a mistake on the error device, with status 2, and else on the writer, with status 0.
-    fn show(&mut self, alloc: Global, error: &Error) -> u8
-        ensures refused { Refuses (CommandFault.Clap error.now) result (change_of W.contents W.failures self.old.writer self.new.writer)
-            (change_of E.contents E.failures self.old.errors self.new.errors) }
-        ensures unread { self.new.reader ≡ self.old.reader }
-    {
-        if error.kind() == ErrorKind::OutOfMemory {
-            return say_fault(&mut self.errors, b"ymx: out of memory\n");
-        }
-        let Ok(text) = error.to_string(alloc) else {
-            return say_fault(&mut self.errors, b"ymx: out of memory\n");
-        };
-        if error.use_stderr() {
-            say(&mut self.errors, &[text.as_bytes()]);
-            return 2;
-        }
-        match push_all(&mut self.writer, text.as_bytes()) {
-            Ok(()) => 0,
-            Err(_) => say_fault(&mut self.errors, b"ymx: writing failed\n"),
+            Ok(text) if error.kind() != ErrorKind::OutOfMemory => {
+                match push_all(&mut self.writer, text.as_bytes()) {
+                    Ok(()) => 0,
+                    Err(_) => say_fault(errors, b"ymx: writing failed\n"),
+                }
+            }
+            _ => say_fault(errors, b"ymx: out of memory\n"),
         }
     }
 }
 
 /// Says why the printing of frames ended, if a device or memory failed, and answers the status.
-fn finish<E: Outlet>(end: FramesEnd, errors: &mut E) -> u8
+fn finish<D: Outlet>(end: FramesEnd, errors: &mut D) -> u8
     ensures status { result ≤ 1 }
     ensures good { (result ≡ 0) ↔ (end ≡ FramesEnd.Good) }
     ensures quiet { result ≡ 0 → errors.new ≡ errors.old }
@@ -230,7 +214,7 @@ fn finish<E: Outlet>(end: FramesEnd, errors: &mut E) -> u8
 }
 
 /// Says why the playing of a script ended, if a device or memory failed, and answers the status.
-fn finish_script<E: Outlet>(end: ScriptEnd, errors: &mut E) -> u8
+fn finish_script<D: Outlet>(end: ScriptEnd, errors: &mut D) -> u8
     ensures status { result ≤ 1 }
     ensures good { (result ≡ 0) ↔ (end ≡ ScriptEnd.Good) }
     ensures quiet { result ≡ 0 → errors.new ≡ errors.old }
@@ -245,30 +229,25 @@ fn finish_script<E: Outlet>(end: ScriptEnd, errors: &mut E) -> u8
 }
 
 /// Says why the file of this name can't be opened, and that it can't, and answers the status of a fault.
-pub(crate) fn cannot_open<E: Outlet>(errors: &mut E, name: &str, why: Unopened) -> u8
+pub(crate) fn cannot_open<D: Outlet>(errors: &mut D, name: &str, why: Unopened) -> u8
     ensures { result ≡ 1 }
 {
+    let name = name.as_bytes();
     let reason = match why {
-        Unopened::Missing => Some("no such file"),
-        Unopened::Denied => Some("permission denied"),
-        Unopened::Folder => Some("is a folder"),
-        Unopened::Other => None,
+        Unopened::Missing => "no such file\n",
+        Unopened::Denied => "permission denied\n",
+        Unopened::Folder => "is a folder\n",
+        Unopened::Other => "",
     };
-    if let Some(reason) = reason {
-        say(
-            errors,
-            &[b"ymx: ", name.as_bytes(), b": ", reason.as_bytes(), b"\n"],
-        );
+    if !reason.is_empty() {
+        say(errors, &[b"ymx: ", name, b": ", reason.as_bytes()]);
     }
-    say(
-        errors,
-        &[b"ymx: ", name.as_bytes(), b": the file can't be opened\n"],
-    );
+    say(errors, &[b"ymx: ", name, b": the file can't be opened\n"]);
     1
 }
 
 /// Says this, and answers the status of a fault.
-fn say_fault<E: Outlet>(errors: &mut E, text: &[u8]) -> u8
+pub(crate) fn say_fault<D: Outlet>(errors: &mut D, text: &[u8]) -> u8
     ensures { result ≡ 1 }
 {
     say(errors, &[text]);
@@ -276,10 +255,6 @@ fn say_fault<E: Outlet>(errors: &mut E, text: &[u8]) -> u8
 }
 
 /// Says these, as far as the device takes them.
-pub(crate) fn say<E: Outlet>(errors: &mut E, texts: &[&[u8]]) {
-    for text in texts {
-        if push_all(errors, text).is_err() {
-            return;
-        }
-    }
+pub(crate) fn say<D: Outlet>(errors: &mut D, texts: &[&[u8]]) {
+    let _ = texts.iter().try_for_each(|text| push_all(errors, text));
 }

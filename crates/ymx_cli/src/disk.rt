@@ -21,25 +21,17 @@ impl<T: Files<File = File>> FileOpener for Disk<'_, T> {
     ghost held = { λ s name. None };
 
     fn open(&self, name: &str) -> Result<ReaderInlet<File>, Unopened> {
-        match opened(self.rt, name) {
-            Ok(reader) => Ok(ReaderInlet {
+        let reader = match File::open(self.rt, name) {
+            Ok(file) => file,
+            Err(error) => return Err(reason_of(&error)),
+        };
+        match reader.metadata() {
+            Ok(metadata) if metadata.is_dir() => Err(Unopened::Folder),
+            _ => Ok(ReaderInlet {
                 reader,
                 failures: 0,
             }),
-            Err(why) => Err(why),
         }
-    }
-}
-
-/// The file of this name, which is no folder.
-fn opened<T: Files<File = File>>(rt: &T, name: &str) -> Result<File, Unopened> {
-    let file = match File::open(rt, name) {
-        Ok(file) => file,
-        Err(error) => return Err(reason_of(&error)),
-    };
-    match file.metadata() {
-        Ok(metadata) if metadata.is_dir() => Err(Unopened::Folder),
-        _ => Ok(file),
     }
 }
 

@@ -4,13 +4,11 @@
 
 ghost use Rattle.std.specs.Prelude.{ℕ, List, [], Option, None, Some, Bool, ◌≡◌, ◌<◌, ◌≤◌, ◌+◌, ◌-◌, ◌^◌, ◌++◌, length, min, option_map, true, false, IfOk, IfSome, IsOk, OnErr, OnOk};
 ghost use Rattle.std.specs.Duration.{as_nanos};
-ghost use Rattle.std.specs.Io.{StartsWith};
 ghost use Rattle.std.specs.Io.KnownBytes.{Appends, WriteAppends};
-ghost use Rattle.ymx_cli.specs.Log.{dropped_note, left_out_note, notes_text, said_text};
+ghost use Rattle.ymx_cli.specs.Log.{note, notes_text, said_text};
 ghost use Rattle.ymx_cli.specs.Repeats.{is_left_out, kind_of, kinds, remembered, told_last, told_now};
 
-use crate::repeats::{Kind, PAUSE, RecentLines, kind_of};
-use crate::standard::Ready;
+use crate::repeats::{PAUSE, RecentLines, kind_of};
 use crate::time::{TIME, time_text};
 use arrayvec::{ArrayString, ArrayVec};
 use itoa::Buffer;
@@ -36,13 +34,9 @@ pub(crate) trait LineDevice {
     /// The bytes that it has taken so far, if it can tell.
     ghost contents: { Self → Option (List ℕ) };
 
-    /// Whether it takes a line of up to 4,096 bytes now, or within so many milliseconds. Without a limit it always does: a
-    /// write may wait then.
-    fn ask(&mut self, patience: Option<u16>) -> Option<Ready>
-        ensures { contents self.new ≡ contents self.old };
-
-    /// Takes the first of these bytes, at least 1 if there are any, and answers how many. A call that fails takes none.
-    fn write(&mut self, ready: Ready, bytes: &[u8]) -> Result<usize, DeviceFault>
+    /// Takes the first of these bytes, at least 1 if there are any, and answers how many. It waits so many milliseconds at
+    /// most until up to 4,096 bytes are taken at once; without a limit the write may wait. A call that fails takes none.
+    fn write(&mut self, bytes: &[u8], patience: Option<u16>) -> Result<usize, DeviceFault>
         ensures within { IfOk result (λ count. count ≤ length bytes.now) }
         ensures some { 0 < length bytes.now → IfOk result (λ count. 0 < count) }
         ensures moved { WriteAppends (contents self.old) (contents self.new) result bytes.now };
@@ -64,17 +58,13 @@ pub(crate) struct Log<D> {
 
 impl<D: LineDevice> Log<D> {
     /// A log on this device, of which nothing was dropped or left out.
-    pub(crate) fn new(device: D) -> Log<D>
-        ensures counts { (result.device ≡ device) × (result.dropped ≡ 0) × (result.left_out ≡ 0) }
-        ensures recent { kinds result.recent.lines.items ≡ [] }
-        ensures untold { result.told_at ≡ None }
-    {
+    pub(crate) fn new(device: D) -> Log<D> {
         Log {
             device,
             dropped: 0,
             left_out: 0,
             told_at: None,
-            recent: RecentLines::new(),
+            recent: RecentLines::default(),
         }
     }
 
@@ -96,13 +86,12 @@ impl<D: LineDevice> Log<D> {
             OnOk result (option_map as_nanos self.new.told_at ≡ told_last (told_now self.old.left_out (option_map as_nanos self.old.told_at) (as_nanos now)) (option_map as_nanos self.old.told_at) (as_nanos now)) }
         ensures remembered { is_left_out (kinds self.old.recent.lines.items) (kind_of line.now) (as_nanos now) ≡ false →
             OnOk result (kinds self.new.recent.lines.items ≡ remembered (kinds self.old.recent.lines.items) (kind_of line.now) (as_nanos now)) }
-        ensures part { OnErr result ((part : List ℕ) × StartsWith (said_text time.now (told_now self.old.left_out (option_map as_nanos self.old.told_at) (as_nanos now)) self.old.dropped line.now) part × Appends (D.contents self.old.device) (D.contents self.new.device) part) }
         ensures counted { OnErr result ((self.new.dropped ≡ min (self.old.dropped + 1) (2 ^ 64 - 1)) × (self.new.left_out ≡ self.old.left_out)) }
-        // A line that was dropped is no reason to leave the next one out.
-        ensures unseen { OnErr result ((self.new.recent ≡ self.old.recent) × (self.new.told_at ≡ self.old.told_at)) }
     {
         let kind = kind_of(line);
-        if self.has_just_said(&kind, now) {
+        if let Some(kind) = &kind
+            && self.recent.has(kind, now)
+        {
             self.left_out = self.left_out.saturating_add(1);
             return Ok(());
         }
@@ -115,16 +104,6 @@ impl<D: LineDevice> Log<D> {
             self.recent.note(kind, now);
         }
         Ok(())
-    }
-
-    /// Whether a line of this kind was said less than a second ago.
-    fn has_just_said(&self, kind: &Option<Kind>, now: Duration) -> bool
-        ensures { result ≡ is_left_out (kinds self.now.recent.lines.items) (option_map (λ kind. kind.items) kind.now) (as_nanos now) }
-    {
-        match kind {
-            Some(kind) => self.recent.has(kind, now),
-            None => false,
-        }
     }
 
     /// How many of those left out are told with a line that is said now.
@@ -149,55 +128,36 @@ impl<D: LineDevice> Log<D> {
     ) -> Result<(), DeviceFault>
         ensures said { OnOk result (Appends (D.contents self.old.device) (D.contents self.new.device) (said_text time.now left_out self.old.dropped line.now)) }
         ensures none { OnOk result ((self.new.left_out ≡ self.old.left_out - left_out) × (self.new.dropped ≡ 0)) }
-        ensures part { OnErr result ((part : List ℕ) × StartsWith (said_text time.now left_out self.old.dropped line.now) part × Appends (D.contents self.old.device) (D.contents self.new.device) part) }
         ensures counted { OnErr result ((self.new.dropped ≡ min (self.old.dropped + 1) (2 ^ 64 - 1)) × (self.new.left_out ≡ self.old.left_out)) }
         ensures kept { (self.new.recent ≡ self.old.recent) × (self.new.told_at ≡ self.old.told_at) }
     {
-        let said = match text_of(time, left_out, self.dropped, line) {
-            Some(text) => self.write_all(text.as_slice(), Some(patience)),
-            None => Err(DeviceFault),
-        };
-        match said {
-            Ok(()) => {
-                self.left_out = self.left_out.saturating_sub(left_out);
-                self.dropped = 0;
-            }
-            Err(_) => self.dropped = self.dropped.saturating_add(1),
+        if let Some(text) = text_of(time, left_out, self.dropped, line)
+            && self.write_all(text.as_slice(), Some(patience)).is_ok()
+        {
+            self.left_out = self.left_out.saturating_sub(left_out);
+            self.dropped = 0;
+            return Ok(());
         }
-        said
+        self.dropped = self.dropped.saturating_add(1);
+        Err(DeviceFault)
     }
 
     /// Says at the end how many lines were left out or dropped behind the last one that was said, if any were.
-    fn finish(&mut self, time: &[u8], patience: u16) -> Result<(), DeviceFault>
-        ensures said { OnOk result (Appends (D.contents self.old.device) (D.contents self.new.device) (notes_text time.now self.old.left_out self.old.dropped)) }
-        ensures none { OnOk result ((self.new.left_out ≡ 0) × (self.new.dropped ≡ 0)) }
-        ensures part { OnErr result ((part : List ℕ) × StartsWith (notes_text time.now self.old.left_out self.old.dropped) part × Appends (D.contents self.old.device) (D.contents self.new.device) part) }
-    {
-        let Some(text) = notes_of(time, self.left_out, self.dropped) else {
-            return Err(DeviceFault);
-        };
+    fn finish(&mut self, time: &[u8], patience: u16) -> Result<(), DeviceFault> {
+        let text = notes_of(time, self.left_out, self.dropped).ok_or(DeviceFault)?;
         self.write_all(text.as_slice(), Some(patience))?;
-        self.left_out = 0;
-        self.dropped = 0;
+        (self.left_out, self.dropped) = (0, 0);
         Ok(())
     }
 
-    /// Writes all of these bytes, or a beginning of them where the device doesn't take more. Each write comes behind a
-    /// question of its own.
+    /// Writes all of these bytes, or a beginning of them where the device doesn't take more.
     fn write_all(&mut self, bytes: &[u8], patience: Option<u16>) -> Result<(), DeviceFault>
         ensures all { OnOk result (Appends (D.contents self.old.device) (D.contents self.new.device) bytes.now) }
-        ensures part { OnErr result ((part : List ℕ) × StartsWith bytes.now part × Appends (D.contents self.old.device) (D.contents self.new.device) part) }
         ensures kept { (self.new.left_out ≡ self.old.left_out) × (self.new.dropped ≡ self.old.dropped) × (self.new.recent ≡ self.old.recent) × (self.new.told_at ≡ self.old.told_at) }
     {
         let mut taken = 0;
         'push: while taken < bytes.len() {
-            let Some(ready) = self.device.ask(patience) else {
-                return Err(DeviceFault);
-            };
-            match self.device.write(ready, &bytes[taken..]) {
-                Ok(count) => taken += count,
-                Err(fault) => return Err(fault),
-            }
+            taken += self.device.write(&bytes[taken..], patience)?;
         }
         Ok(())
     }
@@ -221,47 +181,30 @@ fn notes_of(time: &[u8], left_out: u64, dropped: u64) -> Option<ArrayVec<u8, ROO
 {
     let mut text = ArrayVec::new();
     if left_out > 0 {
-        let note = left_out_note(left_out);
+        let note = note(left_out, " like those before", " left out\n");
         text.try_extend_from_slice(time).ok()?;
         text.try_extend_from_slice(note.as_str().as_bytes()).ok()?;
     }
     if dropped > 0 {
-        let note = dropped_note(dropped);
+        let note = note(dropped, "", " dropped\n");
         text.try_extend_from_slice(time).ok()?;
         text.try_extend_from_slice(note.as_str().as_bytes()).ok()?;
     }
     Some(text)
 }
 
-/// What says that so many lines were left out.
-fn left_out_note(left_out: u64) -> ArrayString<NOTE>
-    ensures { result.bytes ≡ left_out_note left_out }
+/// What says that so many lines, which are further told by this, came to this.
+fn note(count: u64, which: &str, fate: &str) -> ArrayString<NOTE>
+    requires { length which.now + length fate.now ≤ 32 }
+    ensures { result.bytes ≡ note count which.now fate.now }
 {
     let mut text = ArrayString::new();
-    if left_out == 1 {
-        text.push_str("ymx: 1 line like those before was left out\n");
-        return text;
-    }
-    let mut buffer = Buffer::new();
     text.push_str("ymx: ");
-    text.push_str(buffer.format(left_out));
-    text.push_str(" lines like those before were left out\n");
-    text
-}
-
-/// What says that so many lines were dropped.
-fn dropped_note(dropped: u64) -> ArrayString<NOTE>
-    ensures { result.bytes ≡ dropped_note dropped }
-{
-    let mut text = ArrayString::new();
-    if dropped == 1 {
-        text.push_str("ymx: 1 line was dropped\n");
-        return text;
-    }
-    let mut buffer = Buffer::new();
-    text.push_str("ymx: ");
-    text.push_str(buffer.format(dropped));
-    text.push_str(" lines were dropped\n");
+    text.push_str(Buffer::new().format(count));
+    text.push_str(if count == 1 { " line" } else { " lines" });
+    text.push_str(which);
+    text.push_str(if count == 1 { " was" } else { " were" });
+    text.push_str(fate);
     text
 }
 
@@ -294,50 +237,31 @@ impl<'a, R, D> LogWriter<'a, R, D> {
 impl<R: Wait + Clock, D: LineDevice> LogWriter<'_, R, D> {
     /// Says at the end how many lines were left out or dropped behind the last one that was said, if any were.
     pub(crate) fn finish(&self) {
-        let Some(patience) = self.patience else {
-            return;
-        };
-        let time = self.time();
-        let mut log = self.log.lock(self.rt);
-        let _ = log.finish(text_or_none(&time), patience);
+        if let Some(patience) = self.patience {
+            let time = self.time();
+            let mut log = self.log.lock(self.rt);
+            let _ = log.finish(time.as_slice(), patience);
+        }
     }
 
-    /// Says a line on the log, of this time, if it can be told. Where it can't, no line is left out.
+    /// Says a line on the log, by its rules where it has a limit and the clock can be read.
     fn say(&self, line: &[u8]) -> Result<(), DeviceFault> {
         let time = self.time();
         let now = self.rt.monotonic();
         let mut log = self.log.lock(self.rt);
         match (self.patience, now) {
-            (None, _) => log.write_all(line, None),
-            (Some(patience), Ok(now)) => log.tell(text_or_none(&time), line, now, patience),
-            (Some(patience), Err(_)) => {
-                let left_out = log.left_out;
-                log.say(text_or_none(&time), left_out, line, patience)
-            }
+            (Some(patience), Ok(now)) => log.tell(time.as_slice(), line, now, patience),
+            (patience, _) => log.write_all(line, patience),
         }
     }
 
     /// What stands before each line.
-    fn time(&self) -> Option<[u8; TIME]> {
-        if self.has_times {
-            time_now(self.rt)
-        } else {
-            None
+    fn time(&self) -> ArrayVec<u8, TIME> {
+        match self.rt.since_1970() {
+            Ok(now) if self.has_times => time_text(now).map(ArrayVec::from).unwrap_or_default(),
+            _ => ArrayVec::new(),
         }
     }
-}
-
-/// The text, or nothing.
-fn text_or_none(text: &Option<[u8; TIME]>) -> &[u8] {
-    match text {
-        Some(text) => text,
-        None => &[],
-    }
-}
-
-/// The time as a text, if the clock can be read.
-fn time_now(clock: &impl Clock) -> Option<[u8; TIME]> {
-    time_text(clock.since_1970().ok()?)
 }
 
 impl<R: Wait + Clock, D: LineDevice> Outlet for LogWriter<'_, R, D> {
@@ -348,24 +272,16 @@ impl<R: Wait + Clock, D: LineDevice> Outlet for LogWriter<'_, R, D> {
     ghost is_ended = { λ _. true };
 
     fn push(&mut self, bytes: &[u8]) -> Result<usize, DeviceFault> {
-        if self.failures == u64::MAX {
-            return Err(DeviceFault);
+        if self.failures < u64::MAX && self.say(bytes).is_ok() {
+            return Ok(bytes.len());
         }
-        match self.say(bytes) {
-            Ok(()) => Ok(bytes.len()),
-            Err(_) => {
-                self.failures += 1;
-                Err(DeviceFault)
-            }
-        }
+        self.failures = self.failures.saturating_add(1);
+        Err(DeviceFault)
     }
 
     /// What was said stands on the device.
     fn end(&mut self) -> Result<(), DeviceFault> {
-        if self.failures == u64::MAX {
-            return Err(DeviceFault);
-        }
-        Ok(())
+        (self.failures < u64::MAX).then_some(()).ok_or(DeviceFault)
     }
 }
 

@@ -10,13 +10,12 @@ mod log;
 mod repeats;
 mod standard;
 mod time;
-mod tunnel;
 
-use command::{Devices, Unopened, cannot_open, say, ymx_main};
+use command::{Devices, Unopened, cannot_open, say, say_fault, ymx_main};
 use disk::Disk;
 use help::words_of_help;
 use log::{Log, LogWriter};
-use standard::{StandardError, SystemDescriptors, hold_standard};
+use standard::{StandardError, hold_standard};
 use std::alloc::Global;
 use std::process::ExitCode;
 use std::rt::Env;
@@ -44,7 +43,7 @@ fn main(rt: HostRuntime) -> ExitCode {
         errors: LogWriter::new(&rt, &log),
         lines: LogWriter::new(&rt, &log),
     };
-    if !hold_standard(&mut SystemDescriptors { rt: &rt }) {
+    if !hold_standard(&rt) {
         return ExitCode::from(cannot_open(&mut devices.errors, "/dev/null", Unopened::Other));
     }
     let alloc = rt.alloc();
@@ -63,13 +62,10 @@ fn words<R: Env + AllocGlobal>(rt: &R, alloc: Global) -> io::Result<Vec<String>>
 
 /// Says why the words of the command line can't be had, and answers the exit status.
 fn no_words<E: Outlet>(error: &io::Error, errors: &mut E) -> u8 {
-    if error.kind() == io::ErrorKind::InvalidData {
-        say(
-            errors,
-            &[b"error: a word of the command line is not UTF-8\n"],
-        );
-        return 2;
+    if error.kind() != io::ErrorKind::InvalidData {
+        return say_fault(errors, b"ymx: out of memory\n");
     }
-    say(errors, &[b"ymx: out of memory\n"]);
-    1
+    let words = b"error: a word of the command line is not UTF-8\n";
+    say(errors, &[words]);
+    2
 }

@@ -4,7 +4,7 @@
 ghost use Rattle.std.specs.Prelude.{◌≡◌, [], Some};
 ghost use Rattle.std.specs.Option.{option_map};
 ghost use Rattle.std.specs.Duration.{as_nanos};
-ghost use Rattle.ymx_cli.specs.Repeats.{is_like, is_shortage, kind_of, kinds, may_repeat, remembered, was_just_said};
+ghost use Rattle.ymx_cli.specs.Repeats.{kind_of, kinds, may_repeat, remembered, was_just_said};
 
 use arrayvec::ArrayVec;
 use std::time::Duration;
@@ -29,38 +29,20 @@ struct RecentLine {
     at: Duration,
 }
 
-impl RecentLine {
-    /// Whether it is of this kind, and was said less than a second ago.
-    fn is_like(&self, kind: &Kind, now: Duration) -> bool
-        ensures { result ≡ is_like kind.now.items (as_nanos now) (self.now.kind.items, as_nanos self.now.at) }
-    {
-        now.saturating_sub(self.at) < Duration::from_secs(PAUSE)
-            && self.kind.as_slice() == kind.as_slice()
-    }
-}
-
 /// The lines that were said last, of those that may be left out.
-#[derive(Drop)]
+#[derive(Drop, Default)]
 pub(crate) struct RecentLines {
     lines: ArrayVec<RecentLine, RECENT>,
 }
 
 impl RecentLines {
-    /// None was said.
-    pub(crate) fn new() -> RecentLines
-        ensures { kinds result.lines.items ≡ [] }
-    {
-        RecentLines {
-            lines: ArrayVec::new(),
-        }
-    }
-
     /// Whether one of this kind was said less than a second ago.
     pub(crate) fn has(&self, kind: &Kind, now: Duration) -> bool
         ensures { result ≡ was_just_said (kinds self.now.lines.items) kind.now.items (as_nanos now) }
     {
         for line in self.lines.as_slice() {
-            if line.is_like(kind, now) {
+            let is_recent = now.saturating_sub(line.at) < Duration::from_secs(PAUSE);
+            if is_recent && line.kind.as_slice() == kind.as_slice() {
                 return true;
             }
         }
@@ -97,7 +79,7 @@ pub(crate) fn kind_of(line: &[u8]) -> Option<Kind>
     Some(kind)
 }
 
-/// Whether a line is one of those that may be left out.
+/// Whether a line is one of those that may be left out, as the shortages of the system that an option meets.
 fn may_repeat(line: &[u8]) -> bool
     ensures { result ≡ may_repeat line.now }
 {
@@ -107,15 +89,8 @@ fn may_repeat(line: &[u8]) -> bool
         || line.starts_with(b"ymx: closed a peer too many")
         || line.starts_with(b"ymx: the peer has gone without a sign of life")
         || line.starts_with(b"ymx: rejected streams")
-        || is_shortage(line)
-}
-
-/// Whether a line says that the system has not now what an option needs.
-fn is_shortage(line: &[u8]) -> bool
-    ensures { result ≡ is_shortage line.now }
-{
-    line.starts_with(b"ymx: --")
-        && (line.ends_with(b": no descriptor left\n")
-            || line.ends_with(b": no memory\n")
-            || line.ends_with(b": no thread\n"))
+        || (line.starts_with(b"ymx: --")
+            && (line.ends_with(b": no descriptor left\n")
+                || line.ends_with(b": no memory\n")
+                || line.ends_with(b": no thread\n")))
 }

@@ -2,7 +2,7 @@
 
 ghost use Rattle.std.specs.Prelude.{◌≡◌, ◌+◌, ◌%◌, ◌/◌, ◌≤◌, ◌<◌, IfSome};
 ghost use Rattle.std.specs.Duration.{as_nanos};
-ghost use Rattle.ymx_cli.specs.Time.{IsInMonth, IsInYear, TellsTime, days_to, is_leap, moment_text, month_start, two, year_days};
+ghost use Rattle.ymx_cli.specs.Time.{IsInMonth, IsInYear, TellsTime, days_to, is_leap, moment_text, month_start, two};
 
 use std::time::Duration;
 
@@ -22,14 +22,9 @@ pub(crate) fn time_text(since_1970: Duration) -> Option<[u8; TIME]>
 {
     let seconds = since_1970.as_secs();
     let (year, over) = year_of(seconds / DAY)?;
-    let (month, day) = month_of(is_leap(year), u32::from(over));
-    let moment = Moment {
-        year,
-        month,
-        day,
-        millisecond: since_1970.subsec_millis() as u16,
-    };
-    Some(moment.text(seconds))
+    let (month, day) = month_of(is_leap(year), over);
+    let millisecond = since_1970.subsec_millis() as u16;
+    Some(moment_text(year, month, day, seconds, millisecond))
 }
 
 /// Whether the year has a 29th of February.
@@ -39,13 +34,6 @@ fn is_leap(year: u16) -> bool
     year % 4 == 0 && (year % 100 != 0 || year % 400 == 0)
 }
 
-/// How many days the year has.
-fn year_days(year: u16) -> u16
-    ensures { result ≡ year_days year }
-{
-    if is_leap(year) { 366 } else { 365 }
-}
-
 /// The year of the day so many days after the beginning of 1970, and how many of its days are over. None from the year
 /// 10000 on.
 fn year_of(days: u64) -> Option<(u16, u16)>
@@ -53,30 +41,25 @@ fn year_of(days: u64) -> Option<(u16, u16)>
 {
     let mut left = days;
     for year in 1970..10_000u16 {
-        let length = year_days(year);
-        if left < u64::from(length) {
+        let length = 365 + u64::from(is_leap(year));
+        if left < length {
             return Some((year, left as u16));
         }
-        left -= u64::from(length);
+        left -= length;
     }
     None
 }
 
 /// How many days of such a year are over as this month begins, or, at 13, as the year ends.
-fn month_start(is_leap: bool, month: u8) -> u32
+fn month_start(is_leap: bool, month: u8) -> u16
     requires { (1 ≤ month) × (month ≤ 13) }
     ensures { result ≡ month_start is_leap month }
 {
-    let common = u32::from(COMMON_STARTS[usize::from(month) - 1]);
-    if 2 < month && is_leap {
-        common + 1
-    } else {
-        common
-    }
+    COMMON_STARTS[usize::from(month) - 1] + u16::from(2 < month && is_leap)
 }
 
 /// The month, and the day of it, where so many days of such a year are over.
-fn month_of(is_leap: bool, over: u32) -> (u8, u8)
+fn month_of(is_leap: bool, over: u16) -> (u8, u8)
     requires { over < month_start is_leap 13 }
     ensures { IsInMonth is_leap over result.0 result.1 }
 {
@@ -88,42 +71,28 @@ fn month_of(is_leap: bool, over: u32) -> (u8, u8)
     (12, (over - month_start(is_leap, 12) + 1) as u8)
 }
 
-/// A date, and the millisecond of a second.
-#[derive(Clone, Copy)]
-struct Moment {
-    year: u16,
-    month: u8,
-    day: u8,
-    millisecond: u16,
-}
-
-impl Moment {
-    /// The text of this date and of the time of the day so many seconds after its beginning, or whole days more.
-    fn text(&self, seconds: u64) -> [u8; TIME]
-        requires year { self.now.year < 10_000 }
-        requires month { self.now.month < 100 }
-        requires day { self.now.day < 100 }
-        requires millisecond { self.now.millisecond < 1_000 }
-        ensures { result ≡ moment_text self.now.year self.now.month self.now.day seconds self.now.millisecond }
-    {
-        let century = two((self.year / 100) as u8);
-        let year = two((self.year % 100) as u8);
-        let month = two(self.month);
-        let day = two(self.day);
-        let hour = two((seconds / 3_600 % 24) as u8);
-        let minute = two((seconds / 60 % 60) as u8);
-        let second = two((seconds % 60) as u8);
-        let hundred = b'0' + (self.millisecond / 100) as u8;
-        let rest = [
-            b'0' + (self.millisecond / 10 % 10) as u8,
-            b'0' + (self.millisecond % 10) as u8,
-        ];
-        [
-            century[0], century[1], year[0], year[1], b'-', month[0], month[1], b'-', day[0],
-            day[1], b'T', hour[0], hour[1], b':', minute[0], minute[1], b':', second[0], second[1],
-            b'.', hundred, rest[0], rest[1], b'Z', b' ',
-        ]
-    }
+/// The text of this date and millisecond, and of the time of the day so many seconds after its beginning, or whole days more.
+fn moment_text(year: u16, month: u8, day: u8, seconds: u64, millisecond: u16) -> [u8; TIME]
+    requires year { year < 10_000 }
+    requires month { month < 100 }
+    requires day { day < 100 }
+    requires millisecond { millisecond < 1_000 }
+    ensures { result ≡ moment_text year month day seconds millisecond }
+{
+    let century = two((year / 100) as u8);
+    let year = two((year % 100) as u8);
+    let month = two(month);
+    let day = two(day);
+    let hour = two((seconds / 3_600 % 24) as u8);
+    let minute = two((seconds / 60 % 60) as u8);
+    let second = two((seconds % 60) as u8);
+    let hundred = b'0' + (millisecond / 100) as u8;
+    let rest = two((millisecond % 100) as u8);
+    [
+        century[0], century[1], year[0], year[1], b'-', month[0], month[1], b'-', day[0], day[1],
+        b'T', hour[0], hour[1], b':', minute[0], minute[1], b':', second[0], second[1], b'.',
+        hundred, rest[0], rest[1], b'Z', b' ',
+    ]
 }
 
 /// A number below 100 as two decimal digits.
