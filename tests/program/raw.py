@@ -8,6 +8,7 @@ It says which tests failed, and nothing where none did. No test follows one that
 usage: raw.py YMX
 """
 
+import functools
 import os
 import re
 import signal
@@ -152,12 +153,13 @@ def without_origins(said):
 
 
 class Program:
-    """`ymx`, or another build of it, with these words, at most so many open files, and these variables beside its own."""
+    """`ymx`, or another build of it, with these words, at most so many open files beside the one by which it hears a signal, and
+    these variables beside its own."""
 
     running = []
 
     def __init__(self, *words, files=None, variables=None, build=None):
-        limit = [] if files is None else ["sh", "-c", f'ulimit -n {files} && exec "$@"', "sh"]
+        limit = [] if files is None else ["sh", "-c", f'ulimit -n {files + hears_a_signal()} && exec "$@"', "sh"]
         # Without a buffer, as `readline` and `communicate` read the same pipe.
         self.process = subprocess.Popen([*limit, build or sys.argv[1], *words], stdin=subprocess.DEVNULL,
                                         stdout=subprocess.PIPE, stderr=subprocess.PIPE, bufsize=0,
@@ -179,6 +181,18 @@ class Program:
         out, said = self.process.communicate()
         assert out == b"", f"on standard output {out!r}"
         return self.process.returncode, without_origins(said.decode())
+
+
+@functools.cache
+def hears_a_signal():
+    """Whether the program hears SIGUSR1, which takes a descriptor: one that is built without its parts in C doesn't."""
+    program = Program("remote", "-v", "--bind", ANY, "--target", ANY)
+    program.place()
+    folder = f"/proc/{program.process.pid}/fd"
+    files = [os.readlink(f"{folder}/{file}") for file in os.listdir(folder)]
+    program.process.kill()
+    program.end()
+    return "anon_inode:[eventfd]" in files
 
 
 def preloads(test):
