@@ -105,8 +105,51 @@ static void shrinks(void) {
     CHECK(held == 0);
 }
 
+enum { STREAMS = 40 };
+
+/* All that is due goes from one to the other. */
+static void carry(ymx_session *from, ymx_session *to) {
+    static unsigned char wire[65536];
+    int64_t count;
+    while ((count = ymx_emit(from, wire, sizeof wire)) > 0) CHECK(ymx_feed(to, wire, (size_t)count) == count);
+}
+
+/* Frames with no SYN are fed and emitted, and streams reset, forgotten and finished, without a request of memory. So many
+ * streams end here that a list which grew with them would have asked for more room several times. */
+static void asks_for_none(void) {
+    int refusals = 0;
+    unsigned char in[64];
+    ymx_session *client = make(YMX_CLIENT, &refusals), *server = make(YMX_SERVER, &refusals);
+    for (int id = 1; id < 2 * STREAMS; id += 2) {
+        CHECK(ymx_open(client) == id && ymx_write(client, (uint32_t)id, "hello", 5) == 5);
+        carry(client, server);
+        CHECK(ymx_accept(server) == id);
+    }
+    asked = 0;
+    carry(server, client);
+    for (uint32_t id = 1; id < 2 * STREAMS; id += 2) {
+        CHECK(ymx_write(server, id, "world", 5) == 5);
+        carry(server, client);
+        CHECK(ymx_read(client, id, in, sizeof in) == 5 && ymx_read(server, id, in, sizeof in) == 5);
+        if (id % 3 == 0) {
+            CHECK(ymx_reset(client, id) == 0);
+        } else {
+            CHECK(ymx_finish(client, id) == 0 && ymx_finish(server, id) == 0);
+        }
+        carry(client, server);
+        carry(server, client);
+        CHECK(ymx_forget(client, id) == 0 && ymx_forget(server, id) == 0);
+    }
+    carry(client, server);
+    CHECK(asked == 0);
+    ymx_free(client);
+    ymx_free(server);
+    CHECK(held == 0);
+}
+
 int main(void) {
     shrinks();
+    asks_for_none();
     asked = bytes = 0;
     CHECK(exchange() == 0);
     long all = asked, most = bytes, unsaid = 0;
@@ -116,9 +159,9 @@ int main(void) {
         CHECK(told == 0 || told == 1);
         unsaid += told == 0;
     }
-    /* Each side makes one stream, and takes a block and a place for it that its streams share. Without these nothing is
-     * lost, so nobody says so. */
-    CHECK(unsaid == 4);
+    /* Each side makes one stream, and takes a block for it that its streams share. Without that nothing is lost, so nobody
+     * says so. */
+    CHECK(unsaid == 2);
     printf("%ld allocations, %ld bytes in all\n", all, most);
     return 0;
 }

@@ -6,6 +6,7 @@ ghost use Rattle.ymx_memory.specs.Bounds.{widest_ring};
 use crate::Ring;
 use std::alloc::Global;
 use std::mem;
+use ymx_memory::{RefusedAllocation, vec_with_capacity};
 
 /// How many blocks are lent at most.
 const MOST_LENT: usize = 16;
@@ -16,6 +17,9 @@ const MOST_KEPT: usize = 32;
 /// How many are kept at most with those of which hardly any byte is in use: the rings of 64 streams. Each takes a few pages,
 /// and to get one from the system takes longer than to serve a short connection.
 const MOST_FRESH: usize = 128;
+
+/// The room that is made for them, so that none is asked for where a ring ends: `shrink` puts the lent ones beside them.
+const ROOM_FOR_KEPT: usize = MOST_FRESH + MOST_LENT;
 
 /// How many bytes such a block holds at most: a stream's first credit. A wider one is given back at once.
 const WIDEST_KEPT: usize = 262_144;
@@ -35,13 +39,13 @@ pub struct Warm {
 }
 
 impl Warm {
-    /// Makes one with no block. It takes no memory.
-    pub fn new(alloc: Global) -> Warm {
-        Warm {
-            lent: Vec::new(alloc),
+    /// Makes one with no block, and takes the memory for its lists: only `stock` takes more.
+    pub fn new(alloc: Global) -> Result<Warm, RefusedAllocation> {
+        Ok(Warm {
+            lent: vec_with_capacity(alloc, MOST_LENT)?,
             given: 0,
-            kept: Vec::new(alloc),
-        }
+            kept: vec_with_capacity(alloc, ROOM_FOR_KEPT)?,
+        })
     }
 
     /// Has one more block of this capacity to lend, unless it has more than there are other streams, or 16. Without
@@ -122,8 +126,8 @@ impl Warm {
         Some(block)
     }
 
-    /// Keeps the block of a ring that is gone, unless 32 are kept, or 128 where it isn't worn, it is wider than a stream's
-    /// first credit, or there is no memory to note it.
+    /// Keeps the block of a ring that is gone, unless 32 are kept, or 128 where it isn't worn, or it is wider than a
+    /// stream's first credit.
     pub(crate) fn keep(&mut self, block: Ring) {
         let most = if block.is_worn() {
             MOST_KEPT

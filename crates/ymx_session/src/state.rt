@@ -70,12 +70,13 @@ impl State {
         let pings = Pings::new(alloc)?;
         let answers = Answers::new(alloc)?;
         let outgoing = FrameBuffer::new(alloc)?;
+        let table = Table::new(alloc, window)?;
         Ok(State {
             alloc,
             role,
             status: Status::Running,
             next: first,
-            table: Table::new(alloc, window),
+            table,
             offered,
             pings,
             away: Away::new(),

@@ -4,7 +4,7 @@
 //! bytes of its stream would be unsent.
 #![tactic(auto)]
 
-ghost use Rattle.std.specs.Prelude.{◌≡◌, ◌^◌, ◌<◌, ◌≤◌, ◌↔◌, length, nat_eq, is_some, All, IsTrue, IsSome, MatchBool, MatchOption, OnOk, OnErr, None};
+ghost use Rattle.std.specs.Prelude.{◌≡◌, ◌^◌, ◌<◌, ◌≤◌, ◌↔◌, length, nat_eq, is_some, All, IsTrue, IsSome, MatchBool, MatchOption, IfOk, OnOk, OnErr, None};
 ghost use Rattle.std.specs.List.{IsDistinct};
 ghost use Rattle.std.specs.Map.{keys_of};
 ghost use Rattle.std.specs.Option.{option_copied};
@@ -68,22 +68,22 @@ impl Model for Table {
 }
 
 impl Table {
-    /// Makes an empty table for a session of this window, in bytes: from 262,144 to 16,777,216. It takes no
-    /// memory yet.
-    pub fn new(alloc: Global, window: u32) -> Table
+    /// Makes an empty table for a session of this window, in bytes: from 262,144 to 16,777,216. It takes
+    /// the memory for what it keeps of streams that are gone.
+    pub fn new(alloc: Global, window: u32) -> Result<Table, RefusedAllocation>
         requires narrowest { first_credit ≤ window }
         requires widest { window ≤ widest_window }
-        ensures { result ≡ new_table window }
+        ensures { IfOk result (λ table. table ≡ new_table window) }
     {
-        Table {
+        Ok(Table {
             window,
             records: IndexMap::new(alloc),
             turn: 0,
             due: DuePlaces::new(),
             unsent: 0,
             last: 0,
-            warm: Warm::new(alloc),
-        }
+            warm: Warm::new(alloc)?,
+        })
     }
 
     /// The window of the session, in bytes: from 262,144 to 16,777,216.
