@@ -4,8 +4,11 @@ ghost use Rattle.std.specs.Prelude.{ℕ, List, Option, Bool, ◌≡◌, ◌<◌,
 ghost use Rattle.std.specs.Io.KnownBytes.{Keeps, ReadConsumes, WriteAppends};
 ghost use Rattle.ymx_model.specs.devices.Devices.{CountsFailures};
 
+use thiserror::Error;
+
 /// A call on a device failed. Which way is the device's own affair.
-#[derive(Clone, Copy, Debug, PartialEq, Eq)]
+#[derive(Clone, Copy, Debug, PartialEq, Eq, Error)]
+#[error("DeviceFault")]
 pub struct DeviceFault;
 
 /// Where bytes come from.

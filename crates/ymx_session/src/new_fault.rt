@@ -3,21 +3,19 @@
 ghost use Rattle.ymx_session.specs.declared.new_fault.NewFault.TheVariants.{OutOfMemory as OutOfMemoryFault};
 ghost use Rattle.ymx_machine.specs.shared.Evidence.{evidence};
 
-use thiserror::Error;
+use std::error::Error;
+use std::fmt;
 use ymx_memory::RefusedAllocation;
 
 /// Why no session was made. It prints its name alone.
-#[derive(Clone, Copy, Debug, PartialEq, Eq, Error)]
+#[derive(Clone, Copy, Debug, PartialEq, Eq)]
 pub enum NewFault {
     /// 1: the window is below 262,144 bytes, or above 16,777,216 (flow control).
-    #[error("BadWindow")]
     BadWindow,
     /// 2: the first id is one that the peer opens: even at a client, odd at a server (stream
     /// identifiers).
-    #[error("BadFirst")]
     BadFirst,
     /// 3: there was no memory for the session. It holds the evidence: an allocation was refused.
-    #[error("OutOfMemory")]
     OutOfMemory(RefusedAllocation),
 }
 
@@ -30,3 +28,15 @@ impl From<RefusedAllocation> for NewFault {
         NewFault::OutOfMemory(refused)
     }
 }
+
+impl fmt::Display for NewFault {
+    fn fmt<W: fmt::Write>(&self, f: &mut fmt::Formatter<W>) -> fmt::Result {
+        f.write_str(match self {
+            NewFault::BadWindow => "BadWindow",
+            NewFault::BadFirst => "BadFirst",
+            NewFault::OutOfMemory(_) => "OutOfMemory",
+        })
+    }
+}
+
+impl Error for NewFault {}
