@@ -1,6 +1,6 @@
 //! Devices in memory, whose bytes and failures a contract sees.
 
-ghost use Rattle.std.specs.Prelude.{◌≡◌, ◌↔◌, ◌<◌, ◌≤◌, ◌^◌, ◌-◌, [], ◌++◌, ◌||◌, ◌==◌, length, take, drop, min, true, IsErr, IfOk, OnOk, OnErr, IsTrue, Some, None};
+ghost use Rattle.std.specs.Prelude.{◌≡◌, ◌↔◌, ◌<◌, ◌≤◌, ◌^◌, ◌-◌, [], ◌++◌, ◌||◌, ◌==◌, length, take, drop, min, true, false, IsErr, IfOk, OnOk, OnErr, IsTrue, Some, None};
 ghost use Rattle.std.specs.Io.KnownBytes.{Keeps, ReadConsumes, WriteAppends};
 ghost use Rattle.ymx_model.specs.devices.Devices.{CountsFailures, most_failures};
 ghost use Rattle.ymx_model.specs.devices.Memories.{call_fails, after_failure, is_turn, after_success, turn_after};
@@ -19,12 +19,12 @@ pub struct MemoryInlet<'a> {
 }
 
 impl<'a> Model for MemoryInlet<'a> {
-    ghost use Rattle.std.specs.Prelude.{◌<◌};
+    ghost use Rattle.std.specs.Prelude.{◌<◌, false};
     ghost use Rattle.ymx_model.specs.devices.Memories.{Memory};
 
     ghost Value = { Memory };
 
-    ghost view = { λ s. record { bytes = s.bytes.now; most = s.most; before_failure = s.before_failure; failures = s.failures } };
+    ghost view = { λ s. record { bytes = s.bytes.now; most = s.most; before_failure = s.before_failure; failures = s.failures; is_ended = false } };
 
     ghost invariant = { λ s. 0 < s.most };
 }
@@ -32,7 +32,7 @@ impl<'a> Model for MemoryInlet<'a> {
 impl<'a> MemoryInlet<'a> {
     /// An inlet that gives these bytes, as many a call as fit, and never fails.
     pub fn new(bytes: &'a [u8]) -> MemoryInlet<'a>
-        ensures { result ≡ record { bytes = bytes.entry.now; most = 2 ^ 64 - 1; before_failure = None; failures = 0 } }
+        ensures { result ≡ record { bytes = bytes.entry.now; most = 2 ^ 64 - 1; before_failure = None; failures = 0; is_ended = false } }
     {
         MemoryInlet {
             bytes,
@@ -98,6 +98,7 @@ pub struct MemoryOutlet {
     most: usize,
     before_failure: Option<u64>,
     failures: u64,
+    is_ended: bool,
 }
 
 impl Model for MemoryOutlet {
@@ -106,7 +107,7 @@ impl Model for MemoryOutlet {
 
     ghost Value = { Memory };
 
-    ghost view = { λ s. record { bytes = s.bytes.items; most = s.most; before_failure = s.before_failure; failures = s.failures } };
+    ghost view = { λ s. record { bytes = s.bytes.items; most = s.most; before_failure = s.before_failure; failures = s.failures; is_ended = s.is_ended } };
 
     ghost invariant = { λ s. 0 < s.most };
 }
@@ -115,13 +116,14 @@ impl MemoryOutlet {
     /// An outlet that has taken nothing, takes all bytes of a call, and fails only where there is no
     /// memory for them.
     pub fn new(alloc: Global) -> MemoryOutlet
-        ensures { result ≡ record { bytes = []; most = 2 ^ 64 - 1; before_failure = None; failures = 0 } }
+        ensures { result ≡ record { bytes = []; most = 2 ^ 64 - 1; before_failure = None; failures = 0; is_ended = false } }
     {
         MemoryOutlet {
             bytes: Vec::new(alloc),
             most: usize::MAX,
             before_failure: None,
             failures: 0,
+            is_ended: false,
         }
     }
 
@@ -163,7 +165,7 @@ impl Outlet for MemoryOutlet {
 
     ghost failures = { λ s. s.failures };
 
-    ghost is_ended = { λ _. true };
+    ghost is_ended = { λ s. s.is_ended };
 
     fn push(&mut self, bytes: &[u8]) -> Result<usize, DeviceFault>
         ensures within { IfOk result (λ count. count ≤ length bytes.now) }
@@ -188,10 +190,12 @@ impl Outlet for MemoryOutlet {
         ensures kept { Keeps (Some self.old.bytes) (Some self.new.bytes) }
         ensures counted { CountsFailures result self.old.failures self.new.failures }
         ensures fails { IsErr result ↔ IsTrue (call_fails self.old) }
-        ensures ok { OnOk result (self.new ≡ after_success self.old self.old.bytes) }
+        ensures ok { OnOk result (self.new ≡ record (after_success self.old self.old.bytes) { is_ended = true }) }
         ensures err { OnErr result (self.new ≡ after_failure self.old) }
     {
-        next_call(&mut self.before_failure, &mut self.failures)
+        next_call(&mut self.before_failure, &mut self.failures)?;
+        self.is_ended = true;
+        Ok(())
     }
 }
 

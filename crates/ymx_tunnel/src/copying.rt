@@ -1,6 +1,6 @@
 //! Copies between a device and a half of a stream.
 
-ghost use Rattle.std.specs.Prelude.{Result, Ok, Err, ◌≡◌, ◌⊎◌, ◌<◌, length, IsTrue};
+ghost use Rattle.std.specs.Prelude.{Result, Ok, Err, ◌≡◌, ◌⊎◌, ◌<◌, length, true, IsTrue};
 ghost use Rattle.ymx_model.specs.devices.Devices.{has_failed};
 ghost use Rattle.ymx_hub.specs.declared.faults.HubFault.{HubFault as Fault};
 ghost use Rattle.ymx_tunnel.specs.Copies.{CopiesIn, CopiesOut, EndsWell, StopsAt, StopsFor};
@@ -105,6 +105,8 @@ pub fn copy_out<W: Wait, S: Source, O: Outlet>(
     // A beginning of what the source gave; at `End` all of it.
     ensures moved { CopiesOut (S.given source) (S.given_in_all result.left) (O.contents writer.old) (O.contents writer.new) result.bytes result.why }
     ensures ended { result.why ≡ CopyWhy.End → S.EndedBefore result.left }
+    // Then the writer was ended.
+    ensures tells { result.why ≡ CopyWhy.End → O.is_ended writer.new ≡ true }
     // At any other end the writer failed, or the source had refused by a fault for that reason.
     ensures why { EndsWell result.why result.lack ⊎ StopsFor (S.RefusedBefore result.left) CopyWhy.Sink CopyWhy.Source result.why result.lack }
     // The writer is blamed if it failed, and only then.

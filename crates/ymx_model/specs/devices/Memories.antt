@@ -2,12 +2,13 @@
 use Rattle.std.specs.Prelude.{ℕ, ◌==◌, ◌||◌, ◌-◌, if◌then◌else◌, ◌+◌, List, Option, Bool, false, None, Some, min}
 use Rattle.ymx_model.specs.devices.Devices.{most_failures}
 
--- a device in memory: its bytes (still to give, or taken), the most that a call moves, how many calls come before the one that fails, and how many have failed
+-- a device in memory: its bytes (still to give, or taken), the most that a call moves, how many calls come before the one that fails, how many have failed, and whether it was ended
 pub record Memory : Type 0 where
   pub bytes : List ℕ
   pub most : ℕ
   pub before_failure : Option ℕ
   pub failures : ℕ
+  pub is_ended : Bool
 
 -- the turn of the call that fails has come
 abbrev pub is_turn : Option ℕ → Bool
