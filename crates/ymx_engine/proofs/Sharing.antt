@@ -1,31 +1,35 @@
--- While another connection waits, the one that has its turn gives one frame at most.
-use Rattle.std.proofs.Common.{◌≡◌, ◌⊎◌, inl, inr, ℕ, ◌<◌, ◌≤◌, ◌+◌, ◌==◌, ◌&&◌, if◌then◌else◌, length, Bool, true, false, refl, arith}
+-- While another connection waits that had no turn since it came to have something to move, the one that has its turn gives one frame at most.
+use Rattle.std.proofs.Common.{◌≡◌, ◌⊎◌, inl, inr, ℕ, zero, suc, ◌<◌, ◌≤◌, ◌==◌, ◌∷◌, [], List, if◌then◌else◌, length, Bool, true, false, refl, sym, subst, arith}
+use Rattle.std.specs.Prelude.{Contains}
 use Rattle.std.proofs.lemmas.Bool.Decides.{nat_tests}
 use Rattle.ymx_engine.specs.Devices.{one_frame, one_read}
 use Rattle.ymx_engine.specs.Tunnels.{Tunnel}
-use Rattle.ymx_engine.specs.Turns.{Lines, IsBehind, is_idle}
+use Rattle.ymx_engine.specs.Turns.{Lines, IsFirst, takes_busy}
 use Rattle.ymx_engine.specs.Work.{ServesFirst, takes_more}
-use Rattle.ymx_engine.proofs.Turning.{behind_few}
 
-not_both : (a b : ℕ) → 0 < a + b → ((a == 0) && (b == 0)) ≡ false
-not_both a b some = by (a == 0) (b == 0) refl refl
+is_some : (count : ℕ) → 0 < count → (count == 0) ≡ false
+is_some count some = by (count == 0) refl
   where
-    by : (x y : Bool) → (a == 0) ≡ x → (b == 0) ≡ y → (x && y) ≡ false
-    by false y e f = refl
-    by true false e f = refl
-    by true true e f = absurd (grind (arith, nat_tests))
+    by : (x : Bool) → (count == 0) ≡ x → x ≡ false
+    by false e = refl
+    by true e = absurd (grind (arith, nat_tests))
 
-not_idle : (id n : ℕ) (t : Lines) → IsBehind id n t → is_idle t ≡ false
-not_idle id n t far = let few = behind_few id n t far in not_both (length t.fresh) (length t.busy) (omega (arith, few))
-
-few_of : (takes idle : Bool) (gave : ℕ) → gave ≤ (if takes then (if idle then one_read else one_frame) else 0) → idle ≡ false → gave ≤ one_frame
+few_of : (takes none : Bool) (gave : ℕ) → gave ≤ (if takes then (if none then one_read else one_frame) else 0) → none ≡ false → gave ≤ one_frame
 few_of true true gave h e = let no : true ≡ false = e in absurd cc
 few_of true false gave h e = h
-few_of false idle gave h e = omega (arith, h)
+few_of false none gave h e = omega (arith, h)
 
-pub among : (id gave : ℕ) (a b : Tunnel) → ServesFirst id gave a b → (other n : ℕ) → IsBehind other n a.lines → (other ≡ id) ⊎ (gave ≤ one_frame)
-among id gave a b x other n far = by (x.first.comes other n far)
+or_behind : (first other : ℕ) (rest : List ℕ) → Contains (first ∷ rest) other → (other ≡ first) ⊎ Contains rest other
+or_behind first other rest (zero, less, e) = inl (sym e)
+or_behind first other rest (suc k, less, e) = inr (k, omega (arith, less), e)
+
+waits_on : (busy : Bool) (id other : ℕ) (old new : Lines) → IsFirst busy id old new → Contains old.fresh other → (other ≡ id) ⊎ Contains new.fresh other
+waits_on true id other old new x waits = inr (subst (λ (v : List ℕ). Contains v other) (sym x.1) waits)
+waits_on false id other old new x waits = or_behind id other new.fresh (subst (λ (v : List ℕ). Contains v other) x.0 waits)
+
+pub among : (id gave : ℕ) (a b : Tunnel) → ServesFirst id gave a b → (other : ℕ) → Contains a.lines.fresh other → (other ≡ id) ⊎ (gave ≤ one_frame)
+among id gave a b x other waits = by (waits_on (takes_busy a.lines) id other a.lines x.taken x.first.first waits)
   where
-    by : ((other ≡ id) ⊎ ((m : ℕ) × (m < n) × IsBehind other m x.taken)) → (other ≡ id) ⊎ (gave ≤ one_frame)
+    by : ((other ≡ id) ⊎ Contains x.taken.fresh other) → (other ≡ id) ⊎ (gave ≤ one_frame)
     by (inl same) = inl same
-    by (inr (m, less, nearer)) = inr (few_of (takes_more a) (is_idle x.taken) gave x.served.turn.within (not_idle other m x.taken nearer))
+    by (inr (k, less, e)) = inr (few_of (takes_more a) (length x.taken.fresh == 0) gave x.served.turn.within (is_some (length x.taken.fresh) (omega (arith, less))))

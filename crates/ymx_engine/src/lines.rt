@@ -33,6 +33,8 @@ pub(crate) struct Entry<D> {
     is_queued: bool,
     /// It waits until nothing waits for the wire.
     is_held: bool,
+    /// The queue that it was taken from as it was held back.
+    held_from: Queue,
 }
 
 /// The queues in which one waits for a turn.
@@ -48,7 +50,8 @@ pub(crate) enum Queue {
 /// bytes wait for the wire.
 ///
 /// Those that had a turn and have more to move stand in a queue of their own, and the two queues take turns: so one
-/// that moves few bytes now and then does not wait behind all that move as many as they can.
+/// that moves few bytes now and then does not wait behind all that move as many as they can. One that was held back
+/// stands in the same queue again.
 #[derive(Drop)]
 pub(crate) struct Lines<D: Device + Drop> {
     pub(crate) by_id: IndexMap<u32, Entry<D>>,
@@ -186,6 +189,7 @@ impl<D: Device + Drop> Lines<D> {
             line,
             is_queued: false,
             is_held: false,
+            held_from: Queue::Fresh,
         };
         let _ = ymx_memory::insert(&mut self.by_id, id, entry);
         self.enqueue(id, Queue::Fresh);
@@ -264,6 +268,13 @@ impl<D: Device + Drop> Lines<D> {
         self.fresh.is_empty() && self.busy.is_empty()
     }
 
+    /// Whether one waits for a turn that had none since it came to have something to move.
+    pub(crate) fn has_fresh(&self) -> bool
+        ensures { result ≡ not (length self.now.fresh == 0) }
+    {
+        !self.fresh.is_empty()
+    }
+
     /// Whether one that was to wait for a turn does not.
     pub(crate) fn has_missed(&self) -> bool
         ensures { result ≡ self.now.missed }
@@ -314,13 +325,26 @@ impl<D: Device + Drop> Lines<D> {
         ensures marked { IsSome (line_of id self.old) → (held_mark id self.new ≡ Some true) ⊎ (self.new.missed ≡ true) }
         ensures once { held_mark id self.old ≡ Some true → self.new.held ≡ self.old.held }
     {
+        let queue = self.last_queue();
         if let Some(found) = self.by_id.get_mut(&id) {
             if !found.is_held {
                 match ymx_memory::push_back(&mut self.held, id) {
-                    Ok(()) => found.is_held = true,
+                    Ok(()) => {
+                        found.is_held = true;
+                        found.held_from = queue;
+                    }
                     Err(refused) => self.missed = Some(refused),
                 }
             }
+        }
+    }
+
+    /// The queue from which the last was taken.
+    fn last_queue(&self) -> Queue {
+        if self.is_for_busy {
+            Queue::Fresh
+        } else {
+            Queue::Busy
         }
     }
 
@@ -372,7 +396,16 @@ impl<D: Device + Drop> Lines<D> {
             let Some(id) = self.let_go() else {
                 return;
             };
-            self.enqueue(id, Queue::Busy);
+            let queue = self.held_from(id);
+            self.enqueue(id, queue);
+        }
+    }
+
+    /// The queue that one was taken from as it was held back.
+    fn held_from(&self, id: u32) -> Queue {
+        match self.by_id.get(&id) {
+            Some(found) => found.held_from,
+            None => Queue::Busy,
         }
     }
 

@@ -1,6 +1,6 @@
 //! The type `Tunnel`: how it is made, what events say of it, and the turns of its connections.
 
-ghost use Rattle.std.specs.Prelude.{ℕ, [], ◌≡◌, ◌⊎◌, ◌≤◌, ◌<◌, true, false, length, IfOk, IfSome, IfNone, None, Some};
+ghost use Rattle.std.specs.Prelude.{ℕ, [], ◌≡◌, ◌⊎◌, ◌≤◌, ◌<◌, true, false, length, IfOk, IfSome, IfNone, None, Some, Contains};
 ghost use Rattle.ymx_machine.specs.declared.types.Call.TheVariants as call;
 ghost use Rattle.ymx_machine.specs.declared.types.Reply.TheVariants as reply;
 ghost use Rattle.ymx_model.specs.declared.types.Event.TheVariants as event;
@@ -13,7 +13,7 @@ ghost use Rattle.ymx_engine.specs.Devices.{IsNoted, IsEnded, IsShut, one_frame, 
 ghost use Rattle.ymx_engine.specs.Engines.{KeepsWire};
 ghost use Rattle.ymx_engine.specs.Runs.{Runs, Stays, Rests};
 ghost use Rattle.ymx_engine.specs.Served.{Serving, ServingBut};
-ghost use Rattle.ymx_engine.specs.Turns.{Line as LineValue, line_of, IsBehind, IsIdle, Notes, KeepsLines, KeepsOthers};
+ghost use Rattle.ymx_engine.specs.Turns.{Line as LineValue, line_of, IsIdle, Notes, KeepsLines, KeepsOthers};
 ghost use Rattle.ymx_engine.specs.Work.{ServesFirst, HasItsTurn, share, takes_more};
 
 use crate::block::Block;
@@ -135,9 +135,9 @@ impl<D: Device + Drop, W: Device + Drop> Tunnel<D, W> {
 
     // ---- turns
 
-    /// Serves the connection whose turn it is, with its own device: at most four writes to it, and then one read from it, of a
-    /// frame while another connection waits and else of 131,072 bytes, unless bytes wait that the wire doesn't take, or many
-    /// wait. `None` where none waits for a turn.
+    /// Serves the connection whose turn it is, with its own device: at most four writes to it, and then one read from it: of a
+    /// frame while another waits that had no turn since it came to have something to move, and else of 131,072 bytes. It isn't
+    /// read while bytes wait that the wire doesn't take, or many wait. `None` where none waits for a turn.
     pub fn serve_next(&mut self) -> Option<Served>
         ensures runs { Runs self.old self.new }
         ensures stays { Stays self.old self.new }
@@ -145,8 +145,8 @@ impl<D: Device + Drop, W: Device + Drop> Tunnel<D, W> {
         ensures none { IfNone result (IsIdle self.old.lines) }
         // The first of the queue whose turn it is has its turn, and each other that waits comes nearer.
         ensures turn { IfSome result (λ served. ServesFirst served.id served.gave self.old self.new) }
-        // While another waits, it gives one frame at most: so who waits behind n others waits for n frames.
-        ensures among { IfSome result (λ served. (id n : ℕ) → IsBehind id n self.old.lines → (id ≡ served.id) ⊎ (served.gave ≤ one_frame)) }
+        // While another waits that had no turn since it came to have something to move, it gives one frame at most.
+        ensures among { IfSome result (λ served. (id : ℕ) → Contains self.old.lines.fresh id → (id ≡ served.id) ⊎ (served.gave ≤ one_frame)) }
         ensures memory { self.new.no_memory ≡ self.old.no_memory }
     {
         let id = self.lines.next()?;
@@ -179,7 +179,7 @@ impl<D: Device + Drop, W: Device + Drop> Tunnel<D, W> {
         if !self.takes_more() {
             return 0;
         }
-        if self.lines.is_idle() { BLOCK } else { FRAME }
+        if self.lines.has_fresh() { FRAME } else { BLOCK }
     }
 
     /// Whether connections may be read: not while bytes wait that the wire doesn't take, nor while many wait.

@@ -30,4 +30,4 @@ pub returns-clause-turn : goal.returns-clause-turn
 returns-clause-turn g c = (served g c).turn
 
 pub returns-clause-among : goal.returns-clause-among
-returns-clause-among g c = λ id n. among c.in_ok-id.id c.serve-gave.result _ _ (served g c).turn id n
+returns-clause-among g c = λ id waits. among c.in_ok-id.id c.serve-gave.result _ _ (served g c).turn id waits
