@@ -1,13 +1,9 @@
 //! The headline over definitions: two sessions joined by pipes answer as the queue machine, however the
-//! bytes are cut and wherever they stop. First stands what holds of whole runs, and then, step by step, the
-//! laws that it is made of. Each public function is a law: it does nothing, and its contract is the theorem.
+//! bytes are cut and wherever they stop. The laws of single steps, of which it is made, are lemmas among the
+//! proofs. Each public function is a law: it does nothing, and its contract is the theorem.
 ghost use Rattle.std.specs.Prelude.{All, ◌≡◌, ◌≤◌, ◌+◌, ◌*◌, ℕ, List, length, Bool, true, false};
 ghost use Rattle.ymx_machine.specs.declared.types.Answer.{Answer};
-ghost use Rattle.ymx_machine.specs.shared.Events.{Call};
-ghost use Rattle.ymx_machine.specs.declared.types.Direction.{Direction};
 ghost use Rattle.ymx_machine.specs.declared.types.Step.{Step};
-ghost use Rattle.ymx_machine.specs.declared.types.Step.TheVariants as step;
-ghost use Rattle.ymx_machine.specs.declared.types.Side.{Side};
 ghost use Rattle.ymx_machine.specs.declared.types.Side.TheVariants.{A, B};
 ghost use Rattle.ymx_header.specs.declared.header.Header.{Header};
 ghost use Rattle.ymx_header.specs.Headers.{header_of};
@@ -21,7 +17,7 @@ ghost use Rattle.ymx_model.specs.world.Worlds.{World, Steps, Runs, new_world, is
 ghost use Rattle.ymx_model.specs.world.UnderWay.{IsUnderWay};
 ghost use Rattle.ymx_model.specs.world.Load.{world_load};
 ghost use Rattle.ymx_machine.specs.machine.Machines.{Machine, new_machine};
-ghost use Rattle.ymx_machine.specs.machine.Runs.{MachineRun, IsStillMachine};
+ghost use Rattle.ymx_machine.specs.machine.Runs.{IsStillMachine};
 ghost use Rattle.ymx_headline.specs.machine.Runs.{ObeysAt, StillRun};
 ghost use Rattle.ymx_headline.specs.machine.Faces.{DeliversWithin};
 ghost use Rattle.ymx_headline.specs.world.Texts.{AreWithin, AreFrames};
@@ -29,7 +25,7 @@ ghost use Rattle.ymx_headline.specs.Laws.{AreGood, HasRun, IsOpenWorld, Carries,
 ghost use Rattle.ymx_headline.specs.worked.Plays.{play};
 ghost use Rattle.ymx_headline.specs.worked.Words.{start};
 ghost use Rattle.ymx_headline.specs.Example.{example_steps, example_answers};
-ghost use Rattle.ymx_headline.specs.Agrees.{RunsAlike, Agrees, Follows};
+ghost use Rattle.ymx_headline.specs.Agrees.{RunsAlike, Agrees};
 ghost use Rattle.ymx_headline.specs.QuietRuns.{QuietRuns};
 
 /// The headline. However the bytes between two sessions are cut, and wherever they stop, every run of them
@@ -80,42 +76,6 @@ pub fn nothing_sticks()
         (most : ℕ) × ((steps : List Step) (answers : List Answer) (v : World) → KeepsCarrying may steps answers w v → length steps ≤ most) }
     ensures one_answer { (no_memory : Bool) (h : Header) (s : Session) → length (head_comes no_memory h s).answers ≤ length s.answers + 1 }
     ensures none_to_an_answer { (no_memory : Bool) (response : Response) (s : Session) → (head_comes no_memory (header_of (answer_frame response)) s).answers ≡ s.answers }
-{}
-
-/// A new world and a new machine agree; and runs that go alike are a run of each.
-pub fn begin_alike()
-    ensures begins { (window_a first_a window_b first_b : ℕ) → AreGood window_a first_a window_b first_b →
-        Agrees (new_world window_a first_a window_b first_b) (new_machine window_a first_a window_b first_b) }
-    ensures runs { (may : Choice → Session → Bool) (steps : List Step) (answers : List Answer) (w v : World) (m n : Machine) →
-        RunsAlike may steps answers w m v n → Runs may steps answers w v × MachineRun steps answers m n }
-{}
-
-/// Each call has an answer that the machine may give, and a record that went is a release.
-pub fn calls_follow()
-    ensures { (may : Choice → Session → Bool) (side : Side) (c : Call) (given : Answer) (w v : World) (m : Machine) →
-        Steps may (step.At side c) given w v → Agrees w m → Follows (step.At side c) given v m }
-{}
-
-/// An emission, whatever its room and whatever the order of due frames, is no move of the machine, but that
-/// records given up may go.
-pub fn emissions_follow()
-    ensures { (may : Choice → Session → Bool) (side : Side) (room : ℕ) (given : Answer) (w v : World) (m : Machine) →
-        Steps may (step.Emit side room) given w v → Agrees w m → Follows (step.Emit side room) given v m }
-{}
-
-/// A delivery, however many bytes it feeds, is moves of the machine at its receiver, which finds no fault and
-/// counts exactly the streams that it refuses for want of memory.
-pub fn deliveries_follow()
-    ensures { (may : Choice → Session → Bool) (d : Direction) (count : ℕ) (given : Answer) (w v : World) (m : Machine) →
-        Steps may (step.Deliver d count) given w v → Agrees w m → Follows (step.Deliver d count) given v m }
-{}
-
-/// A direction that stops, and an end that is told, are steps of the machine with the same answer.
-pub fn ends_follow()
-    ensures stops { (may : Choice → Session → Bool) (d : Direction) (given : Answer) (w v : World) (m : Machine) →
-        Steps may (step.Stop d) given w v → Agrees w m → Follows (step.Stop d) given v m }
-    ensures ends { (may : Choice → Session → Bool) (d : Direction) (given : Answer) (w v : World) (m : Machine) →
-        Steps may (step.End d) given w v → Agrees w m → Follows (step.End d) given v m }
 {}
 
 /// While nothing is due and nothing is under way between the sessions, the machine is still. So a run that
