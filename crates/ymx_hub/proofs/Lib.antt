@@ -7,7 +7,6 @@ pub mod Given
 pub mod Steps
 pub mod WholeHistories
 pub mod Gained
-pub mod Alone
 pub mod Waits
 pub mod Written
 pub mod Ended

@@ -4,7 +4,6 @@ pub mod Books
 pub mod Steps
 pub mod WholeHistories
 pub mod Gained
-pub mod Alone
 pub mod Turns
 pub mod Halves
 pub mod Pumped

@@ -11,7 +11,6 @@
 //! `Booked` is what stands under the lock, and uses no threads: a session, the log of its events, and which streams are half
 //! spent. `book` is the door that each event goes through, which adds its entry. Its calls stand in `opening` (a stream is
 //! handed out), `stream_calls` (bytes, and halves that are spent), `session_calls` and `wire_calls` (what comes and goes).
-//! `one_caller` is a caller alone, in one thread.
 #![tactic(auto)]
 
 mod acceptor;
@@ -23,7 +22,6 @@ mod faults;
 mod halves;
 mod hub;
 mod moving;
-mod one_caller;
 mod opener;
 mod opening;
 mod refused_seat;
@@ -48,7 +46,6 @@ pub use faults::HubFault;
 pub use halves::{ReadHalf, WriteHalf};
 pub use hub::{FirstSeats, Hub};
 pub use moving::{FedAndSettled, Turn};
-pub use one_caller::{end_alone, feed_alone, seat_alone};
 pub use opener::{Opener, open_at_seat, open_with_at_seat};
 pub use refused_seat::RefusedSeat;
 pub use released_ids::RefusedRelease;
