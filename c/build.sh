@@ -4,6 +4,7 @@
 #                                                lib/pkgconfig/ymx.pc, lib/cmake/ymx/
 #        c/build.sh [--prove] install [FOLDER]   builds, in a folder that goes if none is named, and installs
 #        c/build.sh uninstall                    takes away what `install` of the same version has put there
+# FOLDER has a / in it, so that no mistyped word is taken for one.
 # PREFIX says where to: /usr/local, if it is left out. LIBDIR is where the libraries lie, below PREFIX unless it begins
 # with a /: lib, if it is left out. With DESTDIR all is put below that folder, to be moved from there to PREFIX. Modes are
 # the same under any umask.
@@ -53,6 +54,8 @@ usage() {
 
 case ${1-} in
 -*) usage ;;
+'' | */*) ;;
+*) usage ;;
 esac
 [ $# -le 1 ] || usage
 [ "$task" != uninstall ] || [ "$prove $#" = 'no 0' ] || usage
@@ -86,6 +89,17 @@ $(printf '%s\n' "$pages" | sed "s|^|$(printf '%s\n' "$prefix" | sed 's/[\\&|]/\\
 # of the program and of the library
 license=$prefix/share/doc/ymx/LICENSE
 
+# may_write FOLDER: ends the script unless the folder, or the nearest above it that is there, may be written
+may_write() {
+    place=$1
+    until [ -e "$place" ]; do place=$(dirname "$place"); done
+    [ -w "$place" ] || { echo "c/build.sh: $place can't be written: be root, or name another place by PREFIX" >&2; exit 1; }
+}
+
+[ "$task" = build ] || for folder in "$prefix/include" "$libdir" "$prefix/share/man/man3" "$prefix/share/doc"; do
+    may_write "$destdir$folder"
+done
+
 if [ "$task" = uninstall ]; then
     printf '%s\n' "$files" | while read -r file; do
         rm -f "$destdir$file"
@@ -110,6 +124,21 @@ elif [ "$task" = install ]; then
 else
     target=$here/out
 fi
+
+# tool NAME: the one that belongs to the compiler
+tool() {
+    # shellcheck disable=SC2086
+    $compiler "-print-prog-name=$1" 2> /dev/null || echo "$1"
+}
+ar=$(tool ar)
+as=$(tool as)
+ld=$(tool ld)
+nm=$(tool nm)
+objcopy=$(tool objcopy)
+objdump=$(tool objdump)
+for it in "${compiler%% *}" "$ar" "$as" "$ld" "$nm" "$objcopy" "$objdump"; do
+    command -v "$it" > /dev/null || { echo "c/build.sh needs $it, a C compiler and GNU binutils" >&2; exit 1; }
+done
 mkdir -p "$target/include" "$target/lib/pkgconfig" "$target/lib/cmake/ymx"
 target=$(cd "$target" && pwd)
 
@@ -140,18 +169,6 @@ else
     "$root/release/prove.py" --kept --target "$processor" --libraries "$scratch" > "$scratch/log" 2>&1 || { cat "$scratch/log" >&2; exit 1; }
     mv "$scratch/$processor.c.o" "$scratch/ymx_c.o"
 fi
-
-# tool NAME: the one that belongs to the compiler
-tool() {
-    # shellcheck disable=SC2086
-    $compiler "-print-prog-name=$1" 2> /dev/null || echo "$1"
-}
-ar=$(tool ar)
-as=$(tool as)
-ld=$(tool ld)
-nm=$(tool nm)
-objcopy=$(tool objcopy)
-objdump=$(tool objdump)
 
 # One object of all three parts: what is proved, its heap over malloc and free, and ymx.c. Only ymx.h's names stay visible.
 # The release has the heap with it.

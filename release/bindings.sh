@@ -8,17 +8,24 @@ set -euo pipefail
 here=$(cd "$(dirname "$0")" && pwd)
 root=$(cd "$here/.." && pwd)
 [ $# = 1 ] || { echo 'usage: release/bindings.sh FOLDER' >&2; exit 2; }
+compilers="${CC_x86_64-cc} ${CC_aarch64-aarch64-linux-gnu-gcc}"
+for tool in python3 readelf git $compilers; do
+    command -v "$tool" > /dev/null || { echo "release/bindings.sh needs $tool" >&2; exit 1; }
+done
 mkdir -p "$1"
-to=$(cd "$1" && pwd)
+folder=$(cd "$1" && pwd)
 scratch=$(mktemp -d)
+# all come to the folder at the end, so that one that fails leaves nothing there
+to=$scratch/packed
+mkdir "$to"
 trap 'rm -rf "$scratch"' EXIT
 umask 022
 SOURCE_DATE_EPOCH=$("$here/when.sh")
 export SOURCE_DATE_EPOCH
 version=$("$here/version.sh")
 for target in x86_64 aarch64; do
-    compiler=CC_$target
-    compiler=${!compiler-$([ $target = x86_64 ] && echo cc || echo aarch64-linux-gnu-gcc)}
+    compiler=${compilers%% *}
+    compilers=${compilers#* }
     CC=$compiler "$root/c/build.sh" "$scratch/$target" > "$scratch/said" 2>&1 || { cat "$scratch/said" >&2; exit 1; }
     strip=$($compiler -print-prog-name=strip)
     cp "$scratch/$target/lib/libymx.so.$version" "$scratch/$target.so"
@@ -32,8 +39,7 @@ done
 
 # copy FOLDER NAME: a binding as the repository has it, and nothing that was built
 copy() {
-    rm -rf "${to:?}/$2"
-    mkdir -p "$to/$2"
+    mkdir "$to/$2"
     (cd "$root/bindings/$1" && git ls-files -z . | tar --null -cf - -T -) | tar -xf - -C "$to/$2"
     cp "$root/LICENSE" "$to/$2/"
 }
@@ -56,3 +62,5 @@ for target in x86_64 aarch64; do
 done
 cp "$root/c/ymx.h" "$to/rust/ymx-sys/bundled/"
 (cd "$to" && find . -type f \( -name '*.whl' -o -name libymx.a \) | LC_ALL=C sort | xargs sha256sum)
+rm -rf "${folder:?}/go" "${folder:?}/rust"
+mv "$to"/* "$folder/"

@@ -8,9 +8,15 @@ set -euo pipefail
 here=$(cd "$(dirname "$0")" && pwd)
 root=$(cd "$here/.." && pwd)
 [ $# = 1 ] || { echo 'usage: release/deb.sh FOLDER' >&2; exit 2; }
+for tool in dpkg-deb readelf "${CC_amd64-cc}" "${CC_arm64-aarch64-linux-gnu-gcc}"; do
+    command -v "$tool" > /dev/null || { echo "release/deb.sh needs $tool" >&2; exit 1; }
+done
 mkdir -p "$1"
-to=$(cd "$1" && pwd)
+folder=$(cd "$1" && pwd)
 scratch=$(mktemp -d)
+# all come to the folder at the end, so that one that fails leaves nothing there
+to=$scratch/packed
+mkdir "$to"
 trap 'rm -rf "$scratch"' EXIT
 umask 022
 SOURCE_DATE_EPOCH=$("$here/when.sh")
@@ -121,4 +127,5 @@ program x86_64 amd64
 program aarch64 arm64
 library x86_64 amd64 "${CC_amd64-cc}"
 library aarch64 arm64 "${CC_arm64-aarch64-linux-gnu-gcc}"
-(cd "$to" && sha256sum -- *_"$package_version"_*.deb)
+(cd "$to" && sha256sum -- *.deb)
+mv "$to"/*.deb "$folder/"

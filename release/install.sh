@@ -5,8 +5,7 @@
 # With DESTDIR all is put below that folder, to be moved from there to PREFIX. Modes are the same under any umask. fish
 # finds its completions below PREFIX where XDG_DATA_DIRS names PREFIX/share; for /usr/local they lie in /etc too. The
 # program is the one that lies beside this script, as in the archives of release/tar.sh, or that of ./ymx: the released one,
-# where it was made from these very sources. The services' files of options, in /etc/ymx, are the user's: none is made or
-# taken away.
+# where it was made from these very sources. The services' files of options are the user's: none is made or taken away.
 set -eu
 here=$(cd "$(dirname "$0")" && pwd)
 root=$(cd "$here/.." && pwd)
@@ -59,6 +58,23 @@ place_of() {
     esac
 }
 
+# may_write PATH: ends the script unless it may be written, or the nearest folder above it that is there
+may_write() {
+    nearest=$1
+    until [ -e "$nearest" ]; do nearest=$(dirname "$nearest"); done
+    [ -w "$nearest" ] || { echo "release/install.sh: $nearest can't be written: be root, or name another PREFIX" >&2; exit 1; }
+}
+
+# systemd looks below these prefixes alone, for services whose options stand there
+options=
+case $prefix in
+/usr | /usr/local) options=$destdir/etc/ymx ;;
+esac
+printf '%s\n' "$files" | while read -r _ _ file; do
+    may_write "$(dirname "$(place_of "$file")")"
+done
+[ -z "$options" ] || may_write "$(dirname "$options")"
+
 # sweep FOLDER: it goes where it is empty, and those above it, but none that a system has from its start
 sweep() {
     case $1 in
@@ -74,6 +90,7 @@ if [ $task = uninstall ]; then
         rm -f "$(place_of "$file")"
         sweep "$(dirname "$(place_of "$file")")"
     done
+    [ -z "$options" ] || sweep "$options"
     case $prefix in
     '' | /usr | /usr/local) ;;
     *) rmdir "$place/bin" "$place/lib" "$place/share/man" "$place/share" "$place" 2> /dev/null || true ;;
@@ -104,6 +121,7 @@ for end in local remote; do
 done
 # for the folders that are made
 umask 022
+[ -z "$options" ] || mkdir -p "$options"
 printf '%s\n' "$files" | while read -r mode source file; do
     to=$(place_of "$file")
     mkdir -p "$(dirname "$to")"

@@ -20,7 +20,8 @@ if ! "$root/release/library.sh" released; then
 fi
 (cd "$root" && find c release crates.txt HANDLES examples/c crates -name out -prune -o -type f -print | tar -cf - -T -) | tar -xf - -C "$scratch"
 without_rt=$(echo "$PATH" | tr : '\n' | while read -r folder; do [ -x "$folder/rt" ] || echo "$folder"; done | paste -sd:)
-PATH=$without_rt c/build.sh built || fail 'the library does not build without a toolchain'
+PATH=$without_rt c/build.sh ./built || fail 'the library does not build without a toolchain'
+if c/build.sh instal 2> said || [ -e instal ]; then fail 'a mistyped word is taken for a folder'; fi
 cc -o pair -Ibuilt/include examples/c/pair.c built/lib/libymx.a
 ./pair
 
@@ -31,5 +32,5 @@ gzip -9nc off > "$packed"
 if release/library.sh off_too; then fail 'a library that is one byte off passes for the release'; fi
 
 echo '//' >> crates/ymx_header/src/lib.rt
-if PATH=$without_rt c/build.sh built_anew 2> said; then fail 'a changed source builds the old library'; fi
+if PATH=$without_rt c/build.sh ./built_anew 2> said; then fail 'a changed source builds the old library'; fi
 grep -q 'made from other sources' said || fail "a changed source is not told: $(cat said)"

@@ -68,7 +68,7 @@ END_OF_LIST
 
 # in three places: where it was built, installed, and installed below DESTDIR
 put() {
-    "$root/c/build.sh" built
+    "$root/c/build.sh" ./built
     PREFIX="$scratch/in stalled" LIBDIR=lib/of/mine "$root/c/build.sh" install
     DESTDIR=$scratch/staged PREFIX=/usr "$root/c/build.sh" install
     mkdir program

@@ -63,12 +63,12 @@ only_ours() {
 # With the flags of a distribution, and with those of clang, where it stands.
 any_flags() {
     CPPFLAGS=-DNDEBUG CFLAGS='-O3 -g -flto=auto -fstack-protector-strong' LDFLAGS='-Wl,-z,separate-code -Wl,--build-id=0xabcdef01' \
-        "$root/c/build.sh" flagged || return 1
+        "$root/c/build.sh" ./flagged || return 1
     readelf -n flagged/lib/libymx.so | grep -q 'Build ID: abcdef01$' || { echo 'LDFLAGS are not honoured'; return 1; }
     readelf -S flagged/lib/libymx.a | grep -q '\.debug_info' || { echo 'CFLAGS are not honoured'; return 1; }
     cc -o by_flagged -Iflagged/include "$root/examples/c/pair.c" -Lflagged/lib -lymx && LD_LIBRARY_PATH=flagged/lib ./by_flagged || return 1
     readelf -V by_flagged | grep -q LIBYMX_0.2 || { echo 'a program asks for no version'; return 1; }
-    ! command -v clang > /dev/null || CC=clang "$root/c/build.sh" by_clang
+    ! command -v clang > /dev/null || CC=clang "$root/c/build.sh" ./by_clang
 }
 
 only_libc() {

@@ -105,7 +105,7 @@ if [ $status = 143 ]; then good; else bad "SIGTERM ends the program with status 
 # below /usr/local; what fish finds in that folder, where it stands
 DESTDIR=$scratch/local "$root/release/install.sh" > said 2>&1 || fail 'it is not installed below /usr/local:' said
 completions=local/etc/fish/completions
-if cmp -s "$root/release/share/ymx.fish" "$completions/ymx.fish" && [ -x local/usr/local/bin/ymx ]; then good; else bad 'there is nothing for fish in /etc'; fi
+if cmp -s "$root/release/share/ymx.fish" "$completions/ymx.fish" && [ -x local/usr/local/bin/ymx ] && [ -d local/etc/ymx ]; then good; else bad 'there is nothing for fish in /etc, or no folder for options'; fi
 if command -v fish > /dev/null; then
     # shellcheck disable=SC2016
     if HOME=$scratch fish -c 'contains /etc/fish/completions $fish_complete_path'; then good; else bad 'fish does not look into /etc/fish/completions'; fi

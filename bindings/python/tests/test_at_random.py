@@ -110,7 +110,7 @@ class AtRandom(unittest.IsolatedAsyncioTestCase):
         loop = asyncio.get_running_loop()
         loop.slow_callback_duration = 10
         loop.set_exception_handler(
-            lambda _, context: isinstance(context.get("exception"), ValueError) or self.wrong.append(repr(context))
+            lambda _, context: isinstance(context.get("exception", ValueError()), ValueError) or self.wrong.append(repr(context))
         )
         server = await ymx.start_server(self.serve, "127.0.0.1", 0, linger=2)
         address = server.sockets[0].getsockname()

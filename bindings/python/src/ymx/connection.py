@@ -232,6 +232,7 @@ class Connection(asyncio.Protocol):
     async def _answer(self, answer: Answer, reader: StreamReader, writer: StreamWriter) -> None:
         try:
             await answer(reader, writer)
+            writer.has_answered = True
         except (StreamReset, ConnectionLost):
             writer.abort()
         except asyncio.CancelledError:

@@ -109,6 +109,7 @@ class StreamWriter(asyncio.StreamWriter):
     def __init__(self, stream: "StreamTransport", *others: Any) -> None:
         super().__init__(stream, *others)
         self._stream = stream  # also once there is TLS over it
+        self.has_answered = False  # its handler has returned
 
     def abort(self) -> None:
         """Resets the stream: the peer gets no end, and what is unsent is dropped."""
@@ -128,7 +129,7 @@ class StreamWriter(asyncio.StreamWriter):
             return
         warnings.warn(f"unclosed {self!r}", ResourceWarning, source=self)
         try:
-            transport.loop.call_soon_threadsafe(transport.disown)
+            transport.loop.call_soon_threadsafe(transport.disown, self.has_answered)
         except RuntimeError:
             pass  # the loop was closed meanwhile
 
@@ -206,12 +207,15 @@ class StreamTransport(_FlowControlMixin):
         self.is_gone = True
         self._tell(None if self._at_end and self._finished else reason)
 
-    def disown(self) -> None:
+    def disown(self, has_answered: bool) -> None:
         """The writer was dropped, and not closed. Where it has said that its text is whole, the stream is still read."""
         if self._ending:
             self._disowned = True
             self.touch()
-        else:
+        elif not self.is_gone:
+            if has_answered:
+                text = "ymx: the handler of a stream has returned without write_eof or close: the stream is reset"
+                self.loop.call_exception_handler({"message": text, "transport": self})
             self.abort()
 
     def _tell(self, reason: Optional[Exception]) -> None:
