@@ -1,17 +1,25 @@
 #!/bin/sh
 # Measures the tunnel over TCP on the loopback: a client, `ymx local`, `ymx remote` and an echo server; the same
-# with Go's yamux in place of ymx, and with plain copying in place of yamux. Medians of five runs, in turn. The
+# with Go's yamux in place of ymx, and with plain copying in place of yamux; and, if they are installed, with `ssh -L`
+# and an sshd, which encrypt, and with two haproxies. Medians of five runs, in turn. The
 # client compares what comes back. Then it times 64 bytes there and back, 500 times one after another: alone, beside
 # 1,000 idle connections, and beside 63 busy ones. Needs Go, as tests/interop/run.sh does. With a number it makes so
-# many runs. Where YMX_BEFORE names a program of ymx, as one from before a change, that is measured in turn too.
+# many runs. If YMX_BEFORE names a program of ymx, such as one from before a change, that is measured in turn too.
 set -eu
 top=$(cd "$(dirname "$0")/.." && pwd)
 "$top/ymx" --version > /dev/null
 folder=$(mktemp -d)
 trap 'rm -rf "$folder"' EXIT
+# where Debian's servers stand
+PATH=$PATH:/usr/sbin
 GO111MODULE=off GOPATH=/usr/share/gocode go build -o "$folder/peer" "$top/tests/interop/peer.go"
 python3 - "$folder/peer" "$top/out/ymx" "${1-5}" <<'PYTHON'
+import contextlib
+import getpass
 import os
+import resource
+import shutil
+import signal
 import socket
 import statistics
 import subprocess
@@ -19,6 +27,10 @@ import sys
 import time
 
 peer, ymx, runs = sys.argv[1], sys.argv[2], int(sys.argv[3])
+folder = os.path.dirname(peer)
+# for 1,000 connections through one process
+most = resource.getrlimit(resource.RLIMIT_NOFILE)[1]
+resource.setrlimit(resource.RLIMIT_NOFILE, (most, most))
 ANY = "127.0.0.1:0"
 # Both ends with windows of 1 MiB.
 WIDE = "ymx --window 1048576"
@@ -28,6 +40,8 @@ LINKS = "ymx --links 4"
 BEFORE = os.environ.get("YMX_BEFORE")
 KINDS = ["ymx", "ymx before"] if BEFORE else ["ymx"]
 KINDS += ["Go", "plain copying"]
+KINDS += ["ssh -L"] if shutil.which("ssh") and shutil.which("sshd") else []
+KINDS += ["haproxy"] if shutil.which("haproxy") else []
 CASES = [
     ("1 connection of 1 GiB", 1, 1, 1 << 30),
     ("64 connections of 16 MiB at once", 64, 64, 16 << 20),
@@ -48,15 +62,29 @@ def listens(address):
     return f" {address} " in subprocess.run(["ss", "-ltn"], capture_output=True, text=True, check=True).stdout
 
 
-class Process:
-    """A process that says where it listens, or whose words say it at this place."""
+def family(process):
+    """This process, and all that it has begun."""
+    parents = {}
+    for one in filter(str.isdigit, os.listdir("/proc")):
+        try:
+            parents[int(one)] = int(open(f"/proc/{one}/stat").read().rsplit(") ", 1)[1].split()[1])
+        except (FileNotFoundError, ProcessLookupError):
+            pass
+    found = [process]
+    for one in found:
+        found += [child for child, parent in parents.items() if parent == one]
+    return found
 
-    def __init__(self, words, place=None):
-        self.log = open(os.path.join(os.path.dirname(peer), f"log{time.monotonic_ns()}"), "w+")
+
+class Process:
+    """A process that says where it listens, or of which that is known."""
+
+    def __init__(self, words, address=None):
+        self.log = open(os.path.join(folder, f"log{time.monotonic_ns()}"), "w+")
         self.process = subprocess.Popen(words, stdout=self.log, stderr=subprocess.STDOUT)
         for _ in range(200):
-            if place is not None and listens(words[place]):
-                self.address = words[place]
+            if address and listens(address):
+                self.address = address
                 return
             self.log.seek(0)
             found = [line.split()[-1] for line in self.log if "listening at " in line]
@@ -68,19 +96,55 @@ class Process:
         raise SystemExit(f"{words} says nothing: {self.log.read()}")
 
     def cost(self):
-        """Seconds of the processor, and the largest resident memory in MiB."""
-        fields = open(f"/proc/{self.process.pid}/stat").read().rsplit(") ", 1)[1].split()
-        seconds = (int(fields[11]) + int(fields[12])) / os.sysconf("SC_CLK_TCK")
-        status = open(f"/proc/{self.process.pid}/status").read()
-        return seconds, int(status.split("VmHWM:")[1].split()[0]) / 1024
+        """Seconds of the processor, and the largest resident memory of one process in MiB."""
+        seconds, memory = 0, 0
+        for one in family(self.process.pid):
+            fields = open(f"/proc/{one}/stat").read().rsplit(") ", 1)[1].split()
+            seconds += (int(fields[11]) + int(fields[12])) / os.sysconf("SC_CLK_TCK")
+            memory = max(memory, int(open(f"/proc/{one}/status").read().split("VmHWM:")[1].split()[0]) / 1024)
+        return seconds, memory
 
     def stop(self):
-        self.process.kill()
+        for one in reversed(family(self.process.pid)):
+            with contextlib.suppress(ProcessLookupError):
+                os.kill(one, signal.SIGKILL)
         self.process.wait()
+
+
+def over_ssh(echo):
+    """`ssh -L` and the sshd that it calls, with keys of their own."""
+    for name in "host", "user":
+        if not os.path.exists(f"{folder}/{name}"):
+            subprocess.run(["ssh-keygen", "-q", "-t", "ed25519", "-N", "", "-f", f"{folder}/{name}"], check=True)
+    if os.getuid() == 0:
+        os.makedirs("/run/sshd", exist_ok=True)
+    at, near = free_address(), free_address()
+    host, port = at.split(":")
+    options = [f"ListenAddress={at}", f"HostKey={folder}/host", f"AuthorizedKeysFile={folder}/user.pub", "PidFile=none"]
+    options += ["StrictModes=no", "UsePAM=no", "PermitRootLogin=yes", "PasswordAuthentication=no"]
+    far = Process([shutil.which("sshd"), "-D", "-e", "-f", "/dev/null", *(f"-o{one}" for one in options)], at)
+    options = ["BatchMode=yes", "StrictHostKeyChecking=no", f"UserKnownHostsFile={folder}/known", "ExitOnForwardFailure=yes"]
+    words = ["ssh", "-F", "none", "-N", "-i", f"{folder}/user", "-p", port, *(f"-o{one}" for one in options)]
+    return Process([*words, "-L", f"{near}:{echo.address}", f"{getpass.getuser()}@{host}"], near), far
+
+
+def by_haproxy(target):
+    """A haproxy that leads to this address."""
+    at = free_address()
+    file = f"{folder}/haproxy{at}"
+    with open(file, "w") as made:
+        made.write(f"global\n maxconn 4096\ndefaults\n mode tcp\n timeout connect 10s\n timeout client 1h\n timeout server 1h\n")
+        made.write(f"listen all\n bind {at}\n server one {target}\n")
+    return Process(["haproxy", "-db", "-f", file], at)
 
 
 def tunnel(kind, echo):
     """The two processes between the client and the echo server, the client's first."""
+    if kind == "ssh -L":
+        return over_ssh(echo)
+    if kind == "haproxy":
+        far = by_haproxy(echo.address)
+        return by_haproxy(far.address), far
     if kind == "plain copying":
         far = Process([peer, "forward", "-at", ANY, "-to", echo.address])
         return Process([peer, "forward", "-at", ANY, "-to", far.address]), far
@@ -90,8 +154,9 @@ def tunnel(kind, echo):
     options = ["--window", "1048576"] if kind == WIDE else []
     links, peers = (["--links", "4"], ["--peers", "4"]) if kind == LINKS else ([], [])
     program = BEFORE if kind == "ymx before" else ymx
-    far = Process([program, "remote", "--bind", free_address(), "--target", echo.address, *options, *peers], 3)
-    return Process([program, "local", "--listen", free_address(), "--peer", far.address, *options, *links], 3), far
+    at, near = free_address(), free_address()
+    far = Process([program, "remote", "--bind", at, "--target", echo.address, *options, *peers], at)
+    return Process([program, "local", "--listen", near, "--peer", far.address, *options, *links], near), far
 
 
 def measure(kind, count, at_once, size):

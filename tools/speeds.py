@@ -1,9 +1,9 @@
 #!/usr/bin/env python3
 """speeds.py [--same]: draws docs/speeds.svg from the table of bench/README.md.
 
-It takes the rows `tunnel, ..: ymx; Go's yamux; plain copying`, and the day and the machine that the page tells of them;
-and below them the rows `latency, ..: ymx; Go's yamux; plain TCP`, of which a lower figure is better. Each row has a scale
-of its own: its longest bar is its highest figure.
+It takes the rows `tunnel, ..: ymx; Go's yamux; ..`, which may have more that are compared, such as `ssh -L`, and the day
+and the machine that the page tells of them; and below them the rows `latency, ..: ymx; Go's yamux; ..`, of which a lower
+figure is better. Each row has a scale of its own: its longest bar is its highest figure.
 With --same it draws nothing: it fails where the picture is another one, or where what README.md says of the tunnel's
 speed isn't what bench/README.md says.
 """
@@ -13,25 +13,26 @@ from pathlib import Path
 
 ROOT = Path(__file__).resolve().parent.parent
 PICTURE = ROOT / "docs/speeds.svg"
-COLOURS = {"ymx": "#2b6cb0", "Go's yamux": "#d69e4a", "plain copying": "#a3aebb", "plain TCP": "#a3aebb"}
+COLOURS = {"ymx": "#2b6cb0", "Go's yamux": "#d69e4a", "ssh -L": "#8a6fb0", "haproxy": "#5f9e7e"}
+PLAIN = "#a3aebb"
 LEFT, LONGEST, BAR, WIDTH = 110, 430, 13, 640
 
 
-def rows_of(page, kind="tunnel", others="Go's yamux; plain copying"):
+def rows_of(page, kind="tunnel"):
     """(what is measured, the unit, [(who, the figure as it is written)]) for each row of this kind that compares."""
     rows = []
     for line in page.splitlines():
-        row = re.fullmatch(rf"\| {kind}, (.*): (ymx; {others}) \| (.*) \|", line)
+        row = re.fullmatch(rf"\| {kind}, (.*): (ymx; Go's yamux; .*) \| (.*) \|", line)
         if row:
             what, who, told = row.groups()
-            figures = re.findall(r"\d[\d,]*", told)[:3]
+            figures = re.findall(r"\d[\d,]*", told)[: len(who.split("; "))]
             unit = told[told.rindex(figures[-1]) + len(figures[-1]) :].strip()
             rows.append((what, unit, list(zip(who.split("; "), figures))))
     return rows
 
 
 def latencies_of(page):
-    return rows_of(page, "latency", "Go's yamux; plain TCP")
+    return rows_of(page, "latency")
 
 
 def taken_at(page):
@@ -49,7 +50,7 @@ def bars(y, what, unit, pairs):
     y += 6
     for who, figure in pairs:
         long = LONGEST * int(figure.replace(",", "")) // most
-        lines.append(f'  <rect x="{LEFT}" y="{y}" width="{long}" height="{BAR - 2}" fill="{COLOURS[who]}"/>')
+        lines.append(f'  <rect x="{LEFT}" y="{y}" width="{long}" height="{BAR - 2}" fill="{COLOURS.get(who, PLAIN)}"/>')
         lines.append(f'  <text x="{LEFT - 6}" y="{y + BAR - 4}" text-anchor="end">{who}</text>')
         lines.append(f'  <text x="{LEFT + long + 5}" y="{y + BAR - 4}">{figure}</text>')
         y += BAR
@@ -79,7 +80,7 @@ def picture_of(page):
     return "\n".join([*head, *lines, "</svg>", ""])
 
 
-TOLD = r"1 GiB goes through the tunnel at ([\d,]+) MB/s, through Go's yamux in its place at ([\d,]+), and by plain copying at ([\d,]+): medians of (\w+) runs on ([^,]*),"
+TOLD = r"1 GiB goes through the tunnel at ([\d,]+) MB/s, through Go's yamux in its place at ([\d,]+), (?:through `ssh -L` at ([\d,]+), through haproxy at ([\d,]+), )?and by plain copying at ([\d,]+): medians of (\w+) runs on ([^,]*),"
 
 
 def strange_figures(page):
@@ -89,7 +90,7 @@ def strange_figures(page):
     if told is None:
         yield "README.md doesn't tell the tunnel's speed in words that this script knows"
         return
-    *figures, runs, day = told.groups()
+    *figures, runs, day = filter(None, told.groups())
     if figures != known.get("1 connection of 1 GiB"):
         yield f"README.md says {figures} of 1 GiB, and bench/README.md {known.get('1 connection of 1 GiB')}"
     if (runs, day) != taken_at(page)[:2]:
