@@ -39,10 +39,11 @@ bad() {
     [ $# = 0 ] || cat "$@"
 }
 
-# counted: the last line of a script, and its status
+# counted: the last line of a script, and its status: 77 if nothing was tried
 counted() {
     echo "$passed passed, $failed failed"
-    [ "$failed" = 0 ]
+    [ "$failed" = 0 ] || return 1
+    [ "$passed" != 0 ] || return 77
 }
 
 # fail TEXT [FILE..]: ends the script here
