@@ -79,8 +79,8 @@ ssize_t rattle_arg(size_t number, char *buffer, size_t room) {
 /* The kit's entry. The system's is packed on x86-64, and not elsewhere. */
 struct entry { uint32_t events; uint64_t data; };
 
-/* Of a session's wire, which has the token 0, the system takes no more while it holds so many bytes that it hasn't sent: what is chosen
-late leaves late. The status's listener has that token too, and little to send. */
+/* Of a session's wire, which alone has the token 0, the system takes no more while it holds so many bytes that it hasn't sent: what is chosen
+late leaves late. */
 #ifndef UNSENT
 #define UNSENT 131072
 #endif

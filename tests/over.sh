@@ -24,6 +24,15 @@ stop() {
 trap 'stop; rm -rf "$scratch"' EXIT
 trap 'exit 130' INT TERM
 
+# numbers WORD..: ends a script of which a word is no number
+numbers() {
+    for word in "$@"; do
+        case $word in
+        '' | *[!0-9]*) echo "$0: $word is no number" >&2 && exit 2 ;;
+        esac
+    done
+}
+
 # ---- counting
 
 # good: a test that passed
@@ -44,6 +53,64 @@ counted() {
     echo "$passed passed, $failed failed"
     [ "$failed" = 0 ] || return 1
     [ "$passed" != 0 ] || return 77
+}
+
+# tried NUMBER NAME COMMAND..: a test, for a shell of its own: keeps what it says, how it ends and what it takes
+tried() {
+    kept=$scratch/test.$1
+    echo "$2" > "$kept.name"
+    shift 2
+    began=$(date +%s)
+    status=0
+    "$@" > "$kept.said" 2>&1 < /dev/null || status=$?
+    # (in a pipe it would tell of another shell)
+    times > "$kept.times"
+    echo "$status $(($(date +%s) - began))" > "$kept.ended"
+}
+
+# judged NUMBER: counts such a test; one that could try nothing counts as none
+judged() {
+    kept=$scratch/test.$1
+    read -r status seconds < "$kept.ended"
+    case $status in
+    0)
+        good
+        spent=$(sed -n 2p "$kept.times" | tr 'ms' '  ' | awk '{ printf "%.0f", 60 * ($1 + $3) + $2 + $4 }')
+        echo "ok    $(cat "$kept.name"): $(tail -n 1 "$kept.said") ($seconds seconds, $spent of processor time)"
+        ;;
+    77) grep '^--' "$kept.said" ;;
+    *) bad "$(cat "$kept.name")" "$kept.said" ;;
+    esac
+}
+
+begun=0
+beside=
+processes=
+
+# try NAME COMMAND..: one test
+try() {
+    begun=$((begun + 1))
+    (tried $begun "$@")
+    judged $begun
+}
+
+# at_once NAME COMMAND..: begins a test beside the others, if AT_ONCE says so; `awaited` waits for all of these, and counts
+# them
+at_once() {
+    if [ "${AT_ONCE-}" != yes ]; then
+        try "$@"
+        return
+    fi
+    begun=$((begun + 1))
+    tried $begun "$@" &
+    beside="$beside $begun"
+    processes="$processes $!"
+}
+
+awaited() {
+    # shellcheck disable=SC2086
+    wait $processes
+    for number in $beside; do judged "$number"; done
 }
 
 # fail TEXT [FILE..]: ends the script here

@@ -7,16 +7,16 @@ _ymx() {
     '') options='frames script local remote selftest help --help -h --version -V' ;;
     frames) options='--limit --help -h --version -V' ;;
     script | selftest) options='--help -h --version -V' ;;
-    local) options='--listen --peer --bind --keep --links --ping --keepalive --timeout --count --from --status --status-anywhere --times --window --verbose -v --help -h --version -V' ;;
-    remote) options='--bind --peer --target --keep --peers --ping --keepalive --timeout --from --status --status-anywhere --times --window --workers --verbose -v --help -h --version -V' ;;
+    local) options='--listen --peer --bind --keep --links --ping --keepalive --idle --timeout --proxy-protocol --count --from --status --status-anywhere --times --window --verbose -v --help -h --version -V' ;;
+    remote) options='--bind --peer --target --keep --peers --ping --keepalive --idle --timeout --from --status --status-anywhere --times --window --workers --verbose -v --help -h --version -V' ;;
     help) options='frames script local remote selftest help' ;;
     *) return ;;
     esac
     # the value of an option is a number or an address
     case $command$previous in
     *=) return ;;
-    frames--limit | local--listen | local--peer | local--bind | local--links | local--ping | local--keepalive | local--timeout | local--count | local--from | local--status | local--window) return ;;
-    remote--bind | remote--peer | remote--target | remote--peers | remote--ping | remote--keepalive | remote--timeout | remote--from | remote--status | remote--window | remote--workers) return ;;
+    frames--limit | local--listen | local--peer | local--bind | local--links | local--ping | local--keepalive | local--idle | local--timeout | local--count | local--from | local--status | local--window) return ;;
+    remote--bind | remote--peer | remote--target | remote--peers | remote--ping | remote--keepalive | remote--idle | remote--timeout | remote--from | remote--status | remote--window | remote--workers) return ;;
     esac
     case $command,$word in
     frames,-* | script,-*) ;;

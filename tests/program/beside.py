@@ -241,6 +241,10 @@ def a_target_that_refuses():
     leave(peer.connection)
     status, said = program.end()
     whole = f"{len(MEGABYTE)} bytes to the peer (ended), {len(MEGABYTE)} bytes from the peer (ended)"
+    # of two within a second one is said
+    refusals = f"ymx: --target {address}: refused\n"
+    assert 1 <= said.count(refusals) <= 2, said
+    said = said.replace(refusals, "").replace("ymx: 1 line like those before was left out\n", "")
     assert status == 0 and said.count(GONE) == 1 and sorted(said.replace(GONE, "").splitlines()) == [
         f"ymx: connection {number}: {words}" for number, words in enumerate((whole, FAILED, FAILED, whole), 1)
     ], (status, said)

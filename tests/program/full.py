@@ -19,6 +19,7 @@ import time
 
 import raw
 from raw import ANY, DATA, FIN, SYN, WINDOW, Program, break_off, call, frame, next_frame, take
+from standard import await_listener
 
 FILES = 16_384
 RST = 8
@@ -143,6 +144,21 @@ def in_turn(leave):
     assert all(asks(user) == "served" for user in there), "the others keep their places"
 
 
+def says_that_it_is_full():
+    """With -v it does, once somebody waits."""
+    remote = Program("remote", "--bind", bound := raw.free_place(), "--target", service())
+    await_listener(bound)
+    local = Program("local", "-v", "--listen", ANY, "--peer", bound)
+    place = local.place()
+    there = [call(place) for _ in range(PLACES)]
+    assert all(asks(user) == "served" for user in there)
+    waiting = call(place)
+    assert local.line() == "ymx: all 1024 places are taken: users wait\n"
+    break_off(there[0])
+    assert asks(waiting) == "served"
+    assert remote.process.poll() is None
+
+
 # ---- many at once
 
 
@@ -258,6 +274,7 @@ def at_once(ends_last):
 
 
 TESTS = (
+    ("says that it is full", says_that_it_is_full, ()),
     ("one waits, and one resets", in_turn, (break_off,)),
     ("one waits, and one ends behind the service's end", in_turn, (ends_last(END),)),
     ("one waits, and one ends behind a service that closes", in_turn, (ends_last(CLOSE),)),

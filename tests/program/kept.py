@@ -17,7 +17,7 @@ import time
 
 import raw
 from beside import Peer, swap
-from raw import ACK, ANY, BAD, FIN, FULL, GONE, PING, RST, SYN, WINDOW, Program, broke, refused
+from raw import ACK, ANY, BAD, FIN, FULL, GONE, NOBODY, PING, RST, SYN, WINDOW, Program, broke, refused
 from raw import accept, break_off, call, frame, free_place, has_ended, is_cut, is_cut_at, leave, listen, local, next_frame
 from raw import preloaded, preloads, take
 from status import get, parse
@@ -231,7 +231,7 @@ def where_a_called_one_is():
     says(program, connection(1, "0 bytes to the peer (lost), 0 bytes from the peer (lost)"))
     says_of(program, "gone", address)
     user.close()
-    program = Program("remote", "-v", "--keep", "--peer", address, "--target", ANY)
+    program = Program("remote", "-v", "--keep", "--peer", address, "--target", NOBODY)
     peer = accept(listener)
     show(peer)
     says_of(program, "come", address)
@@ -285,7 +285,7 @@ def peers_without_keep():
 
 def a_fault_among_peers():
     """It is told at once, and the others are served. Who breaks a rule at first isn't told to have come."""
-    program = Program("remote", "-v", "--peers", "2", "--bind", ANY, "--target", ANY)
+    program = Program("remote", "-v", "--peers", "2", "--bind", ANY, "--target", NOBODY)
     place = program.place()
     peers = [call(place), call(place)]
     assert is_served(peers[0])
@@ -303,7 +303,7 @@ def a_fault_among_peers():
 @preloads
 def no_thread(number, *words):
     """Where the thread of this number can't be made it listens for nobody, says so, and ends."""
-    words = ("remote", "-v", "--bind", ANY, "--target", ANY, *words)
+    words = ("remote", "-v", "--bind", ANY, "--target", NOBODY, *words)
     program = preloaded(*words, variables={"FAIL_THREAD_AT": str(number)})
     assert program.end() == (1, f"{NO_THREAD}ymx: cannot listen at {ANY}\n")
 
@@ -315,7 +315,7 @@ def no_descriptor_for_a_peer():
         return
     # Open are standard input, output and error, where it listens, the set of what it waits for and what ends its wait;
     # and for a peer its connection, and a set.
-    program = Program("remote", "-v", "--keep", "--bind", ANY, "--target", ANY, files=8)
+    program = Program("remote", "-v", "--keep", "--bind", ANY, "--target", NOBODY, files=8)
     place = program.place()
     peer = call(place)
     assert is_served(peer)

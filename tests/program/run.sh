@@ -43,7 +43,8 @@ expect 0 lines nothing hello frames -
 expect 0 lines nothing rest frames hello
 expect 0 lines nothing rest frames --limit 262144 hello
 expect 1 "$(says 'rest 11')" nothing rest frames
-expect 1 "$(says 'fault B5 at 0')" nothing long frames
+echo 'ymx: B1: the version of a frame is not 0; B2: its type is above 3; B5: its payload is longer than --limit' > rules
+expect 1 "$(says 'fault B5 at 0')" rules long frames
 expect 1 "$(says 'rest 12')" nothing long frames --limit=300000
 expect 1 "$(says 'rest 12')" nothing long frames --limit 300000
 expect 1 nothing "$(says 'ymx: absent: no such file' "ymx: absent: the file can't be opened")" hello frames absent
@@ -71,6 +72,7 @@ expect 2 nothing "$(wants bind 127.0.0.1:65536)" nothing remote --bind 127.0.0.1
 expect 2 nothing "$(wants bind x)" nothing local --listen 127.0.0.1:1 --bind x
 expect 2 nothing "$(wants bind x)" nothing local --listen 127.0.0.1:1 --await x
 expect 2 nothing "$(wants listen 1)" nothing local --listen 1 --peer x
+expect 2 nothing "$(wants target 127.0.0.1:0)" nothing remote --bind 127.0.0.1:1 --target 127.0.0.1:0
 expect 2 nothing "$(wants peer x)" nothing remote --target 1 --peer x
 expect 2 nothing "$(wants peer '')" nothing remote --call '' --target x
 
@@ -153,8 +155,14 @@ local=$!
 python3 "$here/ends.py" ask "$(port_of local_err)" > answer 2> answer_err || true
 holds 'both end well without a target' both_end
 end='ymx: connection 1: 0 bytes to the peer (connection failed: refused), 0 bytes from the peer (connection failed: refused)'
-holds 'what remote -v says without a target' cmp -s "$(told remote_err)" "$(says "ymx: listening at 127.0.0.1:$peer" "$end" "$gone")"
+refused="ymx: --target 127.0.0.1:$nobody: refused"
+holds 'what remote -v says without a target' cmp -s "$(told remote_err)" "$(says "ymx: listening at 127.0.0.1:$peer" "$refused" "$end" "$gone")"
 holds 'what local -v says without a target' grep -q '^ymx: connection 1 from 127.0.0.1:[0-9]*: .* bytes to the peer (.*), 0 bytes from the peer (.*), [0-9]*\.[0-9][0-9][0-9] s$' local_err
+
+# from here on each is begun beside the others, as they wait more than they work
+holds() {
+    at_once "$@"
+}
 
 holds 'both ends, frame by frame' python3 "$here/raw.py" "$ymx"
 holds 'connections beside others' python3 -B "$here/beside.py" "$ymx"
@@ -177,6 +185,8 @@ holds 'nobody reads what it says' python3 -B "$here/unread.py" "$outside"
 holds 'the time before each line' python3 -B "$here/times.py" "$ymx"
 holds 'a thousand users at once' python3 -B "$here/bursts.py" "$ymx" 1000
 holds 'users beyond a full link' python3 -B "$here/full.py" "$ymx"
+holds 'connections on which no byte moves' python3 -B "$here/still.py" "$ymx"
+holds 'a line that says who a user is' python3 -B "$here/proxy.py" "$ymx"
 
 expect 0 "$here/help" nothing hello --help
 expect 0 "$here/help" nothing hello help
@@ -222,11 +232,15 @@ refuses 'error: ' local
 refuses 'error: ' remote --bind 127.0.0.1:0
 refuses 'error: ' remote --peer 127.0.0.1:1
 refuses 'error: ' remote --call 127.0.0.1:1
+# an option that the other end alone has
+refuses 'ymx: --peers is an option of `ymx remote`$' local --listen 127.0.0.1:0 --peer 127.0.0.1:1 --peers 2
+refuses 'ymx: --links is an option of `ymx local`$' remote --bind 127.0.0.1:0 --links=2 --target 127.0.0.1:1
+refuses 'error: ' local --listen 127.0.0.1:0 --peer 127.0.0.1:1 --limit 262144
 # just one way to meet the peer
 neither='error: the following required arguments were not provided:'
 refuses "$neither" local --listen 127.0.0.1:0
 says_next '  <--peer <ADDRESS>|--bind <ADDRESS>>'
-holds "the usage of local, where its options have a mistake" grep -q '^Usage: ymx local \[OPTIONS\] --listen <ADDRESS>' err
+if grep -q '^Usage: ymx local \[OPTIONS\] --listen <ADDRESS>' err; then good; else bad 'the usage of local, where its options have a mistake' err; fi
 refuses "$neither" remote --target 127.0.0.1:1
 says_next '  <--peer <ADDRESS>|--bind <ADDRESS>>'
 both="error: the argument '--peer <ADDRESS>' cannot be used with '--bind <ADDRESS>'"
@@ -260,6 +274,10 @@ done
 for seconds in 3601 x +5 -5 -0 ' 5' 5s ''; do
     refuses 'error: ' local --listen 127.0.0.1:0 --peer 127.0.0.1:1 "--keepalive=$seconds"
     refuses 'error: ' remote --bind 127.0.0.1:0 --target 127.0.0.1:1 "--keepalive=$seconds"
+done
+for seconds in 0 86401 x -5 5s ''; do
+    refuses 'error: ' local --listen 127.0.0.1:0 --peer 127.0.0.1:1 "--idle=$seconds"
+    refuses 'error: ' remote --bind 127.0.0.1:0 --target 127.0.0.1:1 "--idle=$seconds"
 done
 for seconds in 0 3601 x +5 -5 ' 5' 5s ''; do
     refuses 'error: ' local --listen 127.0.0.1:0 --peer 127.0.0.1:1 "--timeout=$seconds"
@@ -329,7 +347,9 @@ expect 0 "$answers" nothing nothing script "$script"
 expect 0 "$answers" nothing "$script" script
 expect 0 "$answers" nothing "$script" script -
 expect 0 nothing nothing nothing script
-expect 1 "$(says 'error line 1')" nothing nothing script hello
+says 'ymx: line 1: no step, a number out of range, or a setting after a step: see `ymx script --help`' > /dev/null
+mv said no_step
+expect 1 "$(says 'error line 1')" no_step nothing script hello
 expect 1 nothing "$(says 'ymx: absent: no such file' "ymx: absent: the file can't be opened")" nothing script absent
 expect 1 nothing "$(says 'ymx: .: is a folder' "ymx: .: the file can't be opened")" nothing script .
 
@@ -348,4 +368,5 @@ if [ -e /dev/full ]; then
     on_full frames hello
     on_full script "$script"
 fi
+awaited
 counted

@@ -12,6 +12,7 @@ import time
 import raw
 from beside import Peer
 from kept import BYTES, COME, GONE, says
+from links import SILENT
 from raw import ACK, ANY, DATA, FIRST_WINDOW, PING, SYN, WINDOW, HEADER, Program
 from raw import accept, call, frame, has_ended, is_cut, listen, take
 
@@ -63,7 +64,7 @@ def a_silent_peer(name):
     assert 2 * PATIENCE - EARLY <= given_up < LATE, f"given up after {given_up} seconds"
     sides.peer.close()
     if name == "remote":
-        assert sides.program.end() == (0, GONE)
+        assert sides.program.end() == (0, SILENT)
     else:
         # there is no session for this user
         assert is_cut(user)

@@ -16,7 +16,7 @@ import sys
 import time
 
 import raw
-from raw import (ANY, AWAY, DATA, PING, SYN, Program, accept, call, frame, free_place, free_places, has_ended, is_cut_at, leave,
+from raw import (ANY, AWAY, DATA, NOBODY, PING, SYN, Program, accept, call, frame, free_place, free_places, has_ended, is_cut_at, leave,
                  listen, next_frame, take)
 from standard import await_listener, listens
 
@@ -55,6 +55,19 @@ def request(method, path):
 
 def get(place, path):
     return ask(place, request("GET", path))
+
+
+def head(place, path):
+    """The status and the length of the body that HEAD says, behind which nothing comes."""
+    connection = call(place)
+    connection.sendall(request("HEAD", path))
+    said = b""
+    while piece := connection.recv(65_536):
+        said += piece
+    connection.close()
+    assert said.endswith(b"\r\n\r\n") and said.count(b"\r\n\r\n") == 1, said
+    lines = said.decode().split("\r\n")
+    return int(lines[0].split(" ")[1]), dict(line.split(": ", 1) for line in lines[1:-2])["Content-Length"]
 
 
 def parse(page):
@@ -125,11 +138,17 @@ def pass_on(one, other, count):
 
 def counts_what_passes():
     """What is counted of three connections is what was sent through them, at both ends."""
-    tunnel = Tunnel()
+    tunnel = Tunnel(remote=("--workers", "7"))
     assert counts(tunnel.near)["ymx_connections_begun_total"] == 0
     kept = tunnel.join()
-    await_counts(tunnel.near, connections_open=1, peers=1)
-    await_counts(tunnel.far, connections_open=1, peers=1)
+    await_counts(tunnel.near, connections_open=1, peers=1, places=1_024)
+    await_counts(tunnel.far, connections_open=1, peers=1, places=7)
+    # bytes are counted while their connection is open
+    pass_on(*kept, 1_000)
+    pass_on(*kept[::-1], 200_000)
+    for place, ways in ((tunnel.near, ("to_peer", "from_peer")), (tunnel.far, ("from_peer", "to_peer"))):
+        while [counts(place)["ymx_bytes_total", way] for way in ways] != [1_000, 200_000]:
+            time.sleep(0.01)
     for up, down in ((1, 70_000), (300_000, 0)):
         user, service = tunnel.join()
         pass_on(user, service, up)
@@ -144,7 +163,7 @@ def counts_what_passes():
         assert samples["ymx_connections_begun_total"] == 3
         assert samples["ymx_connections_ended_total", "ended"] == 2
         ways = ("to_peer", "from_peer") if place == tunnel.near else ("from_peer", "to_peer")
-        assert [samples["ymx_bytes_total", way] for way in ways] == [300_001, 70_000]
+        assert [samples["ymx_bytes_total", way] for way in ways] == [301_001, 270_000]
         assert (samples["ymx_peers_come_total"], samples["ymx_peers_gone_total"]) == (1, 0)
     # two seconds later it is at least two seconds old
     time.sleep(2)
@@ -190,6 +209,70 @@ def counts_the_refused():
     program.process.communicate()
 
 
+def counts_who_waits():
+    """A stream for which no place is free is told and counted, until one is."""
+    tunnel = Tunnel(remote=("--workers", "1", "-v"))
+    first = tunnel.join()
+    await_counts(tunnel.far, connections_open=1, users_waiting=0)
+    second = call(tunnel.users)
+    await_counts(tunnel.far, users_waiting=1)
+    for line in iter(tunnel.remote.line, "ymx: all 1 places are taken: users wait\n"):
+        assert line.startswith("ymx: listening at "), line
+    for connection in first:
+        connection.close()
+    other = accept(tunnel.target)
+    pass_on(second, other, 1_000)
+    await_counts(tunnel.far, users_waiting=0)
+    tunnel.kill()
+
+
+def counts_targets():
+    """A target that can't be reached is told, without -v too, and counted by the reason."""
+    bound, near, far, nobody = free_places(4)
+    remote = Program("remote", "--bind", bound, "--target", nobody, "--status", far)
+    wait_for(far)
+    local = Program("local", "-v", "--listen", ANY, "--peer", bound, "--status", near)
+    users = local.place()
+    for _ in range(3):
+        assert is_cut_at(users)
+    assert remote.line() == f"ymx: --target {nobody}: refused\n"
+    while counts(far)["ymx_targets_unreached_total", "refused"] < 3:
+        time.sleep(0.01)
+    assert counts(far)["ymx_system_refusals_total"] == 0
+    # of three within a second one is said, and the number of the others
+    local.process.kill()
+    status, said = remote.end()
+    others = f"(ymx: --target {nobody}: refused\n|ymx: . lines? like those before w[a-z]* left out\n)*"
+    assert status == 0 and re.fullmatch(others, said), (status, said)
+    local.process.communicate()
+
+
+def says_what_is_lost():
+    """Where the session is lost, and none follows, that is said, and no less where the peer can't be reached."""
+    tunnel = Tunnel()
+    tunnel.remote.process.kill()
+    while get(tunnel.near, "/health")[::2] != (503, "lost\n"):
+        time.sleep(0.01)
+    await_counts(tunnel.near, peers=0, places=0)
+    tunnel.kill()
+    target, address = listen()
+    bound, page = free_places(2)
+    local = Program("local", "-v", "--keep", "--listen", ANY, "--peer", bound, "--status", page)
+    users = local.place()
+    assert get(page, "/health")[::2] == (200, "serving\n")
+    assert is_cut_at(users)
+    assert get(page, "/health")[::2] == (503, "unreachable\n")
+    remote = Program("remote", "-v", "--bind", bound, "--target", address)
+    remote.place()
+    user = call(users)
+    service = accept(target)
+    pass_on(user, service, 1)
+    assert get(page, "/health")[::2] == (200, "serving\n")
+    for program in (local, remote):
+        program.process.kill()
+        program.process.communicate()
+
+
 # ---- requests
 
 
@@ -199,10 +282,13 @@ def answers():
     for place in (tunnel.near, tunnel.far):
         assert get(place, "/")[2].startswith("# HELP ymx_bytes_total ")
         assert get(place, "/health")[::2] == (200, "serving\n")
+        assert get(place, "/health?x=1")[::2] == (200, "serving\n")
+        assert head(place, "/health") == (200, "8"), "the head alone"
+        assert [head(place, path)[0] for path in ("/metrics?x=1", "/other", "/drain")] == [200, 404, 405]
         for method, path, status, allowed in (
             ("GET", "/other", 404, None), ("POST", "/other", 404, None), ("GET", "/metrics/", 404, None),
-            ("POST", "/metrics", 405, "GET"), ("PUT", "/", 405, "GET"), ("HEAD", "/health", 405, "GET"),
-            ("GET", "/drain", 405, "POST"), ("get", "/metrics", 405, "GET"),
+            ("POST", "/metrics", 405, "GET, HEAD"), ("PUT", "/", 405, "GET, HEAD"),
+            ("GET", "/drain", 405, "POST"), ("get", "/metrics", 405, "GET, HEAD"), ("GET", "/x?/health", 404, None),
         ):
             answer = ask(place, request(method, path))
             assert (answer[0], answer[1].get("Allow")) == (status, allowed), (method, path, answer)
@@ -260,7 +346,7 @@ def stuck_ones():
 def address_in_use():
     """Where it can't listen at the address nothing begins, and it says why."""
     listener, address = listen()
-    for name, words in (("local", ("--listen", ANY)), ("remote", ("--target", ANY))):
+    for name, words in (("local", ("--listen", ANY)), ("remote", ("--target", NOBODY))):
         for verbose in ((), ("-v",)):
             program = Program(name, *verbose, "--bind", ANY, "--status", address, *words)
             assert program.end() == (1, f"ymx: --status {address}: address in use\nymx: cannot listen at {address}\n")
@@ -411,7 +497,7 @@ def remote_drains_while_idle(words=(), remote=()):
 def remote_drains_before_its_peer_comes(*words):
     """It ends at once too where no peer has come."""
     page = free_place()
-    program = Program("remote", "--bind", ANY, "--target", ANY, "--status", page, *words)
+    program = Program("remote", "--bind", ANY, "--target", NOBODY, "--status", page, *words)
     wait_for(page)
     drain(page)
     assert program.end() == (0, "")
@@ -420,7 +506,7 @@ def remote_drains_before_its_peer_comes(*words):
 def remote_drains_where_it_calls():
     """One that calls, and whose peer can't be reached, ends too, within its pause."""
     page, nobody = free_places(2)
-    program = Program("remote", "--keep", "--peer", nobody, "--target", ANY, "--status", page)
+    program = Program("remote", "--keep", "--peer", nobody, "--target", NOBODY, "--status", page)
     wait_for(page)
     drain(page)
     assert program.end() == (0, "")
@@ -537,6 +623,9 @@ TESTS = (
     ("counts what passes", counts_what_passes, ()),
     ("counts links", counts_links, ()),
     ("counts the refused", counts_the_refused, ()),
+    ("counts who waits", counts_who_waits, ()),
+    ("counts targets", counts_targets, ()),
+    ("says what is lost", says_what_is_lost, ()),
     ("answers", answers, ()),
     ("a line in parts", parts, ()),
     ("stuck ones", stuck_ones, ()),

@@ -16,7 +16,7 @@ import time
 import raw
 from kept import COME, is_served, says
 from links import SILENT, ask, echo
-from raw import ACK, ANY, BAD, GONE, PING, SYN, WINDOW, Program
+from raw import ACK, ANY, BAD, GONE, NOBODY, PING, SYN, WINDOW, Program
 from raw import accept, call, frame, free_places, has_ended, leave, listen, take
 from standard import await_listener
 from status import drain
@@ -96,7 +96,7 @@ def of_local(*words):
 def silent_ones():
     """As many as there are places hold them for twice the seconds of --ping, and no longer. One more is closed at once. None
     is told to have come."""
-    program = Program("remote", "-v", "--keep", "--ping", "3", "--bind", ANY, "--target", ANY)
+    program = Program("remote", "-v", "--keep", "--ping", "3", "--bind", ANY, "--target", NOBODY)
     place = program.place()
     silent = [call(place) for _ in range(PLACES)]
     further = call(place)
@@ -151,7 +151,7 @@ def a_silent_one_that_calls_again():
 def garbage():
     """Of many calls with garbage a line of each kind is said in a second. The others are counted, the last ones at the end."""
     place, page = free_places(2)
-    program = Program("remote", "--keep", "--bind", place, "--target", ANY, "--status", page)
+    program = Program("remote", "--keep", "--bind", place, "--target", NOBODY, "--status", page)
     await_listener(page)
     await_listener(place)
     since = time.monotonic()

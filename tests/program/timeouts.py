@@ -13,7 +13,7 @@ import time
 import raw
 from beside import Peer
 from kept import COME, connection, says
-from raw import ANY, Program, accept, break_off, call, is_cut, is_cut_at, listen
+from raw import ANY, NOBODY, Program, accept, break_off, call, is_cut, is_cut_at, listen
 
 # How much less may have gone by, as the clocks of two processes count it, and how much more: also on a loaded machine, but
 # less than a call takes where nothing is said.
@@ -181,7 +181,7 @@ def a_remote(limit, *words):
     """One that calls with `--keep` calls again, a second later."""
     silent = Silent()
     began = time.monotonic()
-    program = Program("remote", "-v", "--keep", "--peer", silent.place, "--target", ANY, *words)
+    program = Program("remote", "-v", "--keep", "--peer", silent.place, "--target", NOBODY, *words)
     says(program, timed_out(silent.place), unreached(silent.place))
     passed(began, limit)
     says(program, timed_out(silent.place))
@@ -189,7 +189,7 @@ def a_remote(limit, *words):
 
 
 LOCAL = ("local", "--listen", ANY)
-REMOTE = ("remote", "--target", ANY)
+REMOTE = ("remote", "--target", NOBODY)
 TESTS = (
     ("--keep", a_user, (DEFAULT,)),
     ("--keep --timeout 1", a_user, (1, "--timeout", "1")),

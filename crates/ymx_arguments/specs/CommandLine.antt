@@ -5,7 +5,7 @@ use Rattle.std.specs.Str.Parse.{IsNumeral, digits_value}
 use Rattle.std.specs.List.{after_first, before_first, position_or_len}
 use Rattle.std.specs.Net.Addr.{IsLoopbackV4}
 use Rattle.std.specs.Net.Grammar.{IsIpv4Text, IsSocketV4Text}
-use Rattle.std.specs.Net.Socket.{v4_ip}
+use Rattle.std.specs.Net.Socket.{v4_ip, v4_port}
 use Rattle.std.specs.declared.net.socket_addr.SocketAddrV4.{SocketAddrV4}
 use Rattle.clap.specs.Faults.{fault_of}
 use Rattle.clap.specs.Kinds.{IsAmong}
@@ -114,9 +114,9 @@ IsNotSaid text = (text ≡ None) ⊎ (text ≡ Some (codes "false"))
 abbrev pub ReadsFlag : List Entry → Text → Bool → Type 0
 ReadsFlag given name flag = (IsNotSaid (one_of name given) → flag ≡ false) × (one_of name given ≡ Some (codes "true") → flag ≡ true)
 
--- the option of this name was given this IPv4 address with its port
+-- the option of this name was given this IPv4 address with its port, which is not below the least that it takes
 abbrev pub IsAddressOf : List Entry → Text → SocketAddrV4 → Type 0
-IsAddressOf given name address = IsSomeAnd (first_of name given) (λ text. IsSocketV4Text text address)
+IsAddressOf given name address = IsSomeAnd (first_of name given) (λ text. IsSocketV4Text text address) × ((row_of name).least ≤ v4_port address)
 
 -- The peer is connected to at the address of `--peer`, or awaited at that of `--bind`. Just one of them was given.
 abbrev pub IsPeerOf : List Entry → PeerAddress → Type 0
@@ -183,6 +183,7 @@ IsLocalOf given local =
     × IsNumberOr 262144 given (codes "window") local.window × ReadsFlag given (codes "keep") local.is_kept
     × IsNumberOr 1 given (codes "links") local.links × IsNumberOf given (codes "ping") local.ping
     × IsNumberOr 60 given (codes "keepalive") local.keepalive × IsNumberOf given (codes "timeout") local.timeout
+    × IsNumberOf given (codes "idle") local.idle × ReadsFlag given (codes "proxy-protocol") local.names_users
     × AreNetworksOf given local.from × IsStatusOf given local.status × ReadsFlag given (codes "verbose") local.is_verbose
     × ReadsFlag given (codes "times") local.has_times
 
@@ -193,6 +194,7 @@ IsRemoteOf given remote =
     × IsNumberOr 1024 given (codes "workers") remote.workers × ReadsFlag given (codes "keep") remote.is_kept
     × IsNumberOf given (codes "peers") remote.peers × IsNumberOf given (codes "ping") remote.ping
     × IsNumberOr 60 given (codes "keepalive") remote.keepalive × IsNumberOf given (codes "timeout") remote.timeout
+    × IsNumberOf given (codes "idle") remote.idle
     × AreNetworksOf given remote.from × IsStatusOf given remote.status × ReadsFlag given (codes "verbose") remote.is_verbose
     × ReadsFlag given (codes "times") remote.has_times
 

@@ -9,7 +9,7 @@ use Rattle.ymx_arguments.specs.declared.rows.Owner.TheVariants as owner
 use Rattle.ymx_arguments.specs.declared.rows.Row.{Row}
 
 -- an option: its name, older names, and a letter that stand for it, which subcommands have it, what it takes and how many values, the
--- numbers that it takes, its default, whether it must be given, and which option it can't be given with
+-- numbers that it takes, or the least port of its address, its default, whether it must be given, and which option it can't be given with
 pub record OptionRow : Type 0 where
   pub name : Text
   pub old_names : List Text
@@ -61,14 +61,16 @@ rows =
     ∷ (record address { name = codes "bind"; old_names = codes "await" ∷ []; owner = owner.Local })
     ∷ (record address { name = codes "bind"; owner = owner.Remote })
     ∷ (record address { name = codes "peer"; old_names = codes "call" ∷ []; owner = owner.Remote })
-    ∷ (record address { name = codes "target"; owner = owner.Remote; is_needed = true })
+    ∷ (record address { name = codes "target"; owner = owner.Remote; is_needed = true; least = 1 })
     ∷ (record flag { name = codes "keep"; owner = owner.Local })
     ∷ (record flag { name = codes "keep"; owner = owner.Remote })
     ∷ (record (number 1 64) { name = codes "links"; owner = owner.Local; apart = Some (codes "bind") })
     ∷ (record (number 1 256) { name = codes "peers"; owner = owner.Remote; apart = Some (codes "peer") })
     ∷ (record seconds { name = codes "ping" })
     ∷ (record (number 0 3600) { name = codes "keepalive"; default = codes "60" ∷ [] })
+    ∷ (record (number 1 86400) { name = codes "idle" })
     ∷ (record seconds { name = codes "timeout"; apart = Some (codes "bind") })
+    ∷ (record flag { name = codes "proxy-protocol"; owner = owner.Local })
     ∷ (record (number 0 4294967295) { name = codes "count"; owner = owner.Local })
     ∷ (record address { name = codes "from"; kind = kind.Texts; apart = Some (codes "peer") })
     ∷ (record address { name = codes "status" })

@@ -11,4 +11,5 @@ mod reading;
 mod rows;
 
 pub use reading::{CommandFault, Task, parse};
+pub use rows::foreign_option;
 pub use ymx_policy::{LocalOptions, Networks, PeerAddress, RemoteOptions};

@@ -51,6 +51,8 @@ pub(crate) fn local_options<'a>(found: &ArgMatches<'a>) -> Result<LocalOptions, 
         ping: number(found, "ping")?,
         keepalive: number_or(found, "keepalive", 60)?,
         timeout: number(found, "timeout")?,
+        idle: number(found, "idle")?,
+        names_users: flag(found, "proxy-protocol"),
         from: networks(found)?,
         status: status(found)?,
         is_verbose: flag(found, "verbose"),
@@ -72,6 +74,7 @@ pub(crate) fn remote_options<'a>(found: &ArgMatches<'a>) -> Result<RemoteOptions
         ping: number(found, "ping")?,
         keepalive: number_or(found, "keepalive", 60)?,
         timeout: number(found, "timeout")?,
+        idle: number(found, "idle")?,
         from: networks(found)?,
         status: status(found)?,
         is_verbose: flag(found, "verbose"),
@@ -145,7 +148,7 @@ fn check_apart<'a>(found: &ArgMatches<'a>, name: &'a str) -> Result<(), BadOptio
     }
 }
 
-/// The IPv4 address with its port that the option of this name was given.
+/// The IPv4 address with its port that the option of this name was given, if it takes such a port.
 fn address<'a>(found: &ArgMatches<'a>, name: &'a str) -> Result<SocketAddrV4, BadOption<'a>>
     ensures { MatchResult result (IsAddressOf (rows_of (found_of found.now)) name.now) (IsWrong (rows_of (found_of found.now))) }
 {
@@ -153,7 +156,12 @@ fn address<'a>(found: &ArgMatches<'a>, name: &'a str) -> Result<SocketAddrV4, Ba
         return Err(BadOption::Address { name, text: "" });
     };
     match text.parse::<SocketAddrV4>() {
-        Ok(address) => Ok(address),
+        Ok(address) => {
+            if u32::from(address.port()) < row_of(name).least {
+                return Err(BadOption::Address { name, text });
+            }
+            Ok(address)
+        }
         Err(_) => Err(BadOption::Address { name, text }),
     }
 }

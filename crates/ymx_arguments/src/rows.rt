@@ -3,6 +3,8 @@
 ghost use Rattle.std.specs.Prelude.{◌≡◌, map};
 ghost use Rattle.ymx_arguments.specs.Rows.{is_of, row_of, rows, stated};
 
+use std::convert::AsStr;
+
 /// Which subcommands have an option.
 #[derive(Clone, Copy)]
 pub(crate) enum Owner {
@@ -58,7 +60,7 @@ pub(crate) struct Row {
     pub(crate) kind: Kind,
     /// What the help calls its value. Empty where it takes none.
     pub(crate) value: &'static [&'static str],
-    /// The least number that it takes, if it takes numbers.
+    /// The least number that it takes, if it takes numbers, or the least port of its address.
     pub(crate) least: u32,
     /// The greatest one.
     pub(crate) most: u32,
@@ -115,7 +117,7 @@ const BYTES: Row =
 const NUMBER: Row = row!(FLAG, kind: Kind::Text, value: &["N"]);
 
 /// The options, in the order of the help.
-static ROWS: [Row; 23] = [
+static ROWS: [Row; 25] = [
     row!(BYTES, name: "limit", owner: Owner::Frames,
         help: "The longest payload accepted, from 262144 to 16777216"),
     row!(FLAG, name: "file", owner: Owner::Tools, kind: Kind::Word, value: &["FILE"],
@@ -130,7 +132,7 @@ static ROWS: [Row; 23] = [
         help: "Where to listen for `ymx local`"),
     row!(ADDRESS, name: "peer", old_names: &["call"], owner: Owner::Remote,
         help: "Where `ymx local` listens, to connect there in place of --bind"),
-    row!(ADDRESS, name: "target", owner: Owner::Remote, is_needed: true,
+    row!(ADDRESS, name: "target", owner: Owner::Remote, is_needed: true, least: 1,
         help: "Where each stream is connected to"),
     row!(FLAG, name: "keep", owner: Owner::Local,
         help: "Meet the peer again, once it was lost"),
@@ -144,8 +146,12 @@ static ROWS: [Row; 23] = [
         help: "Give up a peer that is silent for twice so long, from 1 to 3600"),
     row!(SECONDS, name: "keepalive", least: 0, default: &["60"],
         help: "After how long a silence the system looks for the other side, or 0 for never"),
+    row!(SECONDS, name: "idle", most: 86_400,
+        help: "Abort a connection on which no byte moves for so long, from 1 to 86400"),
     row!(SECONDS, name: "timeout", apart: Some("bind"),
         help: "How long a call to the peer may take, from 1 to 3600"),
+    row!(FLAG, name: "proxy-protocol", owner: Owner::Local,
+        help: "Begin each stream with the line of PROXY protocol that says who its user is"),
     row!(NUMBER, name: "count", owner: Owner::Local, most: u32::MAX,
         help: "End after so many connections"),
     row!(FLAG, name: "from", kind: Kind::Texts, value: &["NETWORK"], apart: Some("peer"),
@@ -170,6 +176,29 @@ pub(crate) fn rows() -> &'static [Row]
     ensures { map stated result.now ≡ rows }
 {
     &ROWS
+}
+
+/// An option that these words name, which only the other end of a tunnel has than their subcommand, and that other one.
+pub fn foreign_option<S: AsStr>(words: &[S]) -> Option<(&str, &'static str)> {
+    let (own, other) = match words.get(1)?.as_str() {
+        "local" => ("local", "remote"),
+        "remote" => ("remote", "local"),
+        _ => return None,
+    };
+    for word in words {
+        let word = word.as_str();
+        let name = word.split_once('=').map_or(word, |(name, _)| name);
+        if has_option(other, name) && !has_option(own, name) {
+            return Some((name, other));
+        }
+    }
+    None
+}
+
+/// Whether the subcommand of this name has the option of this name, which stands behind two hyphens.
+fn has_option(subcommand: &str, name: &str) -> bool {
+    let of = |row: &Row| row.owner.has(subcommand) && name.strip_prefix("--") == Some(row.name);
+    rows().iter().any(of)
 }
 
 /// The row of the option of this name: the first, since those of one name differ in their owner and help alone. One that

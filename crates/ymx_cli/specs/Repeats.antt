@@ -5,8 +5,8 @@ use Rattle.std.specs.Duration.{as_nanos}
 use Rattle.ymx_cli.specs.declared.repeats.RecentLine.{RecentLine}
 
 -- The line may be left out: it says what a peer has done against the rules of yamux, that somebody was closed who may not be a peer,
--- that one has gone which gave no sign of life, that there was no memory for its streams, or that the system has not now what an option
--- needs: as users come and go it is short of that again and again.
+-- that one has gone which gave no sign of life, that there was no memory for its streams, that all places are taken, that the target
+-- can't be reached, or that the system has not now what an option needs: as users come and go it is short of that again and again.
 abbrev pub may_repeat : List ℕ → Bool
 may_repeat line =
     starts_with nat_eq line (codes "ymx: B")
@@ -15,10 +15,12 @@ may_repeat line =
     || (starts_with nat_eq line (codes "ymx: closed a peer too many")
     || (starts_with nat_eq line (codes "ymx: the peer has gone without a sign of life")
     || (starts_with nat_eq line (codes "ymx: rejected streams")
+    || (starts_with nat_eq line (codes "ymx: all ")
+    || (starts_with nat_eq line (codes "ymx: --target ")
     || (starts_with nat_eq line (codes "ymx: --")
     && (ends_with nat_eq line (codes ": no descriptor left\n")
     || (ends_with nat_eq line (codes ": no memory\n")
-    || ends_with nat_eq line (codes ": no thread\n")))))))))
+    || ends_with nat_eq line (codes ": no thread\n")))))))))))
 
 -- a decimal digit
 abbrev pub is_digit : ℕ → Bool

@@ -11,13 +11,14 @@ ghost use Rattle.ymx_cli.specs.Doing.{Does, IsUntouched, PlaysFile, PlaysScript,
 
 use crate::log::LogOutlet;
 use clap::error::ErrorKind;
+use itoa::Buffer;
 use std::alloc::Global;
 use std::convert::AsStr;
 use std::net::{Net, TcpListener, TcpStream};
 use std::sync::Wait;
 use std::thread::Threads;
 use std::time::Clock;
-use ymx_arguments::{CommandFault, Task, parse};
+use ymx_arguments::{CommandFault, Task, foreign_option, parse};
 use ymx_forward::{Host, run_end, run_selftest};
 use ymx_frames::{FramesEnd, frames};
 use ymx_model::{Inlet, Outlet, push_all};
@@ -198,7 +199,22 @@ impl<F: FileOpener, R: Inlet, W: Outlet + Send, D: LogOutlet + Send> Devices<F, 
     }
 }
 
-/// Says why the printing of frames ended, if a device or memory failed, and answers the status.
+/// Says of an option that only the other end of a tunnel has that it is that one's.
+pub(crate) fn name_other_end<S: AsStr, D: Outlet>(lines: &mut D, words: &[S]) {
+    if let Some((option, other)) = foreign_option(words) {
+        say(lines, &[b"ymx: ", option.as_bytes()]);
+        say(
+            lines,
+            &[b" is an option of `ymx ", other.as_bytes(), b"`\n"],
+        );
+    }
+}
+
+/// What a frame is at which the printing ends.
+const RULES: &[u8] =
+    b"ymx: B1: the version of a frame is not 0; B2: its type is above 3; B5: its payload is longer than --limit\n";
+
+/// Says why the printing of frames ended, if a frame is bad, or a device or memory failed, and answers the status.
 fn finish<D: Outlet>(end: FramesEnd, errors: &mut D) -> u8
     ensures status { result ≤ 1 }
     ensures good { (result ≡ 0) ↔ (end ≡ FramesEnd.Good) }
@@ -206,14 +222,15 @@ fn finish<D: Outlet>(end: FramesEnd, errors: &mut D) -> u8
 {
     match end {
         FramesEnd::Good => 0,
-        FramesEnd::Fault | FramesEnd::Rest => 1,
+        FramesEnd::Fault => say_fault(errors, RULES),
+        FramesEnd::Rest => 1,
         FramesEnd::Reading => say_fault(errors, b"ymx: reading failed\n"),
         FramesEnd::Writing => say_fault(errors, b"ymx: writing failed\n"),
         FramesEnd::Memory(_) => say_fault(errors, b"ymx: out of memory\n"),
     }
 }
 
-/// Says why the playing of a script ended, if a device or memory failed, and answers the status.
+/// Says why the playing of a script ended, if a line is bad, or a device or memory failed, and answers the status.
 fn finish_script<D: Outlet>(end: ScriptEnd, errors: &mut D) -> u8
     ensures status { result ≤ 1 }
     ensures good { (result ≡ 0) ↔ (end ≡ ScriptEnd.Good) }
@@ -221,7 +238,14 @@ fn finish_script<D: Outlet>(end: ScriptEnd, errors: &mut D) -> u8
 {
     match end {
         ScriptEnd::Good => 0,
-        ScriptEnd::Line(_) => 1,
+        ScriptEnd::Line(number) => {
+            let mut buffer = Buffer::new();
+            let line = buffer.format(number).as_bytes();
+            let why =
+                b": no step, a number out of range, or a setting after a step: see `ymx script --help`\n";
+            say(errors, &[b"ymx: line ", line, why]);
+            1
+        }
         ScriptEnd::Reading => say_fault(errors, b"ymx: reading failed\n"),
         ScriptEnd::Writing => say_fault(errors, b"ymx: writing failed\n"),
         ScriptEnd::Memory(_) => say_fault(errors, b"ymx: out of memory\n"),

@@ -11,7 +11,7 @@ mod repeats;
 mod standard;
 mod time;
 
-use command::{Devices, Unopened, cannot_open, say, say_fault, ymx_main};
+use command::{Devices, Unopened, cannot_open, name_other_end, say, say_fault, ymx_main};
 use disk::Disk;
 use help::words_of_help;
 use log::{Log, LogWriter};
@@ -48,7 +48,11 @@ fn main(rt: HostRuntime) -> ExitCode {
     }
     let alloc = rt.alloc();
     let status = match words(&rt, alloc) {
-        Ok(words) => ymx_main(&rt, alloc, words_of_help(words.as_slice()), &mut devices),
+        Ok(words) => {
+            let words = words_of_help(words.as_slice());
+            name_other_end(&mut devices.lines, words);
+            ymx_main(&rt, alloc, words, &mut devices)
+        }
         Err(error) => no_words(&error, &mut devices.errors),
     };
     devices.errors.finish();

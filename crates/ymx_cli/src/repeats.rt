@@ -89,6 +89,8 @@ fn may_repeat(line: &[u8]) -> bool
         || line.starts_with(b"ymx: closed a peer too many")
         || line.starts_with(b"ymx: the peer has gone without a sign of life")
         || line.starts_with(b"ymx: rejected streams")
+        || line.starts_with(b"ymx: all ")
+        || line.starts_with(b"ymx: --target ")
         || (line.starts_with(b"ymx: --")
             && (line.ends_with(b": no descriptor left\n")
                 || line.ends_with(b": no memory\n")

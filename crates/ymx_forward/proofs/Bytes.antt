@@ -1,6 +1,6 @@
 -- Bytes that stay as they were.
-use Rattle.std.proofs.Common.{ℕ, List, take, refl, sym, ◌∙◌, append-nil, Option, Some, None}
-use Rattle.std.specs.Io.KnownBytes.{Keeps, Appends, Consumes}
+use Rattle.std.proofs.Common.{◌≡◌, ◌++◌, ℕ, List, [], take, refl, sym, ap, subst, ◌∙◌, append-nil, append_assoc, Option, Some, None}
+use Rattle.std.specs.Io.KnownBytes.{Keeps, Appends, Consumes, prepend_known}
 
 pub none_consumed : (old new : Option (List ℕ)) (buffer : List ℕ) → Keeps old new → Consumes old new (take 0 buffer)
 none_consumed None new buffer k = tt
@@ -15,3 +15,17 @@ none_appended (Some xs) (Some ys) buffer k = k ∙ sym (append-nil xs)
 pub all_kept : (known : Option (List ℕ)) → Keeps known known
 all_kept None = tt
 all_kept (Some xs) = refl
+
+-- those that stand before a device's own are given first
+pub head_given : (known : Option (List ℕ)) (old new given : List ℕ) → old ≡ given ++ new → Consumes (prepend_known old known) (prepend_known new known) given
+head_given None old new given e = tt
+head_given (Some xs) old new given e = ap (λ (v : List ℕ). v ++ xs) e ∙ append_assoc given new xs
+
+own : (left left_new : Option (List ℕ)) (given : List ℕ) → Consumes left left_new given → Consumes (prepend_known [] left) (prepend_known [] left_new) given
+own None left_new given c = tt
+own (Some xs) None given c = c
+own (Some xs) (Some ys) given c = c
+
+-- its own are given where none stands before them
+pub own_given : (left left_new : Option (List ℕ)) (head given : List ℕ) → head ≡ [] → Consumes left left_new given → Consumes (prepend_known head left) (prepend_known head left_new) given
+own_given left left_new head given e c = subst (λ (v : List ℕ). Consumes (prepend_known v left) (prepend_known v left_new) given) (sym e) (own left left_new given c)

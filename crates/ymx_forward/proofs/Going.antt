@@ -15,6 +15,9 @@ use Rattle.ymx_engine.proofs.Attending.{has_read_then, has_written_then, one_the
 pub same : (a b : Tunnel) → b ≡ a → Runs a b
 same a b e = subst (λ (v : Tunnel). Runs a v) (sym e) (runs_same a)
 
+pub unmoved : (a : Tunnel) → Runs a a
+unmoved a = runs_same a
+
 pub then : (a b c : Tunnel) → Runs a b → Runs b c → Runs a c
 then a b c x y = runs_then a b c x y
 

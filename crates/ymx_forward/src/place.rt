@@ -98,8 +98,13 @@ impl<'a, R: Host, D: Outlet> Place<'a, R, D> {
             Some(first) => context.tell(Event::Notice(first)),
             None => {}
         }
+        let reason = match words.reason {
+            // told as it was
+            Some(Notice::Broke(_, _)) => None,
+            reason => reason,
+        };
         if let Some(fault) = words.fault {
-            context.say(words.reason, fault);
+            context.say(reason, fault);
         }
         if let Some(last) = words.last {
             context.tell(Event::Notice(last));
@@ -181,7 +186,11 @@ impl<'a, R: Host, D: Outlet> Place<'a, R, D> {
 
     /// Calls its peer, unless no more sessions are to begin.
     fn call(&mut self, callee: Callee) -> Happened {
-        match self.reach(callee) {
+        let reached = self.reach(callee);
+        if !matches!(reached, Ok(None)) {
+            self.context.tell(Event::Called(reached.is_ok()));
+        }
+        match reached {
             Ok(Some(peer)) => {
                 self.peer = Some(peer);
                 Happened::PeerCame
@@ -189,7 +198,7 @@ impl<'a, R: Host, D: Outlet> Place<'a, R, D> {
             Ok(None) => Happened::AllCame,
             Err(error) => {
                 self.rests = self.common.has_sessions();
-                Happened::Failed(Some(Reason::of(&error)))
+                Happened::Failed(Some(Reason::of_call(&error)))
             }
         }
     }
@@ -354,12 +363,8 @@ impl<'a, R: Host, D: Outlet> Place<'a, R, D> {
         let Some(peer) = self.peer.take() else {
             return Ok(Happened::Failed(None));
         };
-        if let Wanted::Server { target, workers } = session.side {
-            self.side = Some(Side::Remote {
-                target: SocketAddr::V4(target),
-                limit: (workers as usize).max(1),
-                drain: Arc::try_clone(&self.common.drain)?,
-            });
+        if let Wanted::Server { .. } = session.side {
+            self.side = Some(Side::Remote(Arc::try_clone(&self.common.drain)?));
         }
         self.prepare()?;
         let (Some(side), Some(poll)) = (&mut self.side, &mut self.poll) else {
@@ -370,9 +375,6 @@ impl<'a, R: Host, D: Outlet> Place<'a, R, D> {
             users.note_event();
         }
         let end = run_session(self.context, poll, side, peer, session);
-        if let Side::Local(users) = side {
-            users.note_open(self.context, 0);
-        }
         self.common.sessions.fetch_sub(1, Ordering::SeqCst);
         self.rests = session.is_followed && !end.is_coming_told;
         Ok(Happened::SessionEnded(end))

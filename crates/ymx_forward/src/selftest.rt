@@ -252,21 +252,25 @@ fn serve_echoes(listener: TcpListener) {
 /// The end of the tunnel at the echo server.
 fn run_remote_end<R: Host>(rt: &R, alloc: Global, connection: TcpStream, target: SocketAddr) {
     let drain = Arc::new(alloc, Drain::new(alloc));
-    if let (Ok(poll), Ok(drain)) = (Poll::new(rt, alloc), drain) {
-        let limit = CONNECTIONS as usize;
-        let side = Side::Remote {
+    if let (Ok(poll), Ok(drain), SocketAddr::V4(target)) = (Poll::new(rt, alloc), drain, target) {
+        let role = Role::Server {
             target,
-            limit,
-            drain,
+            workers: CONNECTIONS as u32,
         };
-        run_one(rt, alloc, connection, poll, side);
+        run_one(rt, alloc, connection, poll, (Side::Remote(drain), role));
     }
 }
 
 /// The end of the tunnel at the client.
 fn run_local_end<R: Host>(rt: &R, alloc: Global, connection: TcpStream, listener: TcpListener) {
     if let Ok((poll, users)) = new_users(rt, alloc, listener) {
-        run_one(rt, alloc, connection, poll, Side::Local(users));
+        run_one(
+            rt,
+            alloc,
+            connection,
+            poll,
+            (Side::Local(users), Role::Client),
+        );
     }
 }
 
@@ -288,7 +292,7 @@ fn new_users<R: Host>(
 }
 
 /// Runs the only session of this side over this connection. Of what is told nothing is heard.
-fn run_one<R: Host>(rt: &R, alloc: Global, connection: TcpStream, poll: Poll, side: Side) {
+fn run_one<R: Host>(rt: &R, alloc: Global, connection: TcpStream, poll: Poll, of: (Side, Role)) {
     let Ok(connection) = TcpConnection::of(connection) else {
         return;
     };
@@ -298,12 +302,14 @@ fn run_one<R: Host>(rt: &R, alloc: Global, connection: TcpStream, poll: Poll, si
     };
     let (mut nobody, mut nowhere) = (silent(), silent());
     let sink = new_sink(alloc, false, &mut nobody, &mut nowhere);
-    // what it is asked to serve, the side says
+    let (side, role) = of;
     let session = Session {
-        side: Role::Client,
+        side: role,
         window: WINDOW,
         ping: None,
         keepalive: None,
+        idle: None,
+        names_users: false,
         is_sounded: false,
         is_followed: false,
     };

@@ -19,12 +19,13 @@ use crate::Host;
 use crate::drain::Drain;
 use crate::peer::{Peer, close};
 use crate::silence::{Cause, Due, Silence, has_passed, is_sign, shorter, time_of};
-use crate::socket::Socket;
+use crate::socket::{Head, Socket};
 use crate::stream::Stream;
 use crate::system::{NoEvents, Poll, SIGNALLED, TcpConnection, begin_call, said};
 use crate::users::Users;
 use crate::voice::Context;
 use std::alloc::Global;
+use std::collections::VecDeque;
 use std::net::{SocketAddr, SocketAddrV4};
 use std::sync::Arc;
 use std::time::Duration;
@@ -32,7 +33,7 @@ use ymx_engine::{Device, NotJoined, Readiness, Registry, Tunnel};
 use ymx_header::{FIRST_EXHAUSTED, MOST_RECORDS};
 use ymx_model::{CallFault, Config, Outlet, Role, Status};
 use ymx_page::{Declined, EndedConnection, Ending, Event, Origin};
-use ymx_policy::{Notice, Reason, Session as Asked, SessionEnd};
+use ymx_policy::{Notice, Reason, Session as Asked, SessionEnd, Side as Wanted};
 use ymx_session::{NewFault, Session};
 
 /// The wire's token.
@@ -60,8 +61,15 @@ const UNWRITTEN: u64 = 131_072;
 /// end before its connection is closed, where others may wait.
 const PATIENCE: u64 = 10;
 
-/// How many seconds it waits for events there, so that it sees when nothing has moved for too long.
+/// How many seconds it waits for events there, and where connections may be idle for too long.
 const GLANCE: u64 = 1;
+
+/// All that an event can say.
+const READY: Readiness = Readiness {
+    can_pull: true,
+    can_push: true,
+    is_closing: true,
+};
 
 /// How many seconds a session lasts at least after which the peer is called again at once.
 const LASTING: u64 = 1;
@@ -71,12 +79,8 @@ const LASTING: u64 = 1;
 pub(crate) enum Side {
     /// They come from users.
     Local(Users),
-    /// They go to a target, so many at once. Once the drain asks for that no more streams of the peer are taken.
-    Remote {
-        target: SocketAddr,
-        limit: usize,
-        drain: Arc<Drain, Global>,
-    },
+    /// They go to a target. Once the drain asks for that no more streams of the peer are taken.
+    Remote(Arc<Drain, Global>),
 }
 
 impl Side {
@@ -84,7 +88,7 @@ impl Side {
     fn role(&self) -> Role {
         match self {
             Side::Local(_) => Role::Client,
-            Side::Remote { .. } => Role::Server,
+            Side::Remote(_) => Role::Server,
         }
     }
 
@@ -92,7 +96,7 @@ impl Side {
     fn is_drained(&self) -> bool {
         match self {
             Side::Local(_) => false,
-            Side::Remote { drain, .. } => drain.is_asked(),
+            Side::Remote(drain) => drain.is_asked(),
         }
     }
 }
@@ -138,12 +142,10 @@ pub(crate) fn run_session<R: Host, D: Outlet>(
 ) -> SessionEnd {
     let began = time_of(context.rt);
     let address = peer.address;
-    context.tell(Event::SessionBegan);
     let mut how = match peer.into_wire(&session, poll, WIRE) {
         Ok(wire) => run_over(context, poll, side, wire, (session, address)),
         Err(_) => unwatched(),
     };
-    context.tell(Event::SessionEnded);
     how.peer = address;
     how.has_lasted = has_passed(began, time_of(context.rt), Duration::from_secs(LASTING));
     how
@@ -182,8 +184,12 @@ fn run_over<R: Host, D: Outlet>(
         peer,
         how: SessionEnd::clean(),
         unwritten: 0,
+        passed: (0, 0),
         rejected: 0,
-        is_loss_told: false,
+        is_end_told: false,
+        is_full: false,
+        watched: VecDeque::new(context.alloc),
+        watched_at: time_of(context.rt),
         is_heard: !session.is_sounded,
         is_leaving: false,
         still_since: None,
@@ -191,6 +197,9 @@ fn run_over<R: Host, D: Outlet>(
         pending: None,
     };
     let outcome = session_loop.run(poll);
+    session_loop.note_users();
+    session_loop.tell_counts();
+    session_loop.tell_end();
     let how = session_loop.ended(outcome);
     let limit = session_loop.close_limit();
     let SessionLoop { tunnel, .. } = session_loop;
@@ -212,9 +221,17 @@ struct SessionLoop<'a, R, D> {
     how: SessionEnd,
     /// How many bytes connections have given since the wire was last written to.
     unwritten: u64,
+    /// How many bytes have passed to the peer, and from it, since that was told.
+    passed: (u64, u64),
     /// How many of the peer's streams were told to have been rejected for want of memory.
     rejected: u64,
-    is_loss_told: bool,
+    is_end_told: bool,
+    /// It was told that users wait as all places are taken.
+    is_full: bool,
+    /// The streams of connections that may become idle.
+    watched: VecDeque<u32>,
+    /// When those were last looked at.
+    watched_at: Option<Duration>,
     /// The peer has given a sign of life, or isn't asked for one.
     is_heard: bool,
     /// The peer was told that no more of its streams are taken.
@@ -259,10 +276,12 @@ impl<R: Host, D: Outlet> SessionLoop<'_, R, D> {
         unreachable!()
     }
 
-    /// Asks the peer for its first sign of life, if it is to give one before it is given users.
+    /// Tells that it begins, and asks the peer for its first sign of life, if it is to give one before it is given users.
     fn begin(&mut self)
         ensures { Runs self.old.tunnel self.new.tunnel }
     {
+        let context = self.context;
+        context.tell(Event::SessionBegan(self.places()));
         if self.session.is_sounded {
             self.ask();
         }
@@ -357,10 +376,12 @@ impl<R: Host, D: Outlet> SessionLoop<'_, R, D> {
 
     /// How long it waits for events. None if for as long as none comes.
     fn timeout(&self) -> Option<Duration> {
+        let may_idle = self.session.idle.is_some() && !self.tunnel.is_empty();
+        let glance = may_idle.then_some(Duration::from_secs(GLANCE));
         match &*self.side {
             _ if self.session.is_followed && self.is_lost() => Some(Duration::from_secs(GLANCE)),
-            Side::Local(users) => users.limit(),
-            Side::Remote { .. } => None,
+            Side::Local(users) => shorter(users.limit(), glance),
+            Side::Remote(_) => glance,
         }
     }
 
@@ -376,13 +397,14 @@ impl<R: Host, D: Outlet> SessionLoop<'_, R, D> {
         self.tunnel.read_wire(LEAST_STRAIGHT);
         self.tunnel.read_wire(LEAST_STRAIGHT);
         self.tell_peer();
+        self.abort_idle();
         self.heed_drain();
         self.accept_streams(poll);
         self.serve_queued();
         self.unwritten = 0;
         self.tunnel.flush();
         self.end_lost_wire();
-        self.tell_rejections();
+        self.tell_counts();
     }
 
     // ---- what it looks at
@@ -405,17 +427,38 @@ impl<R: Host, D: Outlet> SessionLoop<'_, R, D> {
         let can_open_later = !self.is_lost()
             && !self.tunnel.is_peer_away()
             && self.tunnel.next_id() < FIRST_EXHAUSTED;
-        let has_place = self.tunnel.len() < MOST_RECORDS && self.tunnel.opens_left() > 0;
+        let has_place = self.tunnel.len() < self.places() && self.tunnel.opens_left() > 0;
         users.may_accept(self.tunnel.len())
             && !self.leaves_users()
             && (!can_open_later || has_place && self.is_heard)
     }
 
+    /// How many connections it may have at once.
+    fn places(&self) -> usize {
+        match self.session.side {
+            Wanted::Client => MOST_RECORDS,
+            Wanted::Server { workers, .. } => workers as usize,
+        }
+    }
+
     /// Where a stream goes to that is accepted now. None where it has to wait, or none is accepted at all.
-    fn free_target(&self) -> Option<SocketAddr> {
-        match &*self.side {
-            Side::Remote { target, limit, .. } if self.tunnel.len() < *limit => Some(*target),
+    fn free_target(&self) -> Option<SocketAddrV4> {
+        match self.session.side {
+            Wanted::Server { target, .. } if self.tunnel.len() < self.places() => Some(target),
             _ => None,
+        }
+    }
+
+    /// Whether users wait as all places are taken: at a `remote` their streams do.
+    fn keeps_waiting(&mut self) -> bool
+        ensures { self.new.tunnel ≡ self.old.tunnel }
+    {
+        if self.tunnel.len() < self.places() || self.is_lost() {
+            return false;
+        }
+        match &mut *self.side {
+            Side::Local(users) => users.are_waiting(),
+            Side::Remote(_) => self.tunnel.offered_count() > 0,
         }
     }
 
@@ -425,7 +468,7 @@ impl<R: Host, D: Outlet> SessionLoop<'_, R, D> {
     {
         let is_side_over = match &*self.side {
             Side::Local(users) => users.acceptor.is_over() || self.leaves_users(),
-            Side::Remote { .. } => {
+            Side::Remote(_) => {
                 (self.is_lost() || self.is_leaving) && self.tunnel.offered_count() == 0
             }
         };
@@ -530,11 +573,23 @@ impl<R: Host, D: Outlet> SessionLoop<'_, R, D> {
         let context = self.context;
         let origin = context.begin(socket.peer());
         self.prepare(&socket);
-        let opened = self
-            .tunnel
-            .open(Socket::connected(socket, origin), &mut Tokens { poll });
-        if let Err(why) = opened {
-            self.decline(origin, why);
+        let line = match self.session.names_users {
+            true => socket.proxy_line(),
+            false => Head::new(),
+        };
+        let device = Socket::connected(socket, origin, line);
+        match self.tunnel.open(device, &mut Tokens { poll }) {
+            Ok(id) => self.watch(id),
+            Err(why) => self.decline(origin, why),
+        }
+    }
+
+    /// From now on the connection of this stream may become idle, if one may. Where there is no memory for that it doesn't.
+    fn watch(&mut self, id: u32)
+        ensures { self.new.tunnel ≡ self.old.tunnel }
+    {
+        if self.session.idle.is_some() {
+            drop(self.watched.push_back(id));
         }
     }
 
@@ -606,17 +661,18 @@ impl<R: Host, D: Outlet> SessionLoop<'_, R, D> {
     }
 
     /// Begins a connection to the target for the stream that came first. If it can't begin, the stream is reset.
-    fn begin_stream(&mut self, target: SocketAddr, poll: &Poll)
+    fn begin_stream(&mut self, target: SocketAddrV4, poll: &Poll)
         ensures { Runs self.old.tunnel self.new.tunnel }
     {
         let context = self.context;
         let origin = context.begin(self.tunnel.wire().socket.peer());
-        let socket = match begin_call(context.rt, target) {
+        let socket = match begin_call(context.rt, SocketAddr::V4(target)) {
             Ok(socket) => socket,
             Err(error) => {
                 if self.tunnel.reject() {
-                    let why = Some(Reason::of(&error));
-                    self.tell_ended(origin, Ending::ConnectionFailed, why);
+                    let why = Reason::of_call(&error);
+                    context.tell(Event::Unreached(target, why));
+                    self.tell_ended(origin, Ending::ConnectionFailed, Some(why));
                 }
                 return;
             }
@@ -626,7 +682,8 @@ impl<R: Host, D: Outlet> SessionLoop<'_, R, D> {
             .tunnel
             .accept(Socket::begun(socket, origin), &mut Tokens { poll });
         match joined {
-            Ok(_) => {}
+            Ok(Some(id)) => self.watch(id),
+            Ok(None) => {}
             Err(NotJoined::OutOfMemory(_)) => {
                 self.how.lacked_memory = true;
                 self.tell_ended(origin, Ending::OutOfMemory, None);
@@ -665,8 +722,63 @@ impl<R: Host, D: Outlet> SessionLoop<'_, R, D> {
             return false;
         };
         self.unwritten = self.unwritten.saturating_add(served.gave as u64);
+        self.note_passed(served.id);
         self.forget_if_over(served.id);
         self.unwritten < UNWRITTEN
+    }
+
+    /// Notes what the connection of this stream has passed since that was noted last.
+    fn note_passed(&mut self, id: u32)
+        ensures { self.new.tunnel ≡ self.old.tunnel }
+    {
+        if let Some(socket) = self.tunnel.device(id) {
+            let passed = socket.take_passed();
+            self.add_passed(passed);
+        }
+    }
+
+    /// So many bytes more have passed to the peer and from it.
+    fn add_passed(&mut self, passed: (u64, u64))
+        ensures { self.new.tunnel ≡ self.old.tunnel }
+    {
+        let (to_peer, from_peer) = self.passed;
+        self.passed = (
+            to_peer.saturating_add(passed.0),
+            from_peer.saturating_add(passed.1),
+        );
+    }
+
+    /// Has each connection fail, once a second, on which no byte has moved for too long: at its turn it does.
+    fn abort_idle(&mut self)
+        ensures { Runs self.old.tunnel self.new.tunnel }
+    {
+        let Some(seconds) = self.session.idle else {
+            return;
+        };
+        let now = time_of(self.context.rt);
+        if !has_passed(self.watched_at, now, Duration::from_secs(GLANCE)) {
+            return;
+        }
+        self.watched_at = now;
+        let limit = Duration::from_secs(seconds as u64);
+        'watched: for _ in 0..self.watched.len() {
+            let Some(id) = self.watched.pop_front() else {
+                return;
+            };
+            self.abort_if_idle(id, now, limit);
+        }
+    }
+
+    /// Has the connection of this stream fail where it was idle for so long, and else goes on to watch it.
+    #[tactic(auto, using(crate::proofs::Going::unmoved))]
+    fn abort_if_idle(&mut self, id: u32, now: Option<Duration>, limit: Duration)
+        ensures { Runs self.old.tunnel self.new.tunnel }
+    {
+        match self.tunnel.device(id) {
+            Some(socket) if socket.is_idle(now, limit) => self.tunnel.note_line(id, READY),
+            Some(_) => drop(self.watched.push_back(id)),
+            None => {}
+        }
     }
 
     /// Lets go of a connection of which neither way is open.
@@ -689,8 +801,15 @@ impl<R: Host, D: Outlet> SessionLoop<'_, R, D> {
         let ways = self.tunnel.ways(id);
         let is_lost = self.is_lost();
         if let (Some(socket), Some(ways)) = (self.tunnel.forget(id), ways) {
+            self.add_passed(socket.take_passed());
             let ended = socket.ended(ways, is_lost);
             self.how.lacked_memory |= ended.lacked_memory();
+            if let (Some(why), Wanted::Server { target, .. }) = (
+                socket.unreached(),
+                self.session.side,
+            ) {
+                context.tell(Event::Unreached(target, why));
+            }
             if let Some(origin) = socket.origin {
                 context.tell(Event::Ended(origin, ended));
             }
@@ -722,8 +841,8 @@ impl<R: Host, D: Outlet> SessionLoop<'_, R, D> {
 
     // ---- what is told
 
-    /// Tells, once each, that the peer has come, where others follow its session, and that the session was lost, where none
-    /// does: then users are left to other places, if there are some. One who has broken a rule gives no sign of life.
+    /// Tells, once each, that the peer has come, where others follow its session, and that the session was lost. One who has
+    /// broken a rule gives no sign of life.
     fn tell_peer(&mut self)
         ensures { self.new.tunnel ≡ self.old.tunnel }
     {
@@ -737,26 +856,58 @@ impl<R: Host, D: Outlet> SessionLoop<'_, R, D> {
             self.context
                 .tell(Event::Notice(Notice::PeerCame(self.peer)));
         }
-        if is_followed || !self.is_lost() || self.is_loss_told {
+        if self.is_lost() {
+            self.tell_end();
+        }
+    }
+
+    /// Tells, once, that the session was lost or has ended, and which rule was broken. Where it was lost and none follows, users
+    /// are left to other places.
+    fn tell_end(&mut self)
+        ensures { self.new.tunnel ≡ self.old.tunnel }
+    {
+        if self.is_end_told {
             return;
         }
-        self.is_loss_told = true;
+        self.is_end_told = true;
+        let (context, peer) = (self.context, self.peer);
+        if let Status::Broken(fault) = self.tunnel.status() {
+            context.tell(Event::Reason(Notice::Broke(fault.number(), peer)));
+        }
+        let is_followed = self.session.is_followed;
+        context.tell(Event::SessionEnded(self.places(), is_followed));
+        if is_followed || !self.is_lost() {
+            return;
+        }
         if let Side::Local(users) = &mut *self.side {
             users.note_loss();
         }
-        self.context
-            .tell(Event::Notice(Notice::PeerGone(self.peer)));
+        context.tell(Event::Notice(match self.is_heard {
+            true => Notice::PeerGone(peer),
+            false => Notice::PeerGoneSilent(peer),
+        }));
     }
 
-    /// Tells of the streams that were rejected for want of memory, of each once.
-    fn tell_rejections(&mut self)
+    /// Tells how many bytes have passed, where users begin to wait for a place, or wait no more, and of the streams that were
+    /// rejected for want of memory, of each once.
+    fn tell_counts(&mut self)
         ensures { self.new.tunnel ≡ self.old.tunnel }
     {
+        let (context, (to_peer, from_peer)) = (self.context, self.passed);
+        if to_peer > 0 || from_peer > 0 {
+            context.tell(Event::Passed(to_peer, from_peer));
+            self.passed = (0, 0);
+        }
+        let is_full = self.keeps_waiting();
+        if is_full != self.is_full {
+            self.is_full = is_full;
+            context.tell(Event::Waiting(is_full, self.places()));
+        }
         let rejected = self.tunnel.no_memory();
         if rejected > self.rejected {
             let more = rejected - self.rejected;
             self.rejected = rejected;
-            self.context.tell(Event::Rejected(more, self.peer));
+            context.tell(Event::Rejected(more, self.peer));
         }
     }
 

@@ -1,15 +1,21 @@
 //! A socket that never waits, as a device of an engine.
 
-ghost use Rattle.std.specs.Prelude.{ℕ, List, ◌≡◌, ◌+◌, ◌-◌, ◌^◌, ◌<◌, ◌≤◌, ◌||◌, ◌&&◌, nat_le, length, is_some, min, true, false, IfSome, IfNone, IsOk, MatchResult, None};
+ghost use Rattle.std.specs.Prelude.{ℕ, List, ◌≡◌, ◌+◌, ◌-◌, ◌^◌, ◌<◌, ◌≤◌, ◌||◌, ◌&&◌, ◌++◌, nat_le, length, take, is_some, min, true, false, IfSome, IfNone, IsOk, MatchResult, None};
 ghost use Rattle.std.specs.Io.{WritesAtMost};
 ghost use Rattle.std.specs.Io.Slices.{io_slices_bytes};
 ghost use Rattle.ymx_engine.specs.Devices.{IsEnded, IsNoted, IsPulled, IsPushed, IsShut, gives, is_end, is_pull_failure, is_push_failure, may_have_more, pulled_count, pushed_count, takes};
 ghost use Rattle.ymx_engine.specs.declared.device.Pulled.TheVariants as Pulled;
 
+use crate::silence::has_passed;
 use crate::stream::Stream;
 use crate::system::{NoEvents, Poll, TcpConnection};
+use arrayvec::{ArrayString, ArrayVec};
+use std::cell::Cell;
+use std::fmt::Write;
 use std::io;
 use std::io::{ErrorKind, IoSlice};
+use std::net::SocketAddr;
+use std::time::Duration;
 use ymx_engine::{Device, Flow, Pulled, Pushed, Readiness, Ways};
 use ymx_page::{EndedConnection, Ending, Origin, Passed};
 use ymx_policy::Reason;
@@ -32,6 +38,34 @@ enum SocketFault {
     Pull,
     /// It took no bytes.
     Push,
+    /// No byte had moved for too long.
+    Idle,
+}
+
+/// Room for the longest line of PROXY protocol, version 1, in bytes.
+const HEAD: usize = 56;
+
+/// What a connection gives before its own bytes.
+pub(crate) type Head = ArrayVec<u8, HEAD>;
+
+/// The line of PROXY protocol, version 1, of a user at one address who has called the other.
+pub(crate) fn proxy_line(user: Option<SocketAddr>, here: Option<SocketAddr>) -> Head {
+    let mut line = ArrayString::<HEAD>::new();
+    let _ = match (user, here) {
+        (Some(SocketAddr::V4(user)), Some(SocketAddr::V4(here))) => {
+            let (from, to) = (user.ip(), here.ip());
+            write!(
+                line,
+                "PROXY TCP4 {from} {to} {} {}\r\n",
+                user.port(),
+                here.port()
+            )
+        }
+        _ => write!(line, "PROXY UNKNOWN\r\n"),
+    };
+    let mut head = Head::new();
+    let _ = head.try_extend_from_slice(line.as_str().as_bytes());
+    head
 }
 
 /// What events and calls have said of a socket.
@@ -100,14 +134,22 @@ pub(crate) struct Socket<S: Stream = TcpConnection> {
     /// It was shut both ways.
     was_shut: bool,
     marks: Marks,
+    /// What it gives before the bytes of its connection.
+    head: Head,
+    /// How many bytes it had given and taken when that was last told.
+    passed: Cell<(u64, u64)>,
+    /// How many had moved as it was last looked at, since when no more have, and whether that is too long.
+    still: Cell<(u64, Option<Duration>, bool)>,
     /// How many calls of it as a device were made. It stays at the greatest `u64`.
     calls: u64,
 }
 
 impl<S: Stream + Drop> Socket<S> {
-    /// The connection of a user, which is there. It may be used at once.
-    pub(crate) fn connected(socket: S, origin: Origin) -> Socket<S> {
-        Socket::new(socket, Some(origin), ConnectState::Connected)
+    /// The connection of a user, which is there. It may be used at once, and gives these bytes before its own.
+    pub(crate) fn connected(socket: S, origin: Origin, head: Head) -> Socket<S> {
+        let mut connected = Socket::new(socket, Some(origin), ConnectState::Connected);
+        connected.head = head;
+        connected
     }
 
     /// The connection of a session, which is there, and of which this poll tells under this token.
@@ -145,6 +187,9 @@ impl<S: Stream + Drop> Socket<S> {
                 may_push: true,
                 is_closing: false,
             },
+            head: Head::new(),
+            passed: Cell::new((0, 0)),
+            still: Cell::new((0, None, false)),
             calls: 0,
         }
     }
@@ -166,6 +211,31 @@ impl<S: Stream + Drop> Socket<S> {
         self.was_finished || self.was_shut
     }
 
+    /// Why it could not be made. None where that isn't so.
+    pub(crate) fn unreached(&self) -> Option<Reason> {
+        let is_unreachable = self.state == ConnectState::Unreachable;
+        is_unreachable.then_some(self.reason.unwrap_or(Reason::Other(0)))
+    }
+
+    /// How many bytes it has given and taken since this was last asked.
+    pub(crate) fn take_passed(&self) -> (u64, u64) {
+        let (pulled, pushed) = self.passed.replace((self.pulled, self.pushed));
+        (
+            self.pulled.saturating_sub(pulled),
+            self.pushed.saturating_sub(pushed),
+        )
+    }
+
+    /// Whether no byte has moved for so long by this time. Then its next call fails.
+    pub(crate) fn is_idle(&self, now: Option<Duration>, limit: Duration) -> bool {
+        let moved = self.pulled.saturating_add(self.pushed);
+        let (before, since, _) = self.still.get();
+        let since = if before == moved { since.or(now) } else { now };
+        let is_idle = has_passed(since, now, limit);
+        self.still.set((moved, since, is_idle));
+        is_idle
+    }
+
     /// How its connection ended, whose ways stand so, in a session that was lost or wasn't.
     pub(crate) fn ended(&self, ways: Ways, is_lost: bool) -> EndedConnection {
         let of_stream = if is_lost { Ending::Lost } else { Ending::Reset };
@@ -173,6 +243,7 @@ impl<S: Stream + Drop> Socket<S> {
             _ if ways.lacked_memory => (Ending::OutOfMemory, of_stream),
             Some(SocketFault::Pull) => (Ending::ConnectionFailed, of_stream),
             Some(SocketFault::Push) => (Ending::ConnectionFailed, Ending::ConnectionFailed),
+            Some(SocketFault::Idle) => (Ending::Idle, Ending::Idle),
             None => (of_stream, of_stream),
         };
         EndedConnection {
@@ -232,6 +303,10 @@ impl<S: Stream + Drop> Socket<S> {
         ensures rest { self.new ≡ record self.old { failure = self.new.failure; reason = self.new.reason } }
     {
         match self.state {
+            _ if self.still.get().2 => {
+                self.fail(SocketFault::Idle, None);
+                Some(true)
+            }
             ConnectState::Connecting => Some(false),
             ConnectState::Unreachable => {
                 self.fail(SocketFault::Push, None);
@@ -239,6 +314,22 @@ impl<S: Stream + Drop> Socket<S> {
             }
             ConnectState::Connected => None,
         }
+    }
+
+    /// Moves the first bytes that stand before its own into the front of this buffer. How many.
+    fn give_head(&mut self, buffer: &mut [u8]) -> usize
+        ensures within { result ≤ length buffer.new }
+        ensures some { 0 < length buffer.old → 0 < length self.old.head.items → 0 < result }
+        ensures given { self.old.head.items ≡ take result buffer.new ++ self.new.head.items }
+        ensures rest { self.new ≡ record self.old { head = self.new.head } }
+    {
+        let count = self.head.len().min(buffer.len());
+        let (given, left) = self.head.as_slice().split_at(count);
+        buffer[..count].copy_from_slice(given);
+        let mut head = Head::new();
+        let _ = head.try_extend_from_slice(left);
+        self.head = head;
+        count
     }
 
     /// What came of a read into a buffer that has room. Where a failure was told by a write, a read finds an end.
@@ -322,11 +413,12 @@ fn fit(pieces: &[IoSlice<'_>], count: usize) -> bool
 
 impl<S: Stream + Drop> Device for Socket<S> {
     ghost use Rattle.std.specs.Prelude.{Some, is_some};
+    ghost use Rattle.std.specs.Io.KnownBytes.{prepend_known};
     ghost use Rattle.ymx_forward.specs.Sockets.{marks_of};
 
-    ghost seen = { λ s. record { left = S.left s.socket; had = S.had s.socket; over = Some s.has_ended; ended = Some s.was_finished; failed = Some (is_some s.failure); shut = Some s.was_shut; marks = marks_of s.marks; calls = s.calls } };
+    ghost seen = { λ s. record { left = prepend_known s.head.items (S.left s.socket); had = S.had s.socket; over = Some s.has_ended; ended = Some s.was_finished; failed = Some (is_some s.failure); shut = Some s.was_shut; marks = marks_of s.marks; calls = s.calls } };
 
-    #[tactic(auto, using(crate::proofs::Bytes::none_consumed, crate::proofs::Bytes::all_kept))]
+    #[tactic(auto, using(crate::proofs::Bytes::none_consumed, crate::proofs::Bytes::all_kept, crate::proofs::Bytes::head_given, crate::proofs::Bytes::own_given))]
     fn pull(&mut self, buffer: &mut [u8]) -> Pulled
         ensures { IsPulled result buffer.new (⟦<Socket<S> as Device>⟧.seen self.old) (⟦<Socket<S> as Device>⟧.seen self.new) }
     {
@@ -335,6 +427,7 @@ impl<S: Stream + Drop> Device for Socket<S> {
             Some(true) => Pulled::Failed,
             Some(false) => Pulled::NotNow,
             None if buffer.is_empty() => Pulled::NotNow,
+            None if !self.head.is_empty() => Pulled::Gave(self.give_head(buffer)),
             None => {
                 let read = self.socket.read(buffer);
                 self.hear_read(read)

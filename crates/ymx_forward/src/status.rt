@@ -13,7 +13,7 @@ use std::net::{SocketAddr, SocketAddrV4};
 use std::sync::Arc;
 use std::time::{Clock, Duration, Instant};
 use ymx_model::Outlet;
-use ymx_page::{Answer, RequestLine, answer_to};
+use ymx_page::{Answer, RequestLine, Standing, answer_to};
 
 /// The token of the listener.
 const CALLERS: usize = 1;
@@ -207,19 +207,21 @@ impl Caller {
     /// Decides on the answer, and does what is asked for.
     fn decide<R: Host, D: Outlet>(&mut self, context: Context<'_, R, D>, drain: &Drain) {
         let rt = context.rt;
-        let answer = answer_to(self.line.bytes());
+        let (answer, wants_body) = answer_to(self.line.bytes());
         if answer == Answer::Drain {
             drain.ask(rt);
         }
-        let is_draining = drain.is_asked();
         let sink = context.sink.lock(rt);
         let age = match sink.counts.oldest() {
             Some(began) => began.elapsed(rt).unwrap_or(Duration::ZERO),
             None => Duration::ZERO,
         };
-        self.answer = answer
-            .text(context.alloc, &sink.counts, age.as_secs(), is_draining)
-            .ok();
+        let standing = Standing {
+            age: age.as_secs(),
+            is_draining: drain.is_asked(),
+            wants_body,
+        };
+        self.answer = answer.text(context.alloc, &sink.counts, standing).ok();
     }
 
     /// Writes the rest of its answer, and then the end.

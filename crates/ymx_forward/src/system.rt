@@ -12,6 +12,7 @@ ghost use Rattle.libc.specs.Net.{SockOption};
 ghost use Rattle.ymx_forward.specs.Counts.{CountsOne};
 
 use crate::drain::Drain;
+use crate::socket::{Head, proxy_line};
 use crate::stream::Stream;
 use libc::net as c;
 use libc::types::pollfd;
@@ -138,6 +139,11 @@ impl TcpConnection {
         connection.gives = false;
         connection.takes = false;
         connection
+    }
+
+    /// The line of PROXY protocol, version 1, that says who has called, and where.
+    pub(crate) fn proxy_line(&self) -> Head {
+        proxy_line(self.from, self.inner.local_addr().ok())
     }
 
     /// Whether one that was begun is there, after so many milliseconds at most. The error is why it can't be made.

@@ -198,6 +198,12 @@ impl Users {
         may_wait && !self.acceptor.is_over() && !self.yields(open)
     }
 
+    /// Whether somebody waits, who stays there.
+    pub(crate) fn are_waiting(&mut self) -> bool {
+        self.may_wait = self.may_wait && self.acceptor.is_awaited();
+        self.may_wait
+    }
+
     /// Whether more are open here than its share, where so many are.
     fn is_ahead(&self, open: usize) -> bool {
         let all = self.common.open.load(Ordering::SeqCst);

@@ -13,6 +13,8 @@ pub enum Ending {
     Ended,
     /// The connection failed, or could not be made.
     ConnectionFailed,
+    /// No byte had moved for as long as it may last.
+    Idle,
     /// The stream was reset.
     Reset,
     /// The session was lost.
@@ -28,6 +30,7 @@ impl fmt::Display for Ending {
         f.write_str(match self {
             Ending::Ended => "ended",
             Ending::ConnectionFailed => "connection failed",
+            Ending::Idle => "idle",
             Ending::Reset => "reset",
             Ending::Lost => "lost",
             Ending::OutOfMemory => "no memory",

@@ -6,6 +6,7 @@ use std::alloc::Global;
 use std::collections::BTreeMap;
 use std::time::Instant;
 use ymx_model::CallFault;
+use ymx_policy::Reason;
 
 /// What is counted of an end since it began.
 #[derive(Drop)]
@@ -24,6 +25,7 @@ pub(crate) struct Numbers {
     pub(crate) open: u64,
     pub(crate) ended: u64,
     pub(crate) failed: u64,
+    pub(crate) idle: u64,
     pub(crate) reset: u64,
     pub(crate) lost: u64,
     pub(crate) lacked_memory: u64,
@@ -35,6 +37,18 @@ pub(crate) struct Numbers {
     pub(crate) declined_other: u64,
     pub(crate) sessions_begun: u64,
     pub(crate) sessions_ended: u64,
+    /// The last session was lost or has ended, and none follows.
+    is_lost: bool,
+    /// The last call to the peer failed.
+    is_unreachable: bool,
+    pub(crate) places: u64,
+    pub(crate) waiting: u64,
+    pub(crate) target_refused: u64,
+    pub(crate) target_unreachable: u64,
+    pub(crate) target_timed_out: u64,
+    pub(crate) target_no_port: u64,
+    pub(crate) target_no_descriptor: u64,
+    pub(crate) target_other: u64,
     pub(crate) rejected: u64,
     pub(crate) system_refusals: u64,
 }
@@ -64,19 +78,48 @@ impl Counts {
         match event {
             Event::Ended(origin, ended) => {
                 self.end(origin.number);
-                add(&mut self.numbers.to_peer, ended.to_peer.bytes);
-                add(&mut self.numbers.from_peer, ended.from_peer.bytes);
                 add(self.ended_so(ended.ending()), 1);
             }
             Event::Declined(origin, why) => {
                 self.end(origin.number);
                 add(self.declined_so(*why), 1);
             }
-            Event::SessionBegan => add(&mut self.numbers.sessions_begun, 1),
-            Event::SessionEnded => add(&mut self.numbers.sessions_ended, 1),
+            Event::Unreached(_, reason) => add(self.unreached_so(*reason), 1),
+            Event::Passed(to_peer, from_peer) => {
+                add(&mut self.numbers.to_peer, *to_peer);
+                add(&mut self.numbers.from_peer, *from_peer);
+            }
+            Event::Waiting(true, _) => add(&mut self.numbers.waiting, 1),
+            Event::Waiting(false, _) => take(&mut self.numbers.waiting, 1),
+            Event::Called(has_succeeded) => self.numbers.is_unreachable = !has_succeeded,
+            Event::SessionBegan(places) => {
+                add(&mut self.numbers.sessions_begun, 1);
+                add(&mut self.numbers.places, *places as u64);
+                self.numbers.is_lost = false;
+            }
+            Event::SessionEnded(places, is_followed) => {
+                add(&mut self.numbers.sessions_ended, 1);
+                take(&mut self.numbers.places, *places as u64);
+                self.numbers.is_lost = !is_followed && self.sessions() == 0;
+            }
             Event::Rejected(count, _) => add(&mut self.numbers.rejected, *count),
             Event::Refused(_, _) => add(&mut self.numbers.system_refusals, 1),
             Event::Fault(_) | Event::Reason(_) | Event::Notice(_) => {}
+        }
+    }
+
+    /// How many sessions there are.
+    pub(crate) fn sessions(&self) -> u64 {
+        let begun = self.numbers.sessions_begun;
+        begun.saturating_sub(self.numbers.sessions_ended)
+    }
+
+    /// What is wrong with the end, in a word. None if nothing is.
+    pub(crate) fn trouble(&self) -> Option<&'static str> {
+        match (self.numbers.is_lost, self.numbers.is_unreachable) {
+            (true, _) => Some("lost\n"),
+            (false, true) => Some("unreachable\n"),
+            (false, false) => None,
         }
     }
 
@@ -91,7 +134,7 @@ impl Counts {
     /// The connection of this number is open no more.
     fn end(&mut self, number: u64) {
         let _ = self.open_since.remove(&number);
-        self.numbers.open = self.numbers.open.saturating_sub(1);
+        take(&mut self.numbers.open, 1);
     }
 
     /// The count of connections that ended so.
@@ -99,10 +142,27 @@ impl Counts {
         match ending {
             Ending::Ended => &mut self.numbers.ended,
             Ending::ConnectionFailed => &mut self.numbers.failed,
+            Ending::Idle => &mut self.numbers.idle,
             Ending::Reset => &mut self.numbers.reset,
             Ending::Lost => &mut self.numbers.lost,
             Ending::OutOfMemory => &mut self.numbers.lacked_memory,
             Ending::Refused => &mut self.numbers.refused,
+        }
+    }
+
+    /// The count of connections to the target that could not be made for this reason. A shortage is a refusal of the system too.
+    fn unreached_so(&mut self, reason: Reason) -> &mut u64 {
+        let numbers = &mut self.numbers;
+        if let Reason::NoPort | Reason::NoDescriptor | Reason::NoMemory = reason {
+            add(&mut numbers.system_refusals, 1);
+        }
+        match reason {
+            Reason::Refused => &mut numbers.target_refused,
+            Reason::Unreachable => &mut numbers.target_unreachable,
+            Reason::TimedOut => &mut numbers.target_timed_out,
+            Reason::NoPort => &mut numbers.target_no_port,
+            Reason::NoDescriptor => &mut numbers.target_no_descriptor,
+            _ => &mut numbers.target_other,
         }
     }
 
@@ -125,4 +185,9 @@ impl Counts {
 /// Counts so many more.
 fn add(count: &mut u64, added: u64) {
     *count = count.saturating_add(added);
+}
+
+/// Counts so many less.
+fn take(count: &mut u64, taken: u64) {
+    *count = count.saturating_sub(taken);
 }

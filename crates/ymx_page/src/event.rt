@@ -29,10 +29,18 @@ pub enum Event {
     Ended(Origin, EndedConnection),
     /// A connection was closed, as no stream was to be had for it.
     Declined(Origin, Declined),
-    /// A session with a peer begins.
-    SessionBegan,
-    /// It has ended.
-    SessionEnded,
+    /// A connection to this target could not be made, for this reason.
+    Unreached(SocketAddrV4, Reason),
+    /// So many bytes have passed to the peer and from it.
+    Passed(u64, u64),
+    /// Users begin to wait as all of so many places are taken, or wait no more.
+    Waiting(bool, usize),
+    /// A call to the peer has succeeded, or failed.
+    Called(bool),
+    /// A session with a peer begins, with so many places.
+    SessionBegan(usize),
+    /// One with so many places was lost or has ended, and whether others follow it.
+    SessionEnded(usize, bool),
     /// So many streams of the peer at this address, if it is known, were rejected for want of memory.
     Rejected(u64, Option<SocketAddrV4>),
 }
@@ -49,8 +57,16 @@ impl Event {
         let _ = match self {
             Event::Fault(fault) => write!(line, "{}", fault_text(*fault)),
             Event::Reason(notice) => write!(line, "{}", notice_text(*notice)),
-            Event::SessionBegan | Event::SessionEnded => return None,
+            Event::Unreached(target, reason) => {
+                let refused = Notice::Refused(Named::Target(*target), *reason);
+                write!(line, "{}", notice_text(refused))
+            }
+            Event::Passed(_, _) | Event::Waiting(false, _) | Event::Called(_) => return None,
+            Event::SessionBegan(_) | Event::SessionEnded(_, _) => return None,
             _ if !is_verbose => return None,
+            Event::Waiting(true, places) => {
+                writeln!(line, "ymx: all {places} places are taken: users wait")
+            }
             Event::Notice(notice) => write!(line, "{}", notice_text(*notice)),
             Event::Refused(option, reason) => {
                 write!(line, "{}", notice_text(Notice::Refused(*option, *reason)))

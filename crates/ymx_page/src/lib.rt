@@ -11,4 +11,4 @@ mod requests;
 pub use connections::{Declined, EndedConnection, Ending, Origin, Passed};
 pub use counts::Counts;
 pub use event::{Event, Line};
-pub use requests::{Answer, RequestLine, answer_to};
+pub use requests::{Answer, RequestLine, Standing, answer_to};

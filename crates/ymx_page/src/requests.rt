@@ -62,68 +62,94 @@ pub enum Answer {
     Bad,
 }
 
-/// The answer to a request whose first line this is, without the line feed at its end.
-pub fn answer_to(line: &[u8]) -> Answer {
-    let line = line.strip_suffix(b"\r".as_slice()).unwrap_or(line);
-    let version_1 = line.strip_suffix(b" HTTP/1.1".as_slice());
-    let Some(asked) = version_1.or(line.strip_suffix(b" HTTP/1.0".as_slice())) else {
-        return Answer::Bad;
-    };
-    if asked == b"GET /metrics".as_slice() || asked == b"GET /".as_slice() {
-        Answer::Metrics
-    } else if asked == b"GET /health".as_slice() {
-        Answer::Health
-    } else if asked == b"POST /drain".as_slice() {
-        Answer::Drain
-    } else if asked.ends_with(b" /metrics".as_slice())
-        || asked.ends_with(b" /".as_slice())
-        || asked.ends_with(b" /health".as_slice())
-    {
-        Answer::WantsGet
-    } else if asked.ends_with(b" /drain".as_slice()) {
-        Answer::WantsPost
-    } else {
-        Answer::NotFound
+/// How an end stands, beside what is counted, and whether the body of an answer is asked for.
+#[derive(Clone, Copy)]
+pub struct Standing {
+    /// How many seconds ago its oldest connection began that is open.
+    pub age: u64,
+    /// It takes no more connections.
+    pub is_draining: bool,
+    /// The body is asked for, and not the head alone.
+    pub wants_body: bool,
+}
+
+/// The answer to a request whose first line this is, without the line feed at its end, and whether its body is asked for.
+pub fn answer_to(line: &[u8]) -> (Answer, bool) {
+    match str::from_utf8(line).ok().and_then(parts_of) {
+        Some((method, path)) => (answer_for(method, path), method != "HEAD"),
+        None => (Answer::Bad, true),
+    }
+}
+
+/// The method of such a line and its path, without the query. None where it is no request.
+fn parts_of(line: &str) -> Option<(&str, &str)> {
+    let (method, rest) = line.split_once(' ')?;
+    let (target, version) = rest.split_once(' ')?;
+    let version = version.strip_suffix('\r').unwrap_or(version);
+    if version != "HTTP/1.1" && version != "HTTP/1.0" {
+        return None;
+    }
+    let path = target.split_once('?').map_or(target, |(path, _)| path);
+    Some((method, path))
+}
+
+/// The answer to this method at this path.
+fn answer_for(method: &str, path: &str) -> Answer {
+    let gets = method == "GET" || method == "HEAD";
+    match path {
+        "/metrics" | "/" if gets => Answer::Metrics,
+        "/health" if gets => Answer::Health,
+        "/drain" if method == "POST" => Answer::Drain,
+        "/metrics" | "/" | "/health" => Answer::WantsGet,
+        "/drain" => Answer::WantsPost,
+        _ => Answer::NotFound,
     }
 }
 
 impl Answer {
-    /// The answer as it goes out, of an end of which this is counted, and whose oldest connection that is open began so many
-    /// seconds ago. `AllocError` where there is no memory for the whole of it.
+    /// The answer as it goes out, of an end that stands so. `AllocError` where there is no memory for the whole of it.
     pub fn text(
         self,
         alloc: Global,
         counts: &Counts,
-        age: u64,
-        is_draining: bool,
+        standing: Standing,
     ) -> Result<String, AllocError> {
-        let (status, words) = match self {
-            Answer::Metrics => {
-                let page = page(alloc, counts, age, is_draining)?;
-                return framed(alloc, "200 OK", page.as_str());
+        let (status, words) = match (self, counts.trouble()) {
+            (Answer::Metrics, _) => {
+                let page = page(alloc, counts, standing)?;
+                return framed(alloc, "200 OK", page.as_str(), standing);
             }
-            Answer::Health if is_draining => ("503 Service Unavailable", "draining\n"),
-            Answer::Health => ("200 OK", "serving\n"),
-            Answer::Drain => ("202 Accepted", "draining\n"),
-            Answer::NotFound => ("404 Not Found", "not found\n"),
-            Answer::WantsGet => (
-                "405 Method Not Allowed\r\nAllow: GET",
+            (Answer::Health, _) if standing.is_draining => {
+                ("503 Service Unavailable", "draining\n")
+            }
+            (Answer::Health, Some(trouble)) => ("503 Service Unavailable", trouble),
+            (Answer::Health, None) => ("200 OK", "serving\n"),
+            (Answer::Drain, _) => ("202 Accepted", "draining\n"),
+            (Answer::NotFound, _) => ("404 Not Found", "not found\n"),
+            (Answer::WantsGet, _) => (
+                "405 Method Not Allowed\r\nAllow: GET, HEAD",
                 "method not allowed\n",
             ),
-            Answer::WantsPost => (
+            (Answer::WantsPost, _) => (
                 "405 Method Not Allowed\r\nAllow: POST",
                 "method not allowed\n",
             ),
-            Answer::Bad => ("400 Bad Request", "bad request\n"),
+            (Answer::Bad, _) => ("400 Bad Request", "bad request\n"),
         };
-        framed(alloc, status, words)
+        framed(alloc, status, words, standing)
     }
 }
 
-/// An answer of this status that says this.
-fn framed(alloc: Global, status: &str, body: &str) -> Result<String, AllocError> {
+/// An answer of this status that says this, if that is asked for.
+fn framed(
+    alloc: Global,
+    status: &str,
+    body: &str,
+    standing: Standing,
+) -> Result<String, AllocError> {
+    let said = if standing.wants_body { body } else { "" };
     format!(in alloc;
-        "HTTP/1.1 {status}\r\nContent-Type: text/plain; version=0.0.4; charset=utf-8\r\nContent-Length: {}\r\nConnection: close\r\n\r\n{body}",
+        "HTTP/1.1 {status}\r\nContent-Type: text/plain; version=0.0.4; charset=utf-8\r\nContent-Length: {}\r\nConnection: close\r\n\r\n{said}",
         body.len()
     )
 }

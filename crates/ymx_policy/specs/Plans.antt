@@ -50,7 +50,8 @@ call_limit is_awaited (Some seconds) = Some seconds
 call_limit true None = Some 10
 call_limit false None = None
 
--- of `local`: users come to --listen, --count of them; the session has --window, --ping and --keepalive; with --keep it goes on; with it or
+-- of `local`: users come to --listen, --count of them; the session has --window, --ping, --keepalive, --idle and --proxy-protocol; with
+-- --keep it goes on; with it or
 -- several --links users wait for the end of a call and, as with --ping, for the first sign of the peer
 abbrev pub local_terms : LocalOptions → Terms
 local_terms o = record {
@@ -65,6 +66,8 @@ local_terms o = record {
     window = o.window;
     ping = o.ping;
     keepalive = keepalive_of o.keepalive;
+    idle = o.idle;
+    names_users = o.names_users;
     is_sounded = is_some o.ping || nat_lt 1 o.links || o.is_kept;
     is_followed = o.is_kept;
   };
@@ -85,6 +88,8 @@ remote_terms o = record {
     window = o.window;
     ping = o.ping;
     keepalive = keepalive_of o.keepalive;
+    idle = o.idle;
+    names_users = false;
     is_sounded = is_some o.ping;
     is_followed = o.is_kept || is_some o.peers;
   };

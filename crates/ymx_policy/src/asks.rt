@@ -54,6 +54,10 @@ pub struct Session {
     pub ping: Option<u32>,
     /// How it is seen whether the other sides of its connections, the peer's among them, are still there. None if it isn't.
     pub keepalive: Option<Keepalive>,
+    /// After how many seconds in which no byte moved a connection is aborted. None if never.
+    pub idle: Option<u32>,
+    /// Each stream begins with a line that says who its user is.
+    pub names_users: bool,
     /// The peer is asked for a sign of life at first, before which no user is given to it.
     pub is_sounded: bool,
     /// Others wait for its end: what lingers behind it is cut off after a while. Once its peer gives a sign of life, that is
@@ -88,6 +92,8 @@ pub enum Named {
     Peer(SocketAddrV4),
     /// `--bind`
     Bind(SocketAddrV4),
+    /// `--target`
+    Target(SocketAddrV4),
     /// `--peers`
     Peers,
     /// `--links`

@@ -130,6 +130,8 @@ pub fn local_options()
     ensures window { (o : LocalGiven) → (terms_of (Plan.Local o)).session.window ≡ o.window }
     ensures ping { (o : LocalGiven) → (terms_of (Plan.Local o)).session.ping ≡ o.ping }
     ensures keepalive { (o : LocalGiven) → (terms_of (Plan.Local o)).session.keepalive ≡ keepalive_of o.keepalive }
+    ensures idle { (o : LocalGiven) → (terms_of (Plan.Local o)).session.idle ≡ o.idle }
+    ensures named { (o : LocalGiven) → (terms_of (Plan.Local o)).session.names_users ≡ o.names_users }
     ensures timeout { (o : LocalGiven) (n : ℕ) → o.timeout ≡ Some n → (terms_of (Plan.Local o)).limit ≡ Some n }
     ensures awaited { (o : LocalGiven) → o.timeout ≡ None → (o.is_kept ≡ true) ⊎ (1 < o.links) → (terms_of (Plan.Local o)).limit ≡ Some 10 }
     ensures unlimited { (o : LocalGiven) → o.timeout ≡ None → o.is_kept ≡ false → o.links ≤ 1 → (terms_of (Plan.Local o)).limit ≡ None }
@@ -150,6 +152,7 @@ pub fn remote_options()
     ensures window { (o : RemoteGiven) → (terms_of (Plan.Remote o)).session.window ≡ o.window }
     ensures ping { (o : RemoteGiven) → (terms_of (Plan.Remote o)).session.ping ≡ o.ping }
     ensures keepalive { (o : RemoteGiven) → (terms_of (Plan.Remote o)).session.keepalive ≡ keepalive_of o.keepalive }
+    ensures idle { (o : RemoteGiven) → (terms_of (Plan.Remote o)).session.idle ≡ o.idle }
     ensures timeout { (o : RemoteGiven) (n : ℕ) → o.timeout ≡ Some n → (terms_of (Plan.Remote o)).limit ≡ Some n }
     ensures awaited { (o : RemoteGiven) → o.timeout ≡ None → o.is_kept ≡ true → (terms_of (Plan.Remote o)).limit ≡ Some 10 }
     ensures unlimited { (o : RemoteGiven) → o.timeout ≡ None → o.is_kept ≡ false → (terms_of (Plan.Remote o)).limit ≡ None }

@@ -112,6 +112,10 @@ pub struct LocalOptions {
     pub keepalive: u32,
     /// How many seconds a call to the peer may take, 1 to 3,600. None if the command line doesn't say.
     pub timeout: Option<u32>,
+    /// After how many seconds in which no byte moved a connection is aborted, 1 to 86,400. None if never.
+    pub idle: Option<u32>,
+    /// Whether each stream begins with the line of PROXY protocol, version 1, that says who its user is.
+    pub names_users: bool,
     /// From where its peer may call, where it listens for it.
     pub from: Networks,
     /// Where it answers requests for what it counts. None if nowhere.
@@ -144,6 +148,8 @@ pub struct RemoteOptions {
     pub keepalive: u32,
     /// How many seconds a call to the peer may take, 1 to 3,600. None if the command line doesn't say.
     pub timeout: Option<u32>,
+    /// After how many seconds in which no byte moved a connection is aborted, 1 to 86,400. None if never.
+    pub idle: Option<u32>,
     /// From where its peer may call, where it listens for it.
     pub from: Networks,
     /// Where it answers requests for what it counts. None if nowhere.

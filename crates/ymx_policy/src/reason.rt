@@ -26,6 +26,8 @@ pub enum Reason {
     TimedOut,
     /// The other side broke the connection off.
     Reset,
+    /// No port of this machine is left for a call.
+    NoPort,
     /// No descriptor is left.
     NoDescriptor,
     /// There was no memory.
@@ -54,6 +56,14 @@ impl Reason {
         }
     }
 
+    /// The reason of this error of a call: an address that can't be had is a port there.
+    pub fn of_call(error: &io::Error) -> Reason {
+        match Reason::of(error) {
+            Reason::NotHere => Reason::NoPort,
+            reason => reason,
+        }
+    }
+
     /// The reason of which this is the system's number.
     fn of_number(number: i32) -> Reason {
         if NO_DESCRIPTOR.contains(&number) {
@@ -76,6 +86,7 @@ impl fmt::Display for Reason {
             Reason::Unreachable => write!(f, "unreachable"),
             Reason::TimedOut => write!(f, "timed out"),
             Reason::Reset => write!(f, "reset"),
+            Reason::NoPort => write!(f, "no port left"),
             Reason::NoDescriptor => write!(f, "no descriptor left"),
             Reason::NoMemory => write!(f, "no memory"),
             Reason::NoThread => write!(f, "no thread"),

@@ -81,6 +81,7 @@ impl fmt::Display for Named {
             Named::Listen(address) => write!(f, "--listen {address}"),
             Named::Peer(address) => write!(f, "--peer {address}"),
             Named::Bind(address) => write!(f, "--bind {address}"),
+            Named::Target(address) => write!(f, "--target {address}"),
             Named::Peers => write!(f, "--peers"),
             Named::Links => write!(f, "--links"),
             Named::Status(address) => write!(f, "--status {address}"),
@@ -93,7 +94,7 @@ fn rule_words(rule: u8) -> &'static str {
     match rule {
         1 => "the version of a frame is not 0",
         2 => "the type of a frame is above 3",
-        3 => "a stream was opened by an id that is not the opener's",
+        3 => "a stream was opened by an id that is not the opener's: both sides may be of one kind",
         4 => "a stream was opened that is there already",
         5 => "more bytes came than a frame or a window may have",
         6 => "a window was lifted above 4294967295 bytes",
