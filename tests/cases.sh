@@ -31,26 +31,9 @@ in_go() {
     go test -count 1 -run 'Cancelled|Behind|GivenUp|Twice|MadeAlike|Silent' .
 }
 
-# at_once NAME COMMAND..: begins a test beside the others
-names=
-at_once() {
-    name=$1
-    shift
-    names="$names $name"
-    (if "$@" > "$scratch/said.$name" 2>&1; then : > "$scratch/good.$name"; fi) &
-}
-
 if command -v python3 > /dev/null; then at_once Python in_python python3; else left_out Python 'no python3'; fi
 if /usr/bin/python3 -c 'import uvloop' 2> /dev/null; then at_once uvloop over_uvloop; else left_out uvloop 'no uvloop'; fi
 if command -v cargo > /dev/null; then at_once Rust in_rust; else left_out Rust 'no cargo'; fi
 if command -v go > /dev/null; then at_once Go in_go; else left_out Go 'no Go'; fi
-wait
-for name in $names; do
-    if [ -e "$scratch/good.$name" ]; then
-        good
-        echo "ok    $name: $(grep -E '^(Ran|ok|test result)' "$scratch/said.$name" | tail -n 1)"
-    else
-        bad "$name" "$scratch/said.$name"
-    fi
-done
+awaited
 counted

@@ -8,34 +8,6 @@ set -eu
 here=$(cd "$(dirname "$0")" && pwd)
 . "$here/over.sh"
 
-# spend: `spent` is the processor time of the commands that have ended, in seconds. `times` says it of this shell alone,
-# so it stands in no pipe.
-spend() {
-    times > "$scratch/times"
-    spent=$(sed -n 2p "$scratch/times" | tr 'ms' '  ' | awk '{ printf "%.0f", 60 * ($1 + $3) + $2 + $4 }')
-}
-
-# try NAME COMMAND..: one test
-try() {
-    name=$1
-    shift
-    began=$(date +%s)
-    spend
-    before=$spent
-    status=0
-    "$@" > "$scratch/log" 2>&1 < /dev/null || status=$?
-    spend
-    case $status in
-    0)
-        good
-        echo "ok    $name: $(tail -n 1 "$scratch/log") ($(($(date +%s) - began)) seconds, $((spent - before)) of processor time)"
-        ;;
-    # nothing was tried
-    77) grep '^--' "$scratch/log" ;;
-    *) bad "$name" "$scratch/log" ;;
-    esac
-}
-
 case ${1-} in
 '' | --all | --no-kit) ;;
 *)
@@ -48,7 +20,7 @@ try 'the links of the documents' "$root/tools/links.py"
 try 'the picture of the speeds' "$root/tools/speeds.py" --same
 try 'the pictures of what the program prints' "$root/tools/pictures.py" --same
 try 'bodies are the same for all recorders' "$root/tools/recorders.py"
-try 'what the documents show is run' "$root/tests/documents.sh"
+at_once 'what the documents show is run' "$root/tests/documents.sh"
 try 'requests of memory are bounded' "$root/tools/requests.py"
 try 'the calls of sockets stand in one file' "$root/tools/system_calls.py"
 try 'the released program' "$root/tests/release/run.sh"
@@ -59,12 +31,13 @@ if [ "${YMX_FROM_GATE-}" = yes ]; then
 elif [ "${1-}" != --no-kit ]; then
     echo "--    the release is what is built here: left out: no gate has built anything"
 fi
+# beside the others, as it waits more than it works
+at_once 'the program from outside' "$root/tests/program/run.sh"
 if [ "${1-}" = --no-kit ]; then
     try 'the released program for arm64, under qemu' "$root/tests/release/arm.sh" --quick
 else
     try 'the release for arm64, under qemu' "$root/tests/release/arm.sh"
 fi
-try 'the program from outside' "$root/tests/program/run.sh"
 try 'the program, installed' "$root/tests/release/installed.sh"
 try 'the parts of the program in C' "$root/tests/release/parts.sh"
 try '500 random connections' "$root/tests/kill/random.sh" 500
@@ -72,6 +45,7 @@ try 'scripts and what they print' "$root/tests/script/run.sh"
 try 'the dissector for Wireshark' "$root/tests/dissector/run.sh"
 try 'the C interface' "$root/tests/capi/run.sh"
 try 'the bindings, as programs of others use them' "$root/tests/cases.sh"
+awaited
 if [ "${1-}" != --no-kit ]; then
     try 'wrong bodies and the sources' "$root/tests/wrong_bodies.sh" --fit
     try 'each allocation fails once' "$root/tests/no_memory/run.sh"
