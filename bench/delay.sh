@@ -17,6 +17,7 @@ if [ "${1-}" = --relay ]; then
     netem=no
     shift
 fi
+numbers "$@"
 trip=${1-50}
 runs=${2-3}
 find_program

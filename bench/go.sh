@@ -6,6 +6,10 @@
 # golang-github-hashicorp-yamux-dev and a C compiler. With a number it makes so many runs.
 set -eu
 top=$(cd "$(dirname "$0")/.." && pwd)
+case ${1-5} in
+'' | *[!0-9]*) echo "usage: bench/go.sh [RUNS]" >&2 && exit 2 ;;
+esac
+[ -d /usr/share/gocode/src/github.com/hashicorp/yamux ] || { echo 'bench/go.sh needs golang-go and golang-github-hashicorp-yamux-dev' >&2; exit 1; }
 theirs=/usr/share/gocode/src/github.com/hashicorp/yamux
 work=$(mktemp -d)
 trap 'rm -rf "$work"' EXIT

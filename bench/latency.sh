@@ -12,6 +12,7 @@
 set -eu
 here=$(cd "$(dirname "$0")" && pwd)
 . "$here/../tests/over.sh"
+numbers "$@"
 find_program
 peer=
 if has_go; then

@@ -7,6 +7,10 @@
 # many runs. If YMX_BEFORE names a program of ymx, such as one from before a change, that is measured in turn too.
 set -eu
 top=$(cd "$(dirname "$0")/.." && pwd)
+case ${1-5} in
+'' | *[!0-9]*) echo "usage: bench/tunnel.sh [RUNS]" >&2 && exit 2 ;;
+esac
+[ -d /usr/share/gocode/src/github.com/hashicorp/yamux ] || { echo 'bench/tunnel.sh needs golang-go and golang-github-hashicorp-yamux-dev' >&2; exit 1; }
 "$top/ymx" --version > /dev/null
 folder=$(mktemp -d)
 trap 'rm -rf "$folder"' EXIT

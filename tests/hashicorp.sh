@@ -9,6 +9,7 @@
 set -eu
 here=$(cd "$(dirname "$0")" && pwd)
 . "$here/over.sh"
+numbers "$@"
 tries=${1-3}
 theirs=/usr/share/gocode/src/github.com/hashicorp/yamux
 has_go || fail "Go or its yamux is not here: apt-get install golang-go golang-github-hashicorp-yamux-dev"

@@ -7,6 +7,7 @@
 set -eu
 here=$(cd "$(dirname "$0")" && pwd)
 . "$here/../over.sh"
+numbers "$@"
 count=${1-10000}
 has_go || fail "Go or its yamux is not here: apt-get install golang-go golang-github-hashicorp-yamux-dev"
 find_program

@@ -5,5 +5,6 @@
 set -eu
 here=$(cd "$(dirname "$0")" && pwd)
 . "$here/../over.sh"
+numbers "$@"
 find_program
 python3 -B "$here/random_connections.py" "$ymx" "$@"

@@ -5,6 +5,7 @@
 set -eu
 here=$(cd "$(dirname "$0")" && pwd)
 . "$here/../over.sh"
+numbers "$@"
 find_program
 status=0
 python3 "$here/break.py" "$ymx" || status=1
