@@ -1,7 +1,8 @@
 #!/bin/sh
 # Measures how long a small stream waits beside large ones: 64 bytes there and back, one exchange after another, beside
 # downloads that take all that a slow line carries. The line is the relay bench/line.py, which needs no privilege. The
-# same is measured of Go's yamux, where tests/interop/run.sh finds Go, and of plain TCP over the line, in turn.
+# same is measured of Go's yamux, if tests/interop/run.sh finds Go, of `ssh -L`, if that and sshd are installed, and of
+# plain TCP over the line, in turn.
 #
 #     bench/latency.sh [RUNS]
 #
@@ -19,7 +20,9 @@ if has_go; then
     peer=$scratch/peer
     go_program "$root/tests/interop/peer.go" "$peer"
 fi
-PYTHONPATH=$root/tests python3 -B - "$ymx" "${YMX_BEFORE-}" "$peer" "$here/line.py" "${1-3}" "${ROWS-1 2 3 4}" << 'PYTHON'
+# where Debian's sshd stands
+PATH=$PATH:/usr/sbin
+PYTHONPATH=$root/tests:$here python3 -B - "$ymx" "${YMX_BEFORE-}" "$peer" "$here/line.py" "${1-3}" "${ROWS-1 2 3 4}" "$scratch" << 'PYTHON'
 import random
 import selectors
 import socket
@@ -29,9 +32,10 @@ import sys
 import threading
 import time
 
+import others
 from ports import free_port
 
-ymx, before, peer, relay, runs, chosen = sys.argv[1:]
+ymx, before, peer, relay, runs, chosen, folder = sys.argv[1:]
 # What is measured, million bits a second, the round trip in milliseconds, how many downloads, the windows.
 ROWS = [
     (10, 50, 8, 262_144),
@@ -157,8 +161,11 @@ def tunnel(processes, kind, target, row):
     if kind == "plain TCP":
         begin(processes, at["line"], line)
         return at["line"]
-    program = {"ymx": ymx, "ymx before": before, "Go's yamux": peer}[kind]
-    if program == peer:
+    program = {"ymx": ymx, "ymx before": before, "Go's yamux": peer, "ssh -L": "ssh"}[kind]
+    if program == "ssh":
+        remote = others.sshd(folder, place["remote"])
+        local = others.ssh(folder, place["line"], place["users"], f"127.0.0.1:{target}")
+    elif program == peer:
         remote = [peer, "remote", "-at", place["remote"], "-to", f"127.0.0.1:{target}", "-window", str(window)]
         local = [peer, "local", "-at", place["users"], "-to", place["line"], "-window", str(window)]
     else:
@@ -192,7 +199,7 @@ def measure(kind, target, row):
 
 
 target = server()
-kinds = ["ymx"] + ["ymx before"] * bool(before) + ["Go's yamux"] * bool(peer) + ["plain TCP"]
+kinds = ["ymx"] + ["ymx before"] * bool(before) + ["Go's yamux"] * bool(peer) + ["ssh -L"] * others.has_ssh() + ["plain TCP"]
 print(f"{SIZE} bytes there and back beside downloads; medians of {runs}")
 for number in map(int, chosen.split()):
     row = ROWS[number - 1]

@@ -17,9 +17,8 @@ trap 'rm -rf "$folder"' EXIT
 # where Debian's servers stand
 PATH=$PATH:/usr/sbin
 GO111MODULE=off GOPATH=/usr/share/gocode go build -o "$folder/peer" "$top/tests/interop/peer.go"
-python3 - "$folder/peer" "$top/out/ymx" "${1-5}" <<'PYTHON'
+PYTHONPATH=$top/bench python3 -B - "$folder/peer" "$top/out/ymx" "${1-5}" <<'PYTHON'
 import contextlib
-import getpass
 import os
 import resource
 import shutil
@@ -29,6 +28,8 @@ import statistics
 import subprocess
 import sys
 import time
+
+import others
 
 peer, ymx, runs = sys.argv[1], sys.argv[2], int(sys.argv[3])
 folder = os.path.dirname(peer)
@@ -44,7 +45,7 @@ LINKS = "ymx --links 4"
 BEFORE = os.environ.get("YMX_BEFORE")
 KINDS = ["ymx", "ymx before"] if BEFORE else ["ymx"]
 KINDS += ["Go", "plain copying"]
-KINDS += ["ssh -L"] if shutil.which("ssh") and shutil.which("sshd") else []
+KINDS += ["ssh -L"] if others.has_ssh() else []
 KINDS += ["haproxy"] if shutil.which("haproxy") else []
 CASES = [
     ("1 connection of 1 GiB", 1, 1, 1 << 30),
@@ -115,40 +116,15 @@ class Process:
         self.process.wait()
 
 
-def over_ssh(echo):
-    """`ssh -L` and the sshd that it calls, with keys of their own."""
-    for name in "host", "user":
-        if not os.path.exists(f"{folder}/{name}"):
-            subprocess.run(["ssh-keygen", "-q", "-t", "ed25519", "-N", "", "-f", f"{folder}/{name}"], check=True)
-    if os.getuid() == 0:
-        os.makedirs("/run/sshd", exist_ok=True)
-    at, near = free_address(), free_address()
-    host, port = at.split(":")
-    options = [f"ListenAddress={at}", f"HostKey={folder}/host", f"AuthorizedKeysFile={folder}/user.pub", "PidFile=none"]
-    options += ["StrictModes=no", "UsePAM=no", "PermitRootLogin=yes", "PasswordAuthentication=no"]
-    far = Process([shutil.which("sshd"), "-D", "-e", "-f", "/dev/null", *(f"-o{one}" for one in options)], at)
-    options = ["BatchMode=yes", "StrictHostKeyChecking=no", f"UserKnownHostsFile={folder}/known", "ExitOnForwardFailure=yes"]
-    words = ["ssh", "-F", "none", "-N", "-i", f"{folder}/user", "-p", port, *(f"-o{one}" for one in options)]
-    return Process([*words, "-L", f"{near}:{echo.address}", f"{getpass.getuser()}@{host}"], near), far
-
-
-def by_haproxy(target):
-    """A haproxy that leads to this address."""
-    at = free_address()
-    file = f"{folder}/haproxy{at}"
-    with open(file, "w") as made:
-        made.write(f"global\n maxconn 4096\ndefaults\n mode tcp\n timeout connect 10s\n timeout client 1h\n timeout server 1h\n")
-        made.write(f"listen all\n bind {at}\n server one {target}\n")
-    return Process(["haproxy", "-db", "-f", file], at)
-
-
 def tunnel(kind, echo):
     """The two processes between the client and the echo server, the client's first."""
+    at, near = free_address(), free_address()
     if kind == "ssh -L":
-        return over_ssh(echo)
+        far = Process(others.sshd(folder, at), at)
+        return Process(others.ssh(folder, at, near, echo.address), near), far
     if kind == "haproxy":
-        far = by_haproxy(echo.address)
-        return by_haproxy(far.address), far
+        far = Process(others.haproxy(folder, at, echo.address), at)
+        return Process(others.haproxy(folder, near, at), near), far
     if kind == "plain copying":
         far = Process([peer, "forward", "-at", ANY, "-to", echo.address])
         return Process([peer, "forward", "-at", ANY, "-to", far.address]), far
@@ -158,7 +134,6 @@ def tunnel(kind, echo):
     options = ["--window", "1048576"] if kind == WIDE else []
     links, peers = (["--links", "4"], ["--peers", "4"]) if kind == LINKS else ([], [])
     program = BEFORE if kind == "ymx before" else ymx
-    at, near = free_address(), free_address()
     far = Process([program, "remote", "--bind", at, "--target", echo.address, *options, *peers], at)
     return Process([program, "local", "--listen", near, "--peer", far.address, *options, *links], near), far
 
