@@ -77,8 +77,13 @@ def told(near, far, wanted, limit, wires=1):
         assert 2 <= len(found) <= wires + 1, f"{len(found)} connections, and not {wires + 1}"
         for place, connection in found.items():
             is_wire = place != outside.getsockname()
+            expected = wanted, limit if is_wire else 0
+            # another link may be there before it has its options
+            end = time.monotonic() + 60
+            while settings(connection) != expected and time.monotonic() < end:
+                time.sleep(0.01)
             got = settings(connection)
-            assert got == (wanted, limit if is_wire else 0), f"{got} of {'the wire' if is_wire else 'a connection'}"
+            assert got == expected, f"{got} of {'the wire' if is_wire else 'a connection'}"
 
 
 def told_of_caller(wanted, *words):

@@ -136,9 +136,12 @@ def three_peers():
 
 
 def is_served(peer):
-    """It gets an answer."""
+    """It gets an answer, perhaps after a question of the program's own."""
     peer.sendall(frame(PING, SYN, 0, 7))
-    return take(peer, 12) == frame(PING, ACK, 0, 7)
+    first = take(peer, 12)
+    if first.startswith(frame(PING, SYN, 0, 0)[:4]):
+        first = take(peer, 12)
+    return first == frame(PING, ACK, 0, 7)
 
 
 def peers_at_once():
