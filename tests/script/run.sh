@@ -9,15 +9,20 @@ find_program
 alone
 cd "$scratch"
 
-# plays NAME SCRIPT WANTED: the script prints what is wanted, with its status, and says nothing else
+# plays NAME SCRIPT WANTED: the script prints what is wanted, with its status, and on standard error why it ends at a line
 plays() {
     wanted=0
-    case $(tail -n 1 "$3") in
-    'error line '*) wanted=1 ;;
+    : > why
+    last=$(tail -n 1 "$3")
+    case $last in
+    'error line '*)
+        wanted=1
+        echo "ymx: line ${last#error line }: no step, a number out of range, or a setting after a step: see \`ymx script --help\`" > why
+        ;;
     esac
     status=0
     "$ymx" script < "$2" > out 2> err || status=$?
-    if [ "$status" = "$wanted" ] && cmp -s out "$3" && [ ! -s err ]; then
+    if [ "$status" = "$wanted" ] && cmp -s out "$3" && cmp -s err why; then
         good
     else
         diff "$3" out | head -n 20 > differs
