@@ -82,7 +82,7 @@ struct entry { uint32_t events; uint64_t data; };
 /* Of a session's wire, which alone has the token 0, the system takes no more while it holds so many bytes that it hasn't sent: what is chosen
 late leaves late. */
 #ifndef UNSENT
-#define UNSENT 131072
+#define UNSENT 65536
 #endif
 
 int rattle_epoll_ctl(int epoll, int what, int file, uint32_t events, uint64_t data) {

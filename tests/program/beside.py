@@ -11,6 +11,7 @@ import os
 import random
 import socket
 import sys
+import threading
 import time
 
 import raw
@@ -21,6 +22,8 @@ RST = 8
 IDLE = 300
 MEGABYTE = random.Random(5).randbytes(1_000_000)
 AT_ONCE = 65_536
+# How much of a wire the system may hold unsent, and how much a frame carries at most.
+UNSENT, FRAME = 65_536, 16_384
 FAILED = "0 bytes to the peer (connection failed: refused), 0 bytes from the peer (connection failed: refused)"
 
 
@@ -250,11 +253,57 @@ def a_target_that_refuses():
     ], (status, said)
 
 
+def a_word_on_a_slow_line():
+    """A word isn't sent after all that a download may send: after what the system holds unsent, what is on its way, and two frames."""
+    target, address = listen()
+    program = raw.Program("remote", "-v", "--bind", ANY, "--target", address)
+    with socket.socket() as connection:
+        connection.setsockopt(socket.IPPROTO_TCP, socket.TCP_MAXSEG, 1_448)
+        connection.setsockopt(socket.SOL_SOCKET, socket.SO_RCVBUF, FRAME)
+        host, port = program.place().rsplit(":", 1)
+        connection.connect((host, int(port)))
+        most = waits_on_a_slow_line(Peer(connection), target)
+    assert most <= UNSENT + 5 * FRAME, most
+
+
+def waits_on_a_slow_line(peer, target):
+    """How many bytes of a download come before a word at most, which is sent now and then, on a line that takes a frame in 20 ms."""
+    peer.open(1)
+    download = accept(target)
+    peer.open(3)
+    words = accept(target)
+    sender = threading.Thread(target=send_all, args=(download, bytes(4_000_000)))
+    sender.start()
+    most = 0
+    for number in range(60):
+        peer.turn()
+        time.sleep(0.02)
+        if number % 10 == 9:
+            before = len(peer.stream(1).came)
+            peer.send(3, b"?")
+            assert take(words, 1) == b"?"
+            words.sendall(b"!")
+            assert peer.receive(3, 1) == b"!"
+            most = max(most, len(peer.stream(1).came) - before)
+    peer.connection.close()
+    download.close()
+    sender.join()
+    return most
+
+
+def send_all(connection, data):
+    try:
+        connection.sendall(data)
+    except OSError:
+        pass
+
+
 TESTS = (
     *((f"{IDLE} idle connections and a busy one of {name}", idle_beside_busy, (name,)) for name in ("local", "remote")),
     *((f"one at {name} who reads nothing", unread_beside_others, (name,)) for name in ("local", "remote")),
     *((f"half-closes at {name}", half_closes, (name,)) for name in ("local", "remote")),
     ("a target that refuses", a_target_that_refuses, ()),
+    *([("a word on a slow line", a_word_on_a_slow_line, ())] if raw.COUNTS else []),
 )
 
 

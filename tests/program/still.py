@@ -12,8 +12,9 @@ import time
 import raw
 from raw import ANY, Program, accept, call, is_cut, listen, take
 
-# How many seconds no byte may move, and how much less may have gone by, as the clocks of two processes count it.
-IDLE, EARLY = 2, 0.1
+# How many seconds no byte may move: so many that also a slow machine moves one sooner where it is to; and how much less may have gone by, as the
+# clocks of two processes count it.
+IDLE, EARLY = 4, 0.1
 # How long it may take where the machine is slow.
 LATE = 100
 

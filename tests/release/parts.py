@@ -119,7 +119,7 @@ def marks(end):
         is_wire = each.getsockname() == peer.getpeername() and not each.getsockopt(socket.SOL_SOCKET, socket.SO_ACCEPTCONN)
         wires.append(is_wire)
         mark = each.getsockopt(socket.IPPROTO_TCP, socket.TCP_NOTSENT_LOWAT)
-        assert mark == (131_072 if is_wire else 0), (is_wire, mark)
+        assert mark == (65_536 if is_wire else 0), (is_wire, mark)
     assert wires.count(True) == 1 and False in wires, wires
 
 

@@ -67,6 +67,12 @@ runs_beside a b m calm same = runs_on a b m (serving_session a b calm same) (ext
 still_calm : (a b : Tunnel) → b.engine ≡ a.engine → IsWithin a.engine.session → Calms a.engine.session b.engine.session
 still_calm a b e = calms_same a.engine.session b.engine.session (ap (λ (v : Engine). v.session) e)
 
+-- nothing moved
+pub runs_unmoved : (a b : Tunnel) → b.engine ≡ a.engine → b.wire ≡ a.wire → b.lines ≡ a.lines → Runs a b
+runs_unmoved a b engine wire same =
+    runs_beside a b (moves_called a b [] (ap (λ (v : Engine). v.session) engine) ((refl, λ w. tt), refl, refl, refl) (keeps_wire a.engine b.engine engine) wire
+    (λ other. subst (λ (l : Lines). Life other [] (look other a.lines) (look other l)) (sym same) (life_quiet other [] (look other a.lines) (refl, refl, refl, refl, refl, refl)))) (still_calm a b engine) same
+
 -- an event said something of the wire
 pub runs_wire_noted : (a b : Tunnel) (ready : Readiness) → b.engine ≡ a.engine → IsNoted ready a.wire b.wire → b.lines ≡ a.lines → Runs a b
 runs_wire_noted a b ready engine x same = runs_beside a b (moves_wire_noted a b ready engine x (seen_alike a b same)) (still_calm a b engine) same
@@ -114,9 +120,7 @@ pub runs_line_noted : (a b : Tunnel) (id : ℕ) (ready : Readiness) → b.engine
 runs_line_noted a b id ready engine wire noted none = by (line_of id a.lines) refl
   where
     by : (o : Option Line) → line_of id a.lines ≡ o → Runs a b
-    by None e =
-        runs_beside a b (moves_called a b [] (ap (λ (v : Engine). v.session) engine) ((refl, λ w. tt), refl, refl, refl) (keeps_wire a.engine b.engine engine) wire
-        (λ other. subst (λ (l : Lines). Life other [] (look other a.lines) (look other l)) (sym (none e)) (life_quiet other [] (look other a.lines) (refl, refl, refl, refl, refl, refl)))) (still_calm a b engine) (none e)
+    by None e = runs_unmoved a b engine wire (none e)
     by (Some was) e =
         let x = noted was e in
         runs_on a b (moves_noted a b id ready was.seen x.now engine wire x.noted (ap (option_map (λ (l : Line). l.seen)) e) (λ other. puts_look id other (Some (record { seen = x.now; ways = was.ways })) a.lines b.lines x.lines))

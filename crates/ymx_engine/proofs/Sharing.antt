@@ -1,5 +1,5 @@
 -- While another connection waits that had no turn since it came to have something to move, the one that has its turn gives one frame at most.
-use Rattle.std.proofs.Common.{◌≡◌, ◌⊎◌, inl, inr, ℕ, zero, suc, ◌<◌, ◌≤◌, ◌==◌, ◌∷◌, [], List, if◌then◌else◌, length, Bool, true, false, refl, sym, subst, arith}
+use Rattle.std.proofs.Common.{◌≡◌, ◌⊎◌, inl, inr, ℕ, zero, suc, ◌<◌, ◌≤◌, ◌==◌, ◌∷◌, [], List, if◌then◌else◌, length, Bool, true, false, ◌&&◌, not, refl, sym, subst, arith}
 use Rattle.std.specs.Prelude.{Contains}
 use Rattle.std.proofs.lemmas.Bool.Decides.{nat_tests}
 use Rattle.ymx_engine.specs.Devices.{one_frame, one_read}
@@ -13,6 +13,12 @@ is_some count some = by (count == 0) refl
     by : (x : Bool) → (count == 0) ≡ x → x ≡ false
     by false e = refl
     by true e = absurd (grind (arith, nat_tests))
+
+or_slow : (none slow : Bool) → (none ≡ false) ⊎ (slow ≡ true) → (none && not slow) ≡ false
+or_slow false slow e = refl
+or_slow true true e = refl
+or_slow true false (inl e) = let no : true ≡ false = e in absurd cc
+or_slow true false (inr e) = let no : false ≡ true = e in absurd cc
 
 few_of : (takes none : Bool) (gave : ℕ) → gave ≤ (if takes then (if none then one_read else one_frame) else 0) → none ≡ false → gave ≤ one_frame
 few_of true true gave h e = let no : true ≡ false = e in absurd cc
@@ -32,4 +38,8 @@ among id gave a b x other waits = by (waits_on (takes_busy a.lines) id other a.l
   where
     by : ((other ≡ id) ⊎ Contains x.taken.fresh other) → (other ≡ id) ⊎ (gave ≤ one_frame)
     by (inl same) = inl same
-    by (inr (k, less, e)) = inr (few_of (takes_more a) (length x.taken.fresh == 0) gave x.served.turn.within (is_some (length x.taken.fresh) (omega (arith, less))))
+    by (inr (k, less, e)) = inr (few_of (takes_more a) (length x.taken.fresh == 0 && not a.is_slow) gave x.served.turn.within (or_slow (length x.taken.fresh == 0) a.is_slow (inl (is_some (length x.taken.fresh) (omega (arith, less))))))
+
+-- on a slow wire it does so in each turn
+pub paced : (id gave : ℕ) (a b : Tunnel) → ServesFirst id gave a b → a.is_slow ≡ true → gave ≤ one_frame
+paced id gave a b x slow = few_of (takes_more a) (length x.taken.fresh == 0 && not a.is_slow) gave x.served.turn.within (or_slow (length x.taken.fresh == 0) a.is_slow (inr slow))

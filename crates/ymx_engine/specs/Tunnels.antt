@@ -5,11 +5,12 @@ use Rattle.ymx_engine.specs.Engines.{Engine}
 use Rattle.ymx_engine.specs.Turns.{Lines}
 
 -- Its session and the bytes under way between that and its wire; what is seen of its wire, and whether the session heard of
--- the wire's end; its connections; and how many streams of the peer's were rejected for want of memory.
+-- the wire's end, and whether that takes bytes slowly; its connections; and how many streams of the peer's were rejected for want of memory.
 pub record Tunnel : Type 0 where
   pub engine : Engine
   pub wire : Seen
   pub is_wire_over : Bool
+  pub is_slow : Bool
   pub lines : Lines
   pub no_memory : ℕ
 

@@ -99,11 +99,11 @@ impl<D: Device + Drop, W: Device + Drop> Tunnel<D, W> {
         self.lines.device(id)
     }
 
-    /// The stream of some connection. `None` where there is none.
-    pub fn first(&self) -> Option<u32>
-        ensures { result ≡ slice_get (keys_of self.now.lines.by_id) 0 }
+    /// The stream of the connection at this place. `None` where there are no more than so many.
+    pub fn id_at(&self, place: usize) -> Option<u32>
+        ensures { result ≡ slice_get (keys_of self.now.lines.by_id) place }
     {
-        self.lines.id_at(0)
+        self.lines.id_at(place)
     }
 
     /// How many connections there are.

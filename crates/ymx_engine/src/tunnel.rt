@@ -57,6 +57,8 @@ pub struct Tunnel<D: Device + Drop, W: Device + Drop> {
     pub(crate) wire: W,
     /// The session heard that no more bytes come from the wire.
     pub(crate) is_wire_over: bool,
+    /// The wire takes bytes slowly.
+    pub(crate) is_slow: bool,
     /// How many streams of the peer's were rejected for want of memory.
     pub(crate) no_memory: u64,
 }
@@ -68,7 +70,7 @@ impl<D: Device + Drop, W: Device + Drop> Model for Tunnel<D, W> {
 
     ghost Value = { TunnelValue };
 
-    ghost view = { λ t. record { engine = record { session = t.session; outgoing = t.outgoing; incoming = t.incoming }; wire = W.seen t.wire; is_wire_over = t.is_wire_over; lines = t.lines; no_memory = t.no_memory } };
+    ghost view = { λ t. record { engine = record { session = t.session; outgoing = t.outgoing; incoming = t.incoming }; wire = W.seen t.wire; is_wire_over = t.is_wire_over; is_slow = t.is_slow; lines = t.lines; no_memory = t.no_memory } };
 
     ghost invariant = { λ t. one_read ≤ length t.buffer.items };
 }
@@ -94,6 +96,7 @@ impl<D: Device + Drop, W: Device + Drop> Tunnel<D, W> {
             buffer: memory.buffer,
             wire,
             is_wire_over: false,
+            is_slow: false,
             no_memory: 0,
         })
     }
@@ -119,6 +122,15 @@ impl<D: Device + Drop, W: Device + Drop> Tunnel<D, W> {
         self.wire.note_event(ready);
     }
 
+    /// From now on the wire takes bytes slowly, or not: while it does, each turn gives one frame at most, so that bytes wait at their
+    /// own connections and not before those of others.
+    pub fn note_pace(&mut self, is_slow: bool)
+        ensures runs { Runs self.old self.new }
+        ensures noted { self.new ≡ record self.old { is_slow = is_slow } }
+    {
+        self.is_slow = is_slow;
+    }
+
     /// An event says this of the device of a stream, which has a turn then. Nothing happens where it has none.
     pub fn note_line(&mut self, id: u32, ready: Readiness)
         ensures runs { Runs self.old self.new }
@@ -136,8 +148,8 @@ impl<D: Device + Drop, W: Device + Drop> Tunnel<D, W> {
     // ---- turns
 
     /// Serves the connection whose turn it is, with its own device: at most four writes to it, and then one read from it: of a
-    /// frame while another waits that had no turn since it came to have something to move, and else of 131,072 bytes. It isn't
-    /// read while bytes wait that the wire doesn't take, or many wait. `None` where none waits for a turn.
+    /// frame while the wire is slow, or another waits that had no turn since it came to have something to move, and else of 131,072
+    /// bytes. It isn't read while bytes wait that the wire doesn't take, or many wait. `None` where none waits for a turn.
     pub fn serve_next(&mut self) -> Option<Served>
         ensures runs { Runs self.old self.new }
         ensures stays { Stays self.old self.new }
@@ -147,6 +159,8 @@ impl<D: Device + Drop, W: Device + Drop> Tunnel<D, W> {
         ensures turn { IfSome result (λ served. ServesFirst served.id served.gave self.old self.new) }
         // While another waits that had no turn since it came to have something to move, it gives one frame at most.
         ensures among { IfSome result (λ served. (id : ℕ) → Contains self.old.lines.fresh id → (id ≡ served.id) ⊎ (served.gave ≤ one_frame)) }
+        // So it does while the wire is slow.
+        ensures paced { IfSome result (λ served. self.old.is_slow ≡ true → served.gave ≤ one_frame) }
         ensures memory { self.new.no_memory ≡ self.old.no_memory }
     {
         let id = self.lines.next()?;
@@ -179,7 +193,10 @@ impl<D: Device + Drop, W: Device + Drop> Tunnel<D, W> {
         if !self.takes_more() {
             return 0;
         }
-        if self.lines.has_fresh() { FRAME } else { BLOCK }
+        if self.is_slow || self.lines.has_fresh() {
+            return FRAME;
+        }
+        BLOCK
     }
 
     /// Whether connections may be read: not while bytes wait that the wire doesn't take, nor while many wait.

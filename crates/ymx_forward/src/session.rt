@@ -18,14 +18,13 @@ ghost use Rattle.ymx_model.specs.session.Sessions.{is_running};
 use crate::Host;
 use crate::drain::Drain;
 use crate::peer::{Peer, close};
-use crate::silence::{Cause, Due, Silence, has_passed, is_sign, shorter, time_of};
+use crate::silence::{Cause, Due, Pace, Silence, has_passed, is_sign, shorter, time_of};
 use crate::socket::{Head, Socket};
 use crate::stream::Stream;
 use crate::system::{NoEvents, Poll, SIGNALLED, TcpConnection, begin_call, said};
 use crate::users::Users;
 use crate::voice::Context;
 use std::alloc::Global;
-use std::collections::VecDeque;
 use std::net::{SocketAddr, SocketAddrV4};
 use std::sync::Arc;
 use std::time::Duration;
@@ -188,8 +187,8 @@ fn run_over<R: Host, D: Outlet>(
         rejected: 0,
         is_end_told: false,
         is_full: false,
-        watched: VecDeque::new(context.alloc),
         watched_at: time_of(context.rt),
+        pace: Pace::new(),
         is_heard: !session.is_sounded,
         is_leaving: false,
         still_since: None,
@@ -228,10 +227,9 @@ struct SessionLoop<'a, R, D> {
     is_end_told: bool,
     /// It was told that users wait as all places are taken.
     is_full: bool,
-    /// The streams of connections that may become idle.
-    watched: VecDeque<u32>,
-    /// When those were last looked at.
+    /// When it was last looked for connections that are idle for too long.
     watched_at: Option<Duration>,
+    pace: Pace,
     /// The peer has given a sign of life, or isn't asked for one.
     is_heard: bool,
     /// The peer was told that no more of its streams are taken.
@@ -391,6 +389,7 @@ impl<R: Host, D: Outlet> SessionLoop<'_, R, D> {
         // The wire is read and written, and each connection that waits for a turn comes nearer, has it or leaves.
         ensures works { WorksOnce self.old.tunnel self.new.tunnel }
     {
+        self.note_pace();
         self.accept_users(poll);
         self.note_users();
         // about as many bytes are read of the wire as are written to it, so that bytes wait at their own connections
@@ -404,7 +403,16 @@ impl<R: Host, D: Outlet> SessionLoop<'_, R, D> {
         self.unwritten = 0;
         self.tunnel.flush();
         self.end_lost_wire();
+        self.note_pace();
         self.tell_counts();
+    }
+
+    /// Notes whether the line is slow.
+    fn note_pace(&mut self)
+        ensures { Runs self.old.tunnel self.new.tunnel }
+    {
+        let is_slow = self.pace.is_slow(self.context.rt, self.tunnel.wire());
+        self.tunnel.note_pace(is_slow);
     }
 
     // ---- what it looks at
@@ -578,18 +586,8 @@ impl<R: Host, D: Outlet> SessionLoop<'_, R, D> {
             false => Head::new(),
         };
         let device = Socket::connected(socket, origin, line);
-        match self.tunnel.open(device, &mut Tokens { poll }) {
-            Ok(id) => self.watch(id),
-            Err(why) => self.decline(origin, why),
-        }
-    }
-
-    /// From now on the connection of this stream may become idle, if one may. Where there is no memory for that it doesn't.
-    fn watch(&mut self, id: u32)
-        ensures { self.new.tunnel ≡ self.old.tunnel }
-    {
-        if self.session.idle.is_some() {
-            drop(self.watched.push_back(id));
+        if let Err(why) = self.tunnel.open(device, &mut Tokens { poll }) {
+            self.decline(origin, why);
         }
     }
 
@@ -682,8 +680,7 @@ impl<R: Host, D: Outlet> SessionLoop<'_, R, D> {
             .tunnel
             .accept(Socket::begun(socket, origin), &mut Tokens { poll });
         match joined {
-            Ok(Some(id)) => self.watch(id),
-            Ok(None) => {}
+            Ok(_) => {}
             Err(NotJoined::OutOfMemory(_)) => {
                 self.how.lacked_memory = true;
                 self.tell_ended(origin, Ending::OutOfMemory, None);
@@ -761,23 +758,14 @@ impl<R: Host, D: Outlet> SessionLoop<'_, R, D> {
         }
         self.watched_at = now;
         let limit = Duration::from_secs(seconds as u64);
-        'watched: for _ in 0..self.watched.len() {
-            let Some(id) = self.watched.pop_front() else {
+        'line: for place in 0..self.tunnel.len() {
+            let Some(id) = self.tunnel.id_at(place) else {
                 return;
             };
-            self.abort_if_idle(id, now, limit);
-        }
-    }
-
-    /// Has the connection of this stream fail where it was idle for so long, and else goes on to watch it.
-    #[tactic(auto, using(crate::proofs::Going::unmoved))]
-    fn abort_if_idle(&mut self, id: u32, now: Option<Duration>, limit: Duration)
-        ensures { Runs self.old.tunnel self.new.tunnel }
-    {
-        match self.tunnel.device(id) {
-            Some(socket) if socket.is_idle(now, limit) => self.tunnel.note_line(id, READY),
-            Some(_) => drop(self.watched.push_back(id)),
-            None => {}
+            match self.tunnel.device(id) {
+                Some(socket) if socket.is_idle(now, limit) => self.tunnel.note_line(id, READY),
+                _ => {}
+            }
         }
     }
 
@@ -822,7 +810,7 @@ impl<R: Host, D: Outlet> SessionLoop<'_, R, D> {
         ensures { Runs self.old.tunnel self.new.tunnel }
     {
         'left: for _ in 0..self.tunnel.len() {
-            let Some(id) = self.tunnel.first() else {
+            let Some(id) = self.tunnel.id_at(0) else {
                 return;
             };
             self.forget(id);

@@ -1,11 +1,13 @@
-//! How long a peer has been silent, and what is due then.
+//! How long a peer has been silent, and what is due then; and how slowly its line takes bytes.
 
 ghost use Rattle.std.specs.Prelude.{◌≡◌};
 ghost use Rattle.std.specs.Duration.{as_nanos};
 ghost use Rattle.ymx_forward.specs.Silence.{IsDueAfter, is_sign};
 
+use crate::socket::Socket;
 use crate::system::NoEvents;
 use std::time::{Clock, Duration};
+use ymx_engine::Device;
 
 /// How many bytes that come while a payload is under way are a sign: 4,096 of it, after a header at most.
 const LONG_PART: u64 = 4_108;
@@ -102,6 +104,44 @@ impl Silence {
             self.since = now;
         }
         due
+    }
+}
+
+/// For how many milliseconds a slow line takes no bytes at once.
+const SLOW: u64 = 10;
+
+/// How many bytes a line counts as slow for, once it was.
+const SLOW_BYTES: u64 = 1 << 20;
+
+/// How slowly a line takes bytes.
+#[derive(Clone, Copy)]
+pub(crate) struct Pace {
+    /// Since when it takes none. None where it takes some.
+    full_since: Option<Duration>,
+    /// It counts as slow until it has taken so many.
+    slow_until: u64,
+}
+
+impl Pace {
+    /// It was never slow.
+    pub(crate) fn new() -> Pace {
+        Pace {
+            full_since: None,
+            slow_until: 0,
+        }
+    }
+
+    /// Whether the line of this wire is slow, as it stands now.
+    pub(crate) fn is_slow<R: Clock>(&mut self, rt: &R, wire: &Socket) -> bool {
+        if wire.may_push() != self.full_since.is_some() {
+            return wire.pushed < self.slow_until;
+        }
+        let now = time_of(rt);
+        if has_passed(self.full_since, now, Duration::from_millis(SLOW)) {
+            self.slow_until = wire.pushed.saturating_add(SLOW_BYTES);
+        }
+        self.full_since = if wire.may_push() { None } else { now };
+        wire.pushed < self.slow_until
     }
 }
 

@@ -9,11 +9,10 @@ ghost use Rattle.ymx_engine.specs.declared.device.Pulled.TheVariants as Pulled;
 use crate::silence::has_passed;
 use crate::stream::Stream;
 use crate::system::{NoEvents, Poll, TcpConnection};
-use arrayvec::{ArrayString, ArrayVec};
+use arrayvec::ArrayVec;
 use std::cell::Cell;
-use std::fmt::Write;
 use std::io;
-use std::io::{ErrorKind, IoSlice};
+use std::io::{ErrorKind, IoSlice, Write};
 use std::net::SocketAddr;
 use std::time::Duration;
 use ymx_engine::{Device, Flow, Pulled, Pushed, Readiness, Ways};
@@ -29,6 +28,8 @@ enum ConnectState {
     Connected,
     /// It could not be made.
     Unreachable,
+    /// No byte had moved for too long.
+    Idle,
 }
 
 /// What was the matter with a socket.
@@ -38,34 +39,23 @@ enum SocketFault {
     Pull,
     /// It took no bytes.
     Push,
-    /// No byte had moved for too long.
-    Idle,
 }
 
-/// Room for the longest line of PROXY protocol, version 1, in bytes.
-const HEAD: usize = 56;
-
-/// What a connection gives before its own bytes.
-pub(crate) type Head = ArrayVec<u8, HEAD>;
+/// What a connection gives before its own bytes. The longest line of PROXY protocol, version 1, has 56.
+pub(crate) type Head = ArrayVec<u8, 56>;
 
 /// The line of PROXY protocol, version 1, of a user at one address who has called the other.
 pub(crate) fn proxy_line(user: Option<SocketAddr>, here: Option<SocketAddr>) -> Head {
-    let mut line = ArrayString::<HEAD>::new();
+    let mut line = Head::new();
     let _ = match (user, here) {
         (Some(SocketAddr::V4(user)), Some(SocketAddr::V4(here))) => {
             let (from, to) = (user.ip(), here.ip());
-            write!(
-                line,
-                "PROXY TCP4 {from} {to} {} {}\r\n",
-                user.port(),
-                here.port()
-            )
+            let (source, port) = (user.port(), here.port());
+            write!(line, "PROXY TCP4 {from} {to} {source} {port}\r\n")
         }
         _ => write!(line, "PROXY UNKNOWN\r\n"),
     };
-    let mut head = Head::new();
-    let _ = head.try_extend_from_slice(line.as_str().as_bytes());
-    head
+    line
 }
 
 /// What events and calls have said of a socket.
@@ -111,14 +101,13 @@ impl Marks {
 }
 
 /// A socket, and what it has moved. A contract sees the bytes that its stream tells, and whether it said that no more
-/// come, whether its end was passed on, whether it has failed, whether it was shut, its marks, and how many calls of it
-/// were made.
+/// come, whether its end was passed on, whether it has failed, whether it was shut, and its marks.
 #[derive(Drop)]
 pub(crate) struct Socket<S: Stream = TcpConnection> {
     /// Which connection it is. None of one that carries a session, and not a stream.
     pub(crate) origin: Option<Origin>,
     pub(crate) socket: S,
-    state: ConnectState,
+    state: Cell<ConnectState>,
     /// What was first the matter with a call of it.
     failure: Option<SocketFault>,
     /// Why, where the system says so.
@@ -138,10 +127,8 @@ pub(crate) struct Socket<S: Stream = TcpConnection> {
     head: Head,
     /// How many bytes it had given and taken when that was last told.
     passed: Cell<(u64, u64)>,
-    /// How many had moved as it was last looked at, since when no more have, and whether that is too long.
-    still: Cell<(u64, Option<Duration>, bool)>,
-    /// How many calls of it as a device were made. It stays at the greatest `u64`.
-    calls: u64,
+    /// How many had moved as it was last looked at, and since when no more have.
+    still: Cell<(u64, Option<Duration>)>,
 }
 
 impl<S: Stream + Drop> Socket<S> {
@@ -165,7 +152,7 @@ impl<S: Stream + Drop> Socket<S> {
         let mut begun = Socket::new(socket, Some(origin), ConnectState::Connecting);
         begun.look();
         begun.marks.may_pull = false;
-        begun.marks.may_push = begun.state != ConnectState::Connecting;
+        begun.marks.may_push = begun.state.get() != ConnectState::Connecting;
         begun
     }
 
@@ -174,7 +161,7 @@ impl<S: Stream + Drop> Socket<S> {
         Socket {
             origin,
             socket,
-            state,
+            state: Cell::new(state),
             failure: None,
             reason: None,
             pulled: 0,
@@ -189,8 +176,7 @@ impl<S: Stream + Drop> Socket<S> {
             },
             head: Head::new(),
             passed: Cell::new((0, 0)),
-            still: Cell::new((0, None, false)),
-            calls: 0,
+            still: Cell::new((0, None)),
         }
     }
 
@@ -213,7 +199,7 @@ impl<S: Stream + Drop> Socket<S> {
 
     /// Why it could not be made. None where that isn't so.
     pub(crate) fn unreached(&self) -> Option<Reason> {
-        let is_unreachable = self.state == ConnectState::Unreachable;
+        let is_unreachable = self.state.get() == ConnectState::Unreachable;
         is_unreachable.then_some(self.reason.unwrap_or(Reason::Other(0)))
     }
 
@@ -229,11 +215,14 @@ impl<S: Stream + Drop> Socket<S> {
     /// Whether no byte has moved for so long by this time. Then its next call fails.
     pub(crate) fn is_idle(&self, now: Option<Duration>, limit: Duration) -> bool {
         let moved = self.pulled.saturating_add(self.pushed);
-        let (before, since, _) = self.still.get();
+        let (before, since) = self.still.get();
         let since = if before == moved { since.or(now) } else { now };
-        let is_idle = has_passed(since, now, limit);
-        self.still.set((moved, since, is_idle));
-        is_idle
+        self.still.set((moved, since));
+        if !has_passed(since, now, limit) {
+            return false;
+        }
+        self.state.set(ConnectState::Idle);
+        true
     }
 
     /// How its connection ended, whose ways stand so, in a session that was lost or wasn't.
@@ -241,9 +230,9 @@ impl<S: Stream + Drop> Socket<S> {
         let of_stream = if is_lost { Ending::Lost } else { Ending::Reset };
         let (to_peer, from_peer) = match self.failure {
             _ if ways.lacked_memory => (Ending::OutOfMemory, of_stream),
+            _ if self.state.get() == ConnectState::Idle => (Ending::Idle, Ending::Idle),
             Some(SocketFault::Pull) => (Ending::ConnectionFailed, of_stream),
             Some(SocketFault::Push) => (Ending::ConnectionFailed, Ending::ConnectionFailed),
-            Some(SocketFault::Idle) => (Ending::Idle, Ending::Idle),
             None => (of_stream, of_stream),
         };
         EndedConnection {
@@ -264,23 +253,16 @@ impl<S: Stream + Drop> Socket<S> {
         ensures { self.new ≡ record self.old { state = self.new.state; reason = self.new.reason } }
     {
         if self.socket.peer().is_some() {
-            self.state = ConnectState::Connected;
+            self.state = Cell::new(ConnectState::Connected);
             return;
         }
         match self.socket.take_fault() {
             Ok(None) => {}
             Ok(Some(error)) | Err(error) => {
                 self.reason = Some(Reason::of(&error));
-                self.state = ConnectState::Unreachable;
+                self.state = Cell::new(ConnectState::Unreachable);
             }
         }
-    }
-
-    /// A call of it is made.
-    fn count_call(&mut self)
-        ensures { self.new ≡ record self.old { calls = min (self.old.calls + 1) (2 ^ 64 - 1) } }
-    {
-        self.calls = self.calls.saturating_add(1);
     }
 
     /// A call of it failed, with this error if the system gave one.
@@ -302,13 +284,9 @@ impl<S: Stream + Drop> Socket<S> {
         ensures there { IfNone result (self.new ≡ self.old) }
         ensures rest { self.new ≡ record self.old { failure = self.new.failure; reason = self.new.reason } }
     {
-        match self.state {
-            _ if self.still.get().2 => {
-                self.fail(SocketFault::Idle, None);
-                Some(true)
-            }
+        match self.state.get() {
             ConnectState::Connecting => Some(false),
-            ConnectState::Unreachable => {
+            ConnectState::Unreachable | ConnectState::Idle => {
                 self.fail(SocketFault::Push, None);
                 Some(true)
             }
@@ -416,13 +394,12 @@ impl<S: Stream + Drop> Device for Socket<S> {
     ghost use Rattle.std.specs.Io.KnownBytes.{prepend_known};
     ghost use Rattle.ymx_forward.specs.Sockets.{marks_of};
 
-    ghost seen = { λ s. record { left = prepend_known s.head.items (S.left s.socket); had = S.had s.socket; over = Some s.has_ended; ended = Some s.was_finished; failed = Some (is_some s.failure); shut = Some s.was_shut; marks = marks_of s.marks; calls = s.calls } };
+    ghost seen = { λ s. record { left = prepend_known s.head.items (S.left s.socket); had = S.had s.socket; over = Some s.has_ended; ended = Some s.was_finished; failed = Some (is_some s.failure); shut = Some s.was_shut; marks = marks_of s.marks; calls = 0 } };
 
     #[tactic(auto, using(crate::proofs::Bytes::none_consumed, crate::proofs::Bytes::all_kept, crate::proofs::Bytes::head_given, crate::proofs::Bytes::own_given))]
     fn pull(&mut self, buffer: &mut [u8]) -> Pulled
         ensures { IsPulled result buffer.new (⟦<Socket<S> as Device>⟧.seen self.old) (⟦<Socket<S> as Device>⟧.seen self.new) }
     {
-        self.count_call();
         let pulled = match self.early() {
             Some(true) => Pulled::Failed,
             Some(false) => Pulled::NotNow,
@@ -441,7 +418,6 @@ impl<S: Stream + Drop> Device for Socket<S> {
     fn push(&mut self, bytes: &[u8]) -> Pushed
         ensures { IsPushed result bytes.now (⟦<Socket<S> as Device>⟧.seen self.old) (⟦<Socket<S> as Device>⟧.seen self.new) }
     {
-        self.count_call();
         let pushed = match self.early() {
             Some(true) => Pushed::Failed,
             Some(false) => Pushed::NotNow,
@@ -459,7 +435,6 @@ impl<S: Stream + Drop> Device for Socket<S> {
     fn push_pieces(&mut self, pieces: &[IoSlice<'_>]) -> Pushed
         ensures { IsPushed result (io_slices_bytes pieces.now) (⟦<Socket<S> as Device>⟧.seen self.old) (⟦<Socket<S> as Device>⟧.seen self.new) }
     {
-        self.count_call();
         let pushed = match self.early() {
             Some(true) => Pushed::Failed,
             Some(false) => Pushed::NotNow,
@@ -476,9 +451,8 @@ impl<S: Stream + Drop> Device for Socket<S> {
     fn end(&mut self)
         ensures { IsEnded (⟦<Socket<S> as Device>⟧.seen self.old) (⟦<Socket<S> as Device>⟧.seen self.new) }
     {
-        self.count_call();
         self.was_finished = true;
-        if self.state == ConnectState::Connected {
+        if self.state.get() == ConnectState::Connected {
             self.socket.finish();
         }
     }
@@ -488,7 +462,6 @@ impl<S: Stream + Drop> Device for Socket<S> {
     fn shut(&mut self)
         ensures { IsShut (⟦<Socket<S> as Device>⟧.seen self.old) (⟦<Socket<S> as Device>⟧.seen self.new) }
     {
-        self.count_call();
         self.was_shut = true;
         self.marks.may_pull = true;
         self.marks.may_push = true;
@@ -503,7 +476,7 @@ impl<S: Stream + Drop> Device for Socket<S> {
     fn note_event(&mut self, ready: Readiness)
         ensures { IsNoted ready (⟦<Socket<S> as Device>⟧.seen self.old) (⟦<Socket<S> as Device>⟧.seen self.new) }
     {
-        if self.state == ConnectState::Connecting {
+        if self.state.get() == ConnectState::Connecting {
             self.look();
         }
         self.marks.note(ready);

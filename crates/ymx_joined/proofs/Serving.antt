@@ -19,7 +19,7 @@ use Rattle.ymx_joined.specs.Tunnels.{TunnelPair, engine_of, Works, Turn, OneWork
 
 -- It turns on the session and the connections alone: so it is of a tunnel over any wire.
 abbrev pub over_any : Seen → Engine → Lines → Tunnel
-over_any wire e ls = record { engine = e; wire = wire; is_wire_over = false; lines = ls; no_memory = 0 }
+over_any wire e ls = record { engine = e; wire = wire; is_wire_over = false; is_slow = false; lines = ls; no_memory = 0 }
 
 abbrev pub Serves : Engine → Lines → Type 0
 Serves e ls = (wire : Seen) → Serving (over_any wire e ls)

@@ -1,4 +1,4 @@
-use Rattle.ymx_engine.proofs.Sharing.{among}
+use Rattle.ymx_engine.proofs.Sharing.{among, paced}
 use Rattle.ymx_engine.proofs.Turned.{FirstHasTurn, first_has_turn, none_runs}
 use Rattle.ymx_engine.proofs.tunnel.Tunnel.serve_next.Goals as goal
 
@@ -31,3 +31,6 @@ returns-clause-turn g c = (served g c).turn
 
 pub returns-clause-among : goal.returns-clause-among
 returns-clause-among g c = λ id waits. among c.in_ok-id.id c.serve-gave.result _ _ (served g c).turn id waits
+
+pub returns-clause-paced : goal.returns-clause-paced
+returns-clause-paced g c = λ slow. paced c.in_ok-id.id c.serve-gave.result _ _ (served g c).turn slow
