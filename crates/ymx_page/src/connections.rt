@@ -120,19 +120,12 @@ pub enum Declined {
 
 impl fmt::Display for Declined {
     fn fmt<W: fmt::Write>(&self, f: &mut fmt::Formatter<W>) -> fmt::Result {
-        f.write_str(match self {
-            Declined::BySession(CallFault::NoStream) => "NoStream",
-            Declined::BySession(CallFault::Finished) => "Finished",
-            Declined::BySession(CallFault::Reset) => "Reset",
-            Declined::BySession(CallFault::Lost) => "Lost",
-            Declined::BySession(CallFault::Closed) => "Closed",
-            Declined::BySession(CallFault::PeerAway) => "PeerAway",
-            Declined::BySession(CallFault::OpensPending) => "OpensPending",
-            Declined::BySession(CallFault::TooMany) => "TooMany",
-            Declined::BySession(CallFault::Exhausted) => "Exhausted",
-            Declined::BySession(CallFault::PingsPending) => "PingsPending",
-            Declined::BySession(CallFault::OutOfMemory(_)) | Declined::OutOfMemory => "Memory",
-            Declined::Unwatched => "Unwatched",
-        })
+        match self {
+            Declined::BySession(CallFault::OutOfMemory(_)) | Declined::OutOfMemory => {
+                write!(f, "Memory")
+            }
+            Declined::BySession(fault) => write!(f, "{fault}"),
+            Declined::Unwatched => write!(f, "Unwatched"),
+        }
     }
 }

@@ -125,10 +125,8 @@ impl Counts {
 
     /// When the oldest connection began that is open. None where none is.
     pub fn oldest(&self) -> Option<Instant> {
-        match self.open_since.first_key_value() {
-            Some((_, began)) => Some(*began),
-            None => None,
-        }
+        let (_, began) = self.open_since.first_key_value()?;
+        Some(*began)
     }
 
     /// The connection of this number is open no more.

@@ -5,7 +5,7 @@ use arrayvec::ArrayString;
 use std::fmt::{self, Write};
 use std::net::SocketAddrV4;
 use std::time::Instant;
-use ymx_policy::{Fault, Named, Notice, Reason, fault_text, notice_text, reason_text};
+use ymx_policy::{Fault, Named, Notice, Reason, fault_text, notice_text};
 
 /// Room for the longest line, in bytes, and more: that of a connection with the greatest numbers and the longest reason has
 /// 289.
@@ -92,25 +92,18 @@ fn write_ended(
     write_passed(line, ended.from_peer, "from", ended.reason)?;
     if let (Some(began), Some(now)) = (origin.began, now) {
         let lasted = now.duration_since(began);
-        write!(
-            line,
-            ", {}.{:03} s",
-            lasted.as_secs(),
-            lasted.subsec_millis()
-        )?;
+        let (seconds, rest) = (lasted.as_secs(), lasted.subsec_millis());
+        write!(line, ", {seconds}.{rest:03} s")?;
     }
     writeln!(line)
 }
 
 /// Writes what went to the peer, or from it, and why that way ended.
 fn write_passed(line: &mut Line, passed: Passed, way: &str, reason: Option<Reason>) -> fmt::Result {
-    write!(
-        line,
-        "{} bytes {way} the peer ({}",
-        passed.bytes, passed.ending
-    )?;
-    if let (Ending::ConnectionFailed, Some(reason)) = (passed.ending, reason) {
-        write!(line, ": {}", reason_text(reason))?;
+    let Passed { bytes, ending } = passed;
+    write!(line, "{bytes} bytes {way} the peer ({ending}")?;
+    if let (Ending::ConnectionFailed, Some(reason)) = (ending, reason) {
+        write!(line, ": {reason}")?;
     }
     write!(line, ")")
 }

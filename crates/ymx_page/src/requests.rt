@@ -114,6 +114,7 @@ impl Answer {
         counts: &Counts,
         standing: Standing,
     ) -> Result<String, AllocError> {
+        let not_allowed = "method not allowed\n";
         let (status, words) = match (self, counts.trouble()) {
             (Answer::Metrics, _) => {
                 let page = page(alloc, counts, standing)?;
@@ -126,14 +127,8 @@ impl Answer {
             (Answer::Health, None) => ("200 OK", "serving\n"),
             (Answer::Drain, _) => ("202 Accepted", "draining\n"),
             (Answer::NotFound, _) => ("404 Not Found", "not found\n"),
-            (Answer::WantsGet, _) => (
-                "405 Method Not Allowed\r\nAllow: GET, HEAD",
-                "method not allowed\n",
-            ),
-            (Answer::WantsPost, _) => (
-                "405 Method Not Allowed\r\nAllow: POST",
-                "method not allowed\n",
-            ),
+            (Answer::WantsGet, _) => ("405 Method Not Allowed\r\nAllow: GET, HEAD", not_allowed),
+            (Answer::WantsPost, _) => ("405 Method Not Allowed\r\nAllow: POST", not_allowed),
             (Answer::Bad, _) => ("400 Bad Request", "bad request\n"),
         };
         framed(alloc, status, words, standing)

@@ -149,21 +149,25 @@ no_users t s why = ends s (refusal (option.Listen t.users.address) why) (fault.C
 abbrev pub no_peers : State → Option Reason → State
 no_peers s why = ends s (refusal (option.Bind s.peers) why) (fault.CannotListen s.peers)
 
+-- why it can't be done, if that is known
+abbrev pub why_of : Happened → Option Reason
+why_of (Failed why) = why
+why_of (NoUsers why) = why
+why_of other = None
+
 -- it listens for its peer, or can't
 abbrev pub after_opening_peers : Terms → State → Happened → State
 after_opening_peers t s (Listening address) = record (goes_on t s (record silence { first = Some (notice.Listening address) })) { peers = address }
 after_opening_peers t s AllCame = goes s stage.Over silence
 after_opening_peers t s LackedMemory = ends s None fault.OutOfMemory
-after_opening_peers t s (Failed why) = no_peers s why
-after_opening_peers t s other = no_peers s None
+after_opening_peers t s other = no_peers s (why_of other)
 
 -- it listens for users, or can't
 abbrev pub after_opening_users : Terms → State → Happened → State
 after_opening_users t s (Listening address) = goes_on t s (record silence { first = Some (notice.Listening address) })
 after_opening_users t s AllCame = goes s stage.Over silence
 after_opening_users t s LackedMemory = ends s None fault.OutOfMemory
-after_opening_users t s (Failed why) = no_users t s why
-after_opening_users t s other = no_users t s None
+after_opening_users t s other = no_users t s (why_of other)
 
 -- A call that failed ends all but with --keep. There a `local` closes all users that wait, or spares them once more and calls again after
 -- a second; a `remote` pauses.
@@ -179,23 +183,20 @@ unreached role true peer why s =
 abbrev pub after_calling : Terms → State → Happened → State
 after_calling t s PeerCame = goes_on t s silence
 after_calling t s AllCame = goes s stage.Over silence
-after_calling t s (Failed why) = unreached t.role t.goes_on t.peer (refusal (option.Peer t.peer) why) s
-after_calling t s other = unreached t.role t.goes_on t.peer None s
+after_calling t s other = unreached t.role t.goes_on t.peer (refusal (option.Peer t.peer) (why_of other)) s
 
 -- the peer that it awaited is there, or none comes
 abbrev pub after_awaiting_peer : Terms → State → Happened → State
 after_awaiting_peer t s PeerCame = goes_on t s silence
 after_awaiting_peer t s AllCame = goes s stage.Over silence
 after_awaiting_peer t s (NoUsers why) = no_users t s why
-after_awaiting_peer t s (Failed why) = no_peers s why
-after_awaiting_peer t s other = no_peers s None
+after_awaiting_peer t s other = no_peers s (why_of other)
 
 -- a user waits, or none comes
 abbrev pub after_awaiting_user : Terms → State → Happened → State
 after_awaiting_user t s UserCame = goes_on t s silence
 after_awaiting_user t s AllCame = goes s stage.Over silence
-after_awaiting_user t s (NoUsers why) = no_users t s why
-after_awaiting_user t s other = no_users t s None
+after_awaiting_user t s other = no_users t s (why_of other)
 
 -- all users that waited are closed
 abbrev pub after_refusing : Terms → State → Happened → State
@@ -236,8 +237,7 @@ clean = record {
 abbrev pub after_serving : Terms → State → Happened → State
 after_serving t s (SessionEnded how) = parted t s how (fault_of t.users.address (cannot_meet t.role t.peer s.peers) how)
 after_serving t s LackedMemory = parted t s clean (fails None (Some fault.OutOfMemory))
-after_serving t s (Failed why) = parted t s clean (fails (refusal (serving t.role t.users.address t.peer s.peers) why) (Some (cannot_meet t.role t.peer s.peers)))
-after_serving t s other = parted t s clean (fails None (Some (cannot_meet t.role t.peer s.peers)))
+after_serving t s other = parted t s clean (fails (refusal (serving t.role t.users.address t.peer s.peers) (why_of other)) (Some (cannot_meet t.role t.peer s.peers)))
 
 -- what happened at this stage leads here
 abbrev pub after_at : Stage → Terms → State → Happened → State

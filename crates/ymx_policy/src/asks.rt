@@ -1,7 +1,7 @@
 //! What an end of a tunnel asks for, and what it is told.
 
 ghost use Rattle.std.specs.Prelude.{◌≡◌};
-ghost use Rattle.ymx_policy.specs.Machine.{clean};
+ghost use Rattle.ymx_policy.specs.Machine.{clean, why_of};
 
 use crate::options::Networks;
 use crate::reason::Reason;
@@ -248,4 +248,16 @@ pub enum Happened {
     SessionEnded(SessionEnd),
     /// It is done.
     Done,
+}
+
+impl Happened {
+    /// Why it can't be done, if that is known.
+    pub(crate) fn why(self) -> Option<Reason>
+        ensures { result ≡ why_of self }
+    {
+        match self {
+            Happened::Failed(why) | Happened::NoUsers(why) => why,
+            _ => None,
+        }
+    }
 }

@@ -50,17 +50,6 @@ pub struct State {
 
 // ---- where it goes
 
-/// Where it begins: a mistake at a port of its own comes first, but a `local` without `--keep` calls first.
-fn begins(role: Role, is_kept: bool) -> Stage
-    ensures { result ≡ begins role is_kept }
-{
-    match role {
-        Role::LocalCalls if is_kept => Stage::OpeningUsers,
-        Role::LocalCalls | Role::RemoteCalls => Stage::Calling,
-        Role::LocalAwaits | Role::RemoteAwaits => Stage::OpeningPeers,
-    }
-}
-
 /// Where it goes on once what a stage is for is there.
 fn next(stage: Stage, role: Role, is_kept: bool) -> Stage
     ensures { result ≡ next stage role is_kept }
@@ -180,8 +169,14 @@ impl State {
     pub fn new(terms: &Terms) -> State
         ensures { result ≡ fresh terms.now }
     {
+        // A mistake at a port of its own comes first, but a `local` without `--keep` calls first.
+        let stage = match terms.role {
+            Role::LocalCalls if terms.goes_on => Stage::OpeningUsers,
+            Role::LocalCalls | Role::RemoteCalls => Stage::Calling,
+            Role::LocalAwaits | Role::RemoteAwaits => Stage::OpeningPeers,
+        };
         State {
-            stage: begins(terms.role, terms.goes_on),
+            stage,
             words: SILENCE,
             peers: terms.peer,
             pause: 0,
@@ -221,37 +216,44 @@ impl State {
     pub fn hear(&mut self, terms: &Terms, happened: Happened)
         ensures { self.new ≡ after terms.now self.old happened }
     {
-        match self.stage {
-            Stage::OpeningPeers => self.hear_opening_peers(terms, happened),
-            Stage::OpeningUsers => self.hear_opening_users(terms, happened),
-            Stage::Calling => self.hear_call(terms, happened),
-            Stage::AwaitingPeer => self.hear_peer(terms, happened),
-            Stage::AwaitingUser => self.hear_user(terms, happened),
-            Stage::Serving => self.hear_session(terms, happened),
-            Stage::Refusing => self.hear_refusing(terms, happened),
-            Stage::Pausing => self.go_on(terms, SILENCE),
-            Stage::Over => {}
+        let why = happened.why();
+        match (self.stage, happened) {
+            (Stage::Over, _) => {}
+            (Stage::Serving, _) => self.hear_session(terms, happened),
+            (Stage::Pausing, _) => self.go_on(terms, SILENCE),
+            (_, Happened::AllCame) => self.go(Stage::Over, SILENCE),
+            (Stage::OpeningPeers, Happened::Listening(address)) => {
+                self.go_on(terms, listening(address));
+                self.peers = address;
+            }
+            (Stage::OpeningUsers, Happened::Listening(address)) => {
+                self.go_on(terms, listening(address))
+            }
+            (Stage::OpeningPeers | Stage::OpeningUsers, Happened::LackedMemory) => {
+                self.end(None, Fault::OutOfMemory)
+            }
+            (Stage::Calling | Stage::AwaitingPeer, Happened::PeerCame)
+            | (Stage::AwaitingUser, Happened::UserCame) => self.go_on(terms, SILENCE),
+            (Stage::AwaitingPeer | Stage::Refusing, Happened::NoUsers(_))
+            | (Stage::OpeningUsers | Stage::AwaitingUser, _) => self.end_users(terms, why),
+            (Stage::OpeningPeers | Stage::AwaitingPeer, _) => self.end_peers(why),
+            (Stage::Calling, _) => {
+                self.hear_no_call(terms, refusal(Named::Peer(terms.peer), why))
+            }
+            (Stage::Refusing, _) => self.go_on(terms, SILENCE),
         }
     }
 
-    /// The option that is named where a session can't be had.
-    fn serving(&self, terms: &Terms) -> Named
-        ensures { result ≡ serving terms.now.role terms.now.users.address terms.now.peer self.now.peers }
+    /// Where a session can't be had: the option that is named, and what is said.
+    fn unmet(&self, terms: &Terms) -> (Named, Fault)
+        ensures { result ≡ (serving terms.now.role terms.now.users.address terms.now.peer self.now.peers, cannot_meet terms.now.role terms.now.peer self.now.peers) }
     {
+        let users = Named::Listen(terms.users.address);
         match terms.role {
-            Role::RemoteCalls => Named::Peer(terms.peer),
-            Role::RemoteAwaits => Named::Bind(self.peers),
-            Role::LocalCalls | Role::LocalAwaits => Named::Listen(terms.users.address),
-        }
-    }
-
-    /// The peer can't be had.
-    fn unmet(&self, terms: &Terms) -> Fault
-        ensures { result ≡ cannot_meet terms.now.role terms.now.peer self.now.peers }
-    {
-        match terms.role {
-            Role::LocalCalls | Role::RemoteCalls => Fault::CannotReach(terms.peer),
-            Role::LocalAwaits | Role::RemoteAwaits => Fault::CannotListen(self.peers),
+            Role::LocalCalls => (users, Fault::CannotReach(terms.peer)),
+            Role::LocalAwaits => (users, Fault::CannotListen(self.peers)),
+            Role::RemoteCalls => (Named::Peer(terms.peer), Fault::CannotReach(terms.peer)),
+            Role::RemoteAwaits => (Named::Bind(self.peers), Fault::CannotListen(self.peers)),
         }
     }
 
@@ -297,50 +299,6 @@ impl State {
         self.end(refusal(Named::Bind(peers), why), Fault::CannotListen(peers));
     }
 
-    /// It listens for its peer, or can't.
-    fn hear_opening_peers(&mut self, terms: &Terms, happened: Happened)
-        ensures { self.new ≡ after_opening_peers terms.now self.old happened }
-    {
-        match happened {
-            Happened::Listening(address) => {
-                self.go_on(terms, listening(address));
-                self.peers = address;
-            }
-            Happened::AllCame => self.go(Stage::Over, SILENCE),
-            Happened::LackedMemory => self.end(None, Fault::OutOfMemory),
-            Happened::Failed(why) => self.end_peers(why),
-            _ => self.end_peers(None),
-        }
-    }
-
-    /// It listens for users, or can't.
-    fn hear_opening_users(&mut self, terms: &Terms, happened: Happened)
-        ensures { self.new ≡ after_opening_users terms.now self.old happened }
-    {
-        match happened {
-            Happened::Listening(address) => self.go_on(terms, listening(address)),
-            Happened::AllCame => self.go(Stage::Over, SILENCE),
-            Happened::LackedMemory => self.end(None, Fault::OutOfMemory),
-            Happened::Failed(why) => self.end_users(terms, why),
-            _ => self.end_users(terms, None),
-        }
-    }
-
-    /// The peer that it called is there, can't be reached, or is to come no more.
-    fn hear_call(&mut self, terms: &Terms, happened: Happened)
-        ensures { self.new ≡ after_calling terms.now self.old happened }
-    {
-        match happened {
-            Happened::PeerCame => self.go_on(terms, SILENCE),
-            Happened::AllCame => self.go(Stage::Over, SILENCE),
-            Happened::Failed(why) => self.hear_no_call(
-                terms,
-                refusal(Named::Peer(terms.peer), why),
-            ),
-            _ => self.hear_no_call(terms, None),
-        }
-    }
-
     /// The peer that it called can't be reached.
     fn hear_no_call(&mut self, terms: &Terms, reason: Option<Notice>)
         ensures { self.new ≡ unreached terms.now.role terms.now.goes_on terms.now.peer reason self.old }
@@ -371,57 +329,17 @@ impl State {
         }
     }
 
-    /// The peer that it awaited is there, or none comes.
-    fn hear_peer(&mut self, terms: &Terms, happened: Happened)
-        ensures { self.new ≡ after_awaiting_peer terms.now self.old happened }
-    {
-        match happened {
-            Happened::PeerCame => self.go_on(terms, SILENCE),
-            Happened::AllCame => self.go(Stage::Over, SILENCE),
-            Happened::NoUsers(why) => self.end_users(terms, why),
-            Happened::Failed(why) => self.end_peers(why),
-            _ => self.end_peers(None),
-        }
-    }
-
-    /// A user waits, or none comes.
-    fn hear_user(&mut self, terms: &Terms, happened: Happened)
-        ensures { self.new ≡ after_awaiting_user terms.now self.old happened }
-    {
-        match happened {
-            Happened::UserCame => self.go_on(terms, SILENCE),
-            Happened::AllCame => self.go(Stage::Over, SILENCE),
-            Happened::NoUsers(why) => self.end_users(terms, why),
-            _ => self.end_users(terms, None),
-        }
-    }
-
-    /// All users that waited are closed.
-    fn hear_refusing(&mut self, terms: &Terms, happened: Happened)
-        ensures { self.new ≡ after_refusing terms.now self.old happened }
-    {
-        match happened {
-            Happened::AllCame => self.go(Stage::Over, SILENCE),
-            Happened::NoUsers(why) => self.end_users(terms, why),
-            _ => self.go_on(terms, SILENCE),
-        }
-    }
-
     /// The session has ended, or could not begin.
     fn hear_session(&mut self, terms: &Terms, happened: Happened)
         ensures { self.new ≡ after_serving terms.now self.old happened }
     {
         let users = terms.users.address;
-        let unmet = self.unmet(terms);
+        let (named, unmet) = self.unmet(terms);
         let clean = SessionEnd::clean();
         match happened {
             Happened::SessionEnded(how) => self.part(terms, how, fault_of(users, unmet, how)),
             Happened::LackedMemory => self.part(terms, clean, fails(None, Fault::OutOfMemory)),
-            Happened::Failed(why) => {
-                let reason = refusal(self.serving(terms), why);
-                self.part(terms, clean, fails(reason, unmet));
-            }
-            _ => self.part(terms, clean, fails(None, unmet)),
+            _ => self.part(terms, clean, fails(refusal(named, happened.why()), unmet)),
         }
     }
 
