@@ -86,19 +86,12 @@ pub struct Callee {
 /// An option of the command line, and its address, as they are named where the system refuses what it asks for.
 #[derive(Clone, Copy)]
 pub enum Named {
-    /// `--listen`
     Listen(SocketAddrV4),
-    /// `--peer`
     Peer(SocketAddrV4),
-    /// `--bind`
     Bind(SocketAddrV4),
-    /// `--target`
     Target(SocketAddrV4),
-    /// `--peers`
     Peers,
-    /// `--links`
     Links,
-    /// `--status`
     Status(SocketAddrV4),
 }
 
@@ -154,7 +147,7 @@ pub struct Words {
 }
 
 /// How a session ended. If nothing here is so, it was over by the peer's end or its own.
-#[derive(Clone, Copy)]
+#[derive(Clone, Copy, Default)]
 pub struct SessionEnd {
     /// A user could not be accepted, and none will be.
     pub accept_failed: bool,
@@ -181,17 +174,7 @@ impl SessionEnd {
     pub fn clean() -> SessionEnd
         ensures { result ≡ clean }
     {
-        SessionEnd {
-            accept_failed: false,
-            accept_reason: None,
-            broken: None,
-            peer: None,
-            lacked_memory: false,
-            is_unwatched: false,
-            has_lasted: false,
-            is_peer_away: false,
-            is_coming_told: false,
-        }
+        SessionEnd::default()
     }
 }
 

@@ -26,4 +26,4 @@ pub use machine::{Stage, State};
 pub use options::{LocalOptions, Network, Networks, PeerAddress, RemoteOptions};
 pub use plan::{Plan, Role, Terms};
 pub use reason::Reason;
-pub use texts::{Text, fault_text, notice_text, reason_text, source_text};
+pub use texts::{Text, fault_text, notice_text, source_text};

@@ -1,7 +1,7 @@
 //! An end of a tunnel as a machine: at each stage it asks for one thing, and what happened leads to the next.
 
 ghost use Rattle.std.specs.Prelude.{◌≡◌, Some};
-ghost use Rattle.ymx_policy.specs.Machine.{after, after_awaiting_peer, after_awaiting_user, after_calling, after_opening_peers, after_opening_users, after_refusing, after_serving, asked, begins, behind_session, cannot_meet, deed_at, ends, fails, fault_of, fresh, goes, goes_on, longer, next, no_peers, no_users, parted, parting, refusal, serving, silence, unreached};
+ghost use Rattle.ymx_policy.specs.Machine.{after, after_awaiting_peer, after_awaiting_user, after_calling, after_opening_peers, after_opening_users, after_refusing, after_serving, asked, begins, behind_session, cannot_meet, deed_at, ends, fails, fault_of, fresh, goes, goes_on, longer, next, parted, parting, refusal, serving, silence, unreached};
 
 use crate::asks::{Ask, Callee, Deed, Fault, Happened, Named, Notice, Peers, SessionEnd, Words};
 use crate::plan::{Role, Terms};
@@ -85,11 +85,10 @@ fn behind_session(role: Role, is_kept: bool, is_lost: bool, pause: u64) -> Stage
 fn longer(seconds: u64) -> u64
     ensures { result ≡ longer seconds }
 {
-    match seconds {
-        0 => 1,
-        _ if seconds > 15 => 30,
-        _ => 2 * seconds,
+    if seconds == 0 {
+        return 1;
     }
+    seconds.saturating_mul(2).min(30)
 }
 
 // ---- what it says
@@ -101,6 +100,13 @@ const SILENCE: Words = Words {
     fault: None,
     last: None,
 };
+
+/// This alone.
+fn begins_with(first: Option<Notice>) -> Words
+    ensures { result ≡ record silence { first = first } }
+{
+    Words { first, ..SILENCE }
+}
 
 /// That the system refused what an option asks for, where the reason is known.
 fn refusal(named: Named, why: Option<Reason>) -> Option<Notice>
@@ -217,17 +223,18 @@ impl State {
         ensures { self.new ≡ after terms.now self.old happened }
     {
         let why = happened.why();
+        let (peers, users) = (self.peers, terms.users.address);
         match (self.stage, happened) {
             (Stage::Over, _) => {}
             (Stage::Serving, _) => self.hear_session(terms, happened),
             (Stage::Pausing, _) => self.go_on(terms, SILENCE),
             (_, Happened::AllCame) => self.go(Stage::Over, SILENCE),
             (Stage::OpeningPeers, Happened::Listening(address)) => {
-                self.go_on(terms, listening(address));
+                self.go_on(terms, begins_with(Some(Notice::Listening(address))));
                 self.peers = address;
             }
             (Stage::OpeningUsers, Happened::Listening(address)) => {
-                self.go_on(terms, listening(address))
+                self.go_on(terms, begins_with(Some(Notice::Listening(address))))
             }
             (Stage::OpeningPeers | Stage::OpeningUsers, Happened::LackedMemory) => {
                 self.end(None, Fault::OutOfMemory)
@@ -235,8 +242,15 @@ impl State {
             (Stage::Calling | Stage::AwaitingPeer, Happened::PeerCame)
             | (Stage::AwaitingUser, Happened::UserCame) => self.go_on(terms, SILENCE),
             (Stage::AwaitingPeer | Stage::Refusing, Happened::NoUsers(_))
-            | (Stage::OpeningUsers | Stage::AwaitingUser, _) => self.end_users(terms, why),
-            (Stage::OpeningPeers | Stage::AwaitingPeer, _) => self.end_peers(why),
+            | (Stage::OpeningUsers | Stage::AwaitingUser, _) => {
+                self.end(
+                    refusal(Named::Listen(users), why),
+                    Fault::CannotListen(users),
+                )
+            }
+            (Stage::OpeningPeers | Stage::AwaitingPeer, _) => {
+                self.end(refusal(Named::Bind(peers), why), Fault::CannotListen(peers))
+            }
             (Stage::Calling, _) => {
                 self.hear_no_call(terms, refusal(Named::Peer(terms.peer), why))
             }
@@ -280,25 +294,6 @@ impl State {
         self.has_faulted = true;
     }
 
-    /// Nobody can be accepted where users come in.
-    fn end_users(&mut self, terms: &Terms, why: Option<Reason>)
-        ensures { self.new ≡ no_users terms.now self.old why }
-    {
-        let users = terms.users.address;
-        self.end(
-            refusal(Named::Listen(users), why),
-            Fault::CannotListen(users),
-        );
-    }
-
-    /// Nobody can be accepted where peers come in.
-    fn end_peers(&mut self, why: Option<Reason>)
-        ensures { self.new ≡ no_peers self.old why }
-    {
-        let peers = self.peers;
-        self.end(refusal(Named::Bind(peers), why), Fault::CannotListen(peers));
-    }
-
     /// The peer that it called can't be reached.
     fn hear_no_call(&mut self, terms: &Terms, reason: Option<Notice>)
         ensures { self.new ≡ unreached terms.now.role terms.now.goes_on terms.now.peer reason self.old }
@@ -307,10 +302,7 @@ impl State {
             self.end(reason, Fault::CannotReach(terms.peer));
             return;
         }
-        let refused = Words {
-            first: reason,
-            ..SILENCE
-        };
+        let refused = begins_with(reason);
         let unreached = Words {
             last: Some(Notice::Unreached(terms.peer)),
             ..refused
@@ -357,15 +349,5 @@ impl State {
         self.stage = behind_session(terms.role, terms.goes_on, is_lost, self.pause);
         self.words = parting(terms, how.is_coming_told, how.peer, words);
         self.has_faulted = self.has_faulted || words.fault.is_some();
-    }
-}
-
-/// It listens here.
-fn listening(address: SocketAddrV4) -> Words
-    ensures { result ≡ record silence { first = Some (Notice.Listening address) } }
-{
-    Words {
-        first: Some(Notice::Listening(address)),
-        ..SILENCE
     }
 }

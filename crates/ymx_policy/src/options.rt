@@ -42,13 +42,6 @@ impl Network {
         let others = 32u32.saturating_sub(self.bits as u32);
         (address.to_bits() as u64) >> others == (self.address.to_bits() as u64) >> others
     }
-
-    /// Whether it has all addresses.
-    fn has_all(self) -> bool
-        ensures { result ≡ has_all self }
-    {
-        self.bits == 0
-    }
 }
 
 impl Networks {
@@ -87,7 +80,7 @@ fn any_has(networks: &[Network], address: Ipv4Addr) -> bool
 fn any_is_all(networks: &[Network]) -> bool
     ensures { result ≡ list_any has_all networks.now }
 {
-    networks.iter().any(|network| network.has_all())
+    networks.iter().any(|network| network.bits == 0)
 }
 
 /// The options of `ymx local`.

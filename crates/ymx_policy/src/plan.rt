@@ -100,11 +100,7 @@ fn keepalive_of(seconds: u32) -> Option<Keepalive>
 fn call_limit(is_awaited: bool, timeout: Option<u32>) -> Option<u32>
     ensures { result ≡ call_limit is_awaited timeout }
 {
-    match timeout {
-        Some(seconds) => Some(seconds),
-        None if is_awaited => Some(TIMEOUT),
-        None => None,
-    }
+    timeout.or(is_awaited.then_some(TIMEOUT))
 }
 
 /// What follows of the options of `local`.

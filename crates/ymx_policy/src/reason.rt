@@ -1,7 +1,7 @@
 //! Why the system refused, as `-v` tells it.
 
-use std::io::ErrorKind;
-use std::{fmt, io};
+use std::io::{self, ErrorKind};
+use thiserror::Error;
 
 /// The system's numbers for: no descriptor left in the system, none left in this process.
 const NO_DESCRIPTOR: [i32; 2] = [23, 24];
@@ -9,32 +9,34 @@ const NO_DESCRIPTOR: [i32; 2] = [23, 24];
 /// The system's number for: no room for one more socket.
 const NO_ROOM: i32 = 105;
 
-/// Why the system refused.
-#[derive(Clone, Copy, PartialEq, Eq)]
+/// Why the system refused. It prints as `-v` tells it.
+#[derive(Clone, Copy, Debug, PartialEq, Eq, Error)]
 pub enum Reason {
-    /// Somebody listens at this address.
+    #[error("address in use")]
     InUse,
-    /// This user may not.
+    #[error("permission denied")]
     NotPermitted,
-    /// The address is none of this machine.
+    #[error("no address of this machine")]
     NotHere,
-    /// Nobody listens there.
+    #[error("refused")]
     Refused,
-    /// No way leads there.
+    #[error("unreachable")]
     Unreachable,
-    /// No answer came.
+    #[error("timed out")]
     TimedOut,
-    /// The other side broke the connection off.
+    #[error("reset")]
     Reset,
     /// No port of this machine is left for a call.
+    #[error("no port left")]
     NoPort,
-    /// No descriptor is left.
+    #[error("no descriptor left")]
     NoDescriptor,
-    /// There was no memory.
+    #[error("no memory")]
     NoMemory,
-    /// No thread could be made.
+    #[error("no thread")]
     NoThread,
     /// The system has this number for it, or 0 where it says none.
+    #[error("error {0}")]
     Other(i32),
 }
 
@@ -73,24 +75,5 @@ impl Reason {
             return Reason::NoMemory;
         }
         Reason::Other(number)
-    }
-}
-
-impl fmt::Display for Reason {
-    fn fmt<W: fmt::Write>(&self, f: &mut fmt::Formatter<W>) -> fmt::Result {
-        match self {
-            Reason::InUse => write!(f, "address in use"),
-            Reason::NotPermitted => write!(f, "permission denied"),
-            Reason::NotHere => write!(f, "no address of this machine"),
-            Reason::Refused => write!(f, "refused"),
-            Reason::Unreachable => write!(f, "unreachable"),
-            Reason::TimedOut => write!(f, "timed out"),
-            Reason::Reset => write!(f, "reset"),
-            Reason::NoPort => write!(f, "no port left"),
-            Reason::NoDescriptor => write!(f, "no descriptor left"),
-            Reason::NoMemory => write!(f, "no memory"),
-            Reason::NoThread => write!(f, "no thread"),
-            Reason::Other(number) => write!(f, "error {number}"),
-        }
     }
 }

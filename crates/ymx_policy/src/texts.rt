@@ -1,7 +1,6 @@
 //! The texts of faults and notices. They take no memory.
 
 use crate::asks::{Fault, Named, Notice};
-use crate::reason::Reason;
 use arrayvec::ArrayString;
 use std::fmt::{self, Write};
 use std::net::SocketAddrV4;
@@ -31,29 +30,21 @@ pub fn notice_text(notice: Notice) -> Text {
         Notice::Listening(address) => writeln!(text, "ymx: listening at {address}"),
         Notice::PeerCame(peer) => writeln!(text, "ymx: the peer has come{}", source_text(peer)),
         Notice::PeerGone(peer) => writeln!(text, "ymx: the peer has gone{}", source_text(peer)),
-        Notice::PeerGoneSilent(peer) => writeln!(
-            text,
-            "ymx: the peer has gone without a sign of life{}",
-            source_text(peer)
-        ),
+        Notice::PeerGoneSilent(peer) => {
+            let from = source_text(peer);
+            writeln!(text, "ymx: the peer has gone without a sign of life{from}")
+        }
         Notice::Unreached(address) => writeln!(text, "ymx: cannot reach {address}"),
         Notice::Stranger(from) => writeln!(text, "ymx: closed a stranger{}", source_text(from)),
         Notice::Crowded(from) => writeln!(text, "ymx: closed a peer too many{}", source_text(from)),
         Notice::Refused(option, reason) => writeln!(text, "ymx: {option}: {reason}"),
         Notice::Rejected(peer) => {
-            writeln!(
-                text,
-                "ymx: rejected streams{}: no memory",
-                source_text(peer)
-            )
+            let from = source_text(peer);
+            writeln!(text, "ymx: rejected streams{from}: no memory")
         }
         Notice::Broke(rule, peer) => {
-            writeln!(
-                text,
-                "ymx: B{rule}{}: {}",
-                source_text(peer),
-                rule_words(rule)
-            )
+            let (from, words) = (source_text(peer), rule_words(rule));
+            writeln!(text, "ymx: B{rule}{from}: {words}")
         }
     };
     text
@@ -65,13 +56,6 @@ pub fn source_text(from: Option<SocketAddrV4>) -> Text {
     if let Some(address) = from {
         let _ = write!(text, " from {address}");
     }
-    text
-}
-
-/// The words for a reason of the system.
-pub fn reason_text(reason: Reason) -> Text {
-    let mut text = Text::new();
-    let _ = write!(text, "{reason}");
     text
 }
 
