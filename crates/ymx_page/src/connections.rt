@@ -15,11 +15,8 @@ pub enum Ending {
     ConnectionFailed,
     /// No byte had moved for as long as it may last.
     Idle,
-    /// The stream was reset.
     Reset,
-    /// The session was lost.
     Lost,
-    /// There was no memory for it.
     OutOfMemory,
     /// The stream refused for another reason.
     Refused,

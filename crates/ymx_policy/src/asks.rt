@@ -46,7 +46,6 @@ pub struct Keepalive {
 /// What a session is to be like.
 #[derive(Clone, Copy)]
 pub struct Session {
-    /// Which side of it this end is.
     pub side: Side,
     /// How many bytes of a stream may be unread here.
     pub window: u32,
@@ -129,7 +128,6 @@ pub enum Fault {
     CannotReach(SocketAddrV4),
     /// A side broke this rule of yamux: 1 for B1.
     Broken(u8),
-    /// There was no memory.
     OutOfMemory,
 }
 
@@ -181,11 +179,8 @@ impl SessionEnd {
 /// What is to be done.
 #[derive(Clone, Copy)]
 pub enum Deed {
-    /// Listen for the peer.
     ListenForPeer(Peers),
-    /// Listen for users.
     ListenForUsers(Users),
-    /// Call the peer there.
     Call(Callee),
     /// Wait until the peer calls. Who calls and isn't let in is closed, and so are users that come meanwhile and can't wait.
     AwaitPeer,
@@ -204,9 +199,7 @@ pub enum Deed {
 /// What an end asks for: to say something, if there is something to be said, and then to do this.
 #[derive(Clone, Copy)]
 pub struct Ask {
-    /// What is said.
     pub words: Words,
-    /// What is done then.
     pub deed: Deed,
 }
 
@@ -217,19 +210,14 @@ pub enum Happened {
     Listening(SocketAddrV4),
     /// It can't be done: the system refuses it, for this reason if one is known.
     Failed(Option<Reason>),
-    /// There was no memory for it.
     LackedMemory,
-    /// The peer is there.
     PeerCame,
-    /// A user waits.
     UserCame,
     /// All have come that were to: users or, at a `remote`, peers.
     AllCame,
     /// No user can be accepted any more, for this reason if one is known.
     NoUsers(Option<Reason>),
-    /// The session ended so.
     SessionEnded(SessionEnd),
-    /// It is done.
     Done,
 }
 

@@ -11,30 +11,21 @@ use std::net::SocketAddrV4;
 /// What an end waits for.
 #[derive(Clone, Copy)]
 pub enum Stage {
-    /// It is to listen for its peer.
     OpeningPeers,
-    /// It is to listen for users.
     OpeningUsers,
-    /// It calls its peer.
     Calling,
-    /// Its peer is to call.
     AwaitingPeer,
-    /// A user is to come.
     AwaitingUser,
-    /// A session runs.
     Serving,
     /// All users that wait are closed, as their peer can't be reached.
     Refusing,
-    /// It lets time go by.
     Pausing,
-    /// It has ended.
     Over,
 }
 
 /// Where an end has come to.
 #[derive(Clone, Copy)]
 pub struct State {
-    /// What it waits for.
     pub stage: Stage,
     /// What is to be said now.
     pub words: Words,
@@ -146,8 +137,6 @@ fn parting(terms: &Terms, is_coming_told: bool, peer: Option<SocketAddrV4>, word
         },
     }
 }
-
-// ---- which fault it is
 
 /// What it says of a session that ended so: of a failed accept, a broken rule and want of memory the first, and behind these
 /// a peer that can't be watched.

@@ -30,7 +30,6 @@ pub const NETWORKS: usize = 8;
 /// From where peers may call: from the networks here, in any order, one of which may stand here several times.
 #[derive(Clone, Copy)]
 pub struct Networks {
-    /// The networks.
     pub networks: [Network; NETWORKS],
 }
 

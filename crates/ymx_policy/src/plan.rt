@@ -19,9 +19,7 @@ const PROBES: u32 = 4;
 /// What an end is told to do: its options as they were read.
 #[derive(Clone, Copy)]
 pub enum Plan {
-    /// `ymx local`
     Local(LocalOptions),
-    /// `ymx remote`
     Remote(RemoteOptions),
 }
 
@@ -41,7 +39,6 @@ pub enum Role {
 /// What follows of a plan: all that an end decides by, and asks with.
 #[derive(Clone, Copy)]
 pub struct Terms {
-    /// Which end it is.
     pub role: Role,
     /// Another session follows one that is lost.
     pub goes_on: bool,

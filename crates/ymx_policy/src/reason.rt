@@ -3,12 +3,6 @@
 use std::io::{self, ErrorKind};
 use thiserror::Error;
 
-/// The system's numbers for: no descriptor left in the system, none left in this process.
-const NO_DESCRIPTOR: [i32; 2] = [23, 24];
-
-/// The system's number for: no room for one more socket.
-const NO_ROOM: i32 = 105;
-
 /// Why the system refused. It prints as `-v` tells it.
 #[derive(Clone, Copy, Debug, PartialEq, Eq, Error)]
 pub enum Reason {
@@ -54,7 +48,13 @@ impl Reason {
             ErrorKind::ConnectionReset | ErrorKind::ConnectionAborted | ErrorKind::BrokenPipe =>
                 Reason::Reset,
             ErrorKind::OutOfMemory => Reason::NoMemory,
-            _ => Reason::of_number(error.raw_os_error().unwrap_or(0)),
+            _ => match error.raw_os_error().unwrap_or(0) {
+                // None is left in the system, or in this process.
+                23 | 24 => Reason::NoDescriptor,
+                // There is no room for one more socket.
+                105 => Reason::NoMemory,
+                number => Reason::Other(number),
+            },
         }
     }
 
@@ -64,16 +64,5 @@ impl Reason {
             Reason::NotHere => Reason::NoPort,
             reason => reason,
         }
-    }
-
-    /// The reason of which this is the system's number.
-    fn of_number(number: i32) -> Reason {
-        if NO_DESCRIPTOR.contains(&number) {
-            return Reason::NoDescriptor;
-        }
-        if number == NO_ROOM {
-            return Reason::NoMemory;
-        }
-        Reason::Other(number)
     }
 }
