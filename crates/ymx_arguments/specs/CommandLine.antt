@@ -220,7 +220,6 @@ IsWrong given (bad.Number name text) = (first_of name.now given ≡ Some text.no
 IsWrong given (bad.Address name text) = (text.now ≡ unwrap_or (first_of name.now given) []) × ((address : SocketAddrV4) → IsAddressOf given name.now address → ⊥)
 IsWrong given (bad.Clash name other) = HasClash given name.now
 IsWrong given bad.NoPeer = (first_of (codes "peer") given ≡ None) × (first_of (codes "bind") given ≡ None)
-IsWrong given bad.TwoPeers = AreBothGiven (first_of (codes "peer") given) (first_of (codes "bind") given)
 IsWrong given (bad.Network text) = IsIn (from_texts given) text.now × IsNoNetwork text.now
 IsWrong given bad.ManyNetworks = 8 < length (from_texts given)
 IsWrong given (bad.FarStatus text) =
@@ -248,7 +247,6 @@ LacksMemory = IsClap OutOfMemory
 -- which of clap's mistakes this is
 abbrev pub kind_for : BadOption → ErrorKind
 kind_for (bad.Clash name other) = ArgumentConflict
-kind_for bad.TwoPeers = ArgumentConflict
 kind_for bad.NoPeer = MissingRequiredArgument
 kind_for bad.NoStatus = MissingRequiredArgument
 kind_for bad.ManyNetworks = TooManyValues

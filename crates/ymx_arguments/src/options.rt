@@ -25,8 +25,6 @@ pub(crate) enum BadOption<'a> {
     Clash { name: &'a str, other: &'a str },
     /// Neither `--peer` nor `--bind` was given, of which one must be.
     NoPeer,
-    /// Both `--peer` and `--bind` were given, of which one must be.
-    TwoPeers,
     /// This text, which `--from` was given, is no network.
     Network { text: &'a str },
     /// `--from` was given more networks than are taken.
@@ -156,12 +154,8 @@ fn address<'a>(found: &ArgMatches<'a>, name: &'a str) -> Result<SocketAddrV4, Ba
         return Err(BadOption::Address { name, text: "" });
     };
     match text.parse::<SocketAddrV4>() {
-        Ok(address) => {
-            if u32::from(address.port()) < row_of(name).least {
-                return Err(BadOption::Address { name, text });
-            }
-            Ok(address)
-        }
+        Ok(address) if row_of(name).least <= u32::from(address.port()) => Ok(address),
+        Ok(_) => Err(BadOption::Address { name, text }),
         Err(_) => Err(BadOption::Address { name, text }),
     }
 }
@@ -171,11 +165,11 @@ fn address<'a>(found: &ArgMatches<'a>, name: &'a str) -> Result<SocketAddrV4, Ba
 fn peer<'a>(found: &ArgMatches<'a>) -> Result<PeerAddress, BadOption<'a>>
     ensures { MatchResult result (IsPeerOf (rows_of (found_of found.now))) (IsWrong (rows_of (found_of found.now))) }
 {
+    check_apart(found, "peer")?;
     match (text_of(found, "peer"), text_of(found, "bind")) {
-        (Some(_), None) => Ok(PeerAddress::Connect(address(found, "peer")?)),
+        (Some(_), _) => Ok(PeerAddress::Connect(address(found, "peer")?)),
         (None, Some(_)) => Ok(PeerAddress::Listen(address(found, "bind")?)),
         (None, None) => Err(BadOption::NoPeer),
-        (Some(_), Some(_)) => Err(BadOption::TwoPeers),
     }
 }
 
@@ -206,21 +200,16 @@ fn status<'a>(found: &ArgMatches<'a>) -> Result<Option<SocketAddrV4>, BadOption<
     ensures { MatchResult result (IsStatusOf (rows_of (found_of found.now))) (IsWrong (rows_of (found_of found.now))) }
 {
     let is_anywhere = flag(found, "status-anywhere");
-    let Some(text) = text_of(found, "status") else {
-        return if is_anywhere {
-            Err(BadOption::NoStatus)
-        } else {
-            Ok(None)
-        };
-    };
-    let address = address(found, "status")?;
-    if is_anywhere {
-        return Ok(Some(address));
-    }
-    if address.ip().is_loopback() {
-        Ok(Some(address))
-    } else {
-        Err(BadOption::FarStatus { text })
+    match text_of(found, "status") {
+        None if is_anywhere => Err(BadOption::NoStatus),
+        None => Ok(None),
+        Some(text) => {
+            let address = address(found, "status")?;
+            if is_anywhere || address.ip().is_loopback() {
+                return Ok(Some(address));
+            }
+            Err(BadOption::FarStatus { text })
+        }
     }
 }
 

@@ -121,7 +121,7 @@ fn kind_for(bad: BadOption<'_>) -> ErrorKind
     ensures { result ≡ kind_for bad.entry }
 {
     match bad {
-        BadOption::Clash { .. } | BadOption::TwoPeers => ErrorKind::ArgumentConflict,
+        BadOption::Clash { .. } => ErrorKind::ArgumentConflict,
         BadOption::NoPeer | BadOption::NoStatus => ErrorKind::MissingRequiredArgument,
         BadOption::ManyNetworks => ErrorKind::TooManyValues,
         BadOption::Number { .. }
@@ -152,9 +152,6 @@ fn message_of(alloc: Global, bad: BadOption<'_>) -> Result<String, AllocError> {
         ),
         BadOption::NoPeer => format!(in alloc;
             "the following required arguments were not provided:\n  <--peer <ADDRESS>|--bind <ADDRESS>>"
-        ),
-        BadOption::TwoPeers => format!(in alloc;
-            "the argument '--peer <ADDRESS>' cannot be used with '--bind <ADDRESS>'"
         ),
         BadOption::Network { text } => {
             format!(in alloc;

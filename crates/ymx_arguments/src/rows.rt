@@ -8,15 +8,10 @@ use std::convert::AsStr;
 /// Which subcommands have an option.
 #[derive(Clone, Copy)]
 pub(crate) enum Owner {
-    /// `frames`.
     Frames,
-    /// `frames` and `script`.
     Tools,
-    /// `local`.
     Local,
-    /// `remote`.
     Remote,
-    /// `local` and `remote`.
     Ends,
 }
 
@@ -124,13 +119,13 @@ static ROWS: [Row; 25] = [
         help: "The file to read; `-` or none is standard input"),
     row!(ADDRESS, name: "listen", owner: Owner::Local, is_needed: true,
         help: "Where connections come from, as 127.0.0.1:8080"),
-    row!(ADDRESS, name: "peer", owner: Owner::Local,
+    row!(ADDRESS, name: "peer", owner: Owner::Local, apart: Some("bind"),
         help: "Where `ymx remote` listens, to connect there"),
     row!(ADDRESS, name: "bind", old_names: &["await"], owner: Owner::Local,
         help: "Where to listen for `ymx remote`, in place of --peer"),
     row!(ADDRESS, name: "bind", owner: Owner::Remote,
         help: "Where to listen for `ymx local`"),
-    row!(ADDRESS, name: "peer", old_names: &["call"], owner: Owner::Remote,
+    row!(ADDRESS, name: "peer", old_names: &["call"], owner: Owner::Remote, apart: Some("bind"),
         help: "Where `ymx local` listens, to connect there in place of --bind"),
     row!(ADDRESS, name: "target", owner: Owner::Remote, is_needed: true, least: 1,
         help: "Where each stream is connected to"),

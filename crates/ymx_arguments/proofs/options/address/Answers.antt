@@ -16,8 +16,8 @@ returns-in-Err c =
     subst (λ given. (text ≡ unwrap_or given []) × ((address : SocketAddrV4) → IsSomeAnd given (λ text. IsSocketV4Text text address) × (least ≤ v4_port address) → ⊥)) is (refl, λ address p. c.in-Err.ensures.value address p.0)
 
 -- no other address is spelled than this one, whose port is below the least
-pub returns-then-from-row_of : goal.returns-then-from-row_of
-returns-then-from-row_of c =
+pub returns-in-Ok-2 : goal.returns-in-Ok-2
+returns-in-Ok-2 c =
     let text = c.in-Some.text.now in
     let least = (row_of c.args.name.now).least in
     let is : Some text ≡ first_of c.args.name.now (rows_of (found_of c.args.found.now)) = search rules in
@@ -26,7 +26,7 @@ returns-then-from-row_of c =
       λ other p.
           let port = ap v4_port (IsSocketV4Text_unique text c.in-Ok.address other c.in-Ok.ensures.value p.0) in
           let row : c.row_of.result.least ≡ least = ap (λ (r : OptionRow). r.least) c.row_of.ensures in
-          let low = c.if-from-row_of.true in
+          let low = c.if-row_of-from.false in
           let from = c.from.ensures in
           let at = c.port.ensures in
           omega (arith, port, row, p.1, low, from, at),

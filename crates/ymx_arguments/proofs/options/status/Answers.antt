@@ -12,8 +12,8 @@ pub returns-else-is_loopback : goal.returns-else-is_loopback
 returns-else-is_loopback c =
     let text = c.in-Some.text.now in
     let is : Some text ≡ first_of (codes "status") (rows_of (found_of c.args.found.now)) = search rules in
-    let address = c.in_ok-address.address in
-    let spelled : IsSocketV4Text text address = subst (λ (given : Option Text). IsSomeAnd given (λ text. IsSocketV4Text text address)) (sym is) c.in_ok-address.ensures.0 in (
+    let address = c.in_ok-address-in-Some.address in
+    let spelled : IsSocketV4Text text address = subst (λ (given : Option Text). IsSomeAnd given (λ text. IsSocketV4Text text address)) (sym is) c.in_ok-address-in-Some.ensures.0 in (
       sym is,
       (λ said. let e = c.flag-is_anywhere.ensures.1 said in cc),
       λ other names near.

@@ -14,7 +14,6 @@ said (bad.Number name text) e other is = is
 said (bad.Address name text) e other is = other name text refl
 said (bad.Clash name apart) e other is = is
 said bad.NoPeer e other is = is
-said bad.TwoPeers e other is = is
 said (bad.Network text) e other is = is
 said bad.ManyNetworks e other is = is
 said (bad.FarStatus text) e other is = is
