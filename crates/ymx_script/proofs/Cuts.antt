@@ -3,6 +3,7 @@ use Rattle.std.proofs.Common.{◌≡◌, ℕ, ◌+◌, ◌==◌, List, [], ◌�
 use Rattle.std.proofs.lemmas.Grind.{common_steps}
 use Rattle.std.specs.List.{position, position_or_len}
 use Rattle.ymx_script.specs.Words.{words, onto}
+use Rattle.ymx_script.proofs.Feeds.{not_found, found_at}
 
 -- how many bytes stand before the first space
 abbrev pub word_len : List ℕ → ℕ
@@ -32,21 +33,13 @@ pub cut_at : (bytes : List ℕ) → words bytes ≡ take (word_len bytes) bytes 
 cut_at [] = refl
 cut_at (b ∷ bs) = cut_step b bs (b == 32) (cut_at bs)
 
-found_none : (t : Bool) (n : ℕ) → cond t (Some n) None ≡ None → t ≡ false
-found_none true n h = cc
-found_none false n h = refl
-
-found_some : (t : Bool) (n i : ℕ) → cond t (Some n) None ≡ Some i → (t ≡ true) × (n ≡ i)
-found_some true n i h = (refl, cc)
-found_some false n i h = cc
-
 take_short : (bytes : List ℕ) (n : ℕ) → nat_lt n (length bytes) ≡ false → take n bytes ≡ bytes
 take_short bytes n h = grind (arith, common_steps)
 
 -- without a space the line is one word
 pub cut_none : (bytes : List ℕ) (found : Option ℕ) → found ≡ position (λ b. b == 32) bytes → found ≡ None → words bytes ≡ bytes ∷ []
 cut_none bytes found is none =
-    let short = found_none (nat_lt (word_len bytes) (length bytes)) (word_len bytes) (sym is ∙ none) in
+    let short = not_found (nat_lt (word_len bytes) (length bytes)) (word_len bytes) (sym is ∙ none) in
     cut_at bytes ∙ ap (λ t. take (word_len bytes) bytes ∷ cond t (words (drop (word_len bytes + 1) bytes)) []) short
     ∙ ap (λ zs. zs ∷ []) (take_short bytes (word_len bytes) short)
 
@@ -54,7 +47,7 @@ cut_none bytes found is none =
 pub cut_some : (bytes : List ℕ) (found : Option ℕ) (i : ℕ) → found ≡ position (λ b. b == 32) bytes → found ≡ Some i →
     words bytes ≡ take i bytes ∷ words (drop (i + 1) bytes)
 cut_some bytes found i is some =
-    let h = found_some (nat_lt (word_len bytes) (length bytes)) (word_len bytes) i (sym is ∙ some) in
+    let h = found_at (nat_lt (word_len bytes) (length bytes)) (word_len bytes) i (sym is ∙ some) in
     cut_at bytes ∙ ap (λ t. take (word_len bytes) bytes ∷ cond t (words (drop (word_len bytes + 1) bytes)) []) h.0
     ∙ ap (λ n. take n bytes ∷ words (drop (n + 1) bytes)) h.1
 

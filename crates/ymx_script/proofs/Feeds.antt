@@ -37,25 +37,26 @@ pub at_feed : (bytes : List ℕ) → line_len bytes < length bytes → bytes ≡
 at_feed [] h = absurd (omega (arith, h))
 at_feed (b ∷ bs) h = feed_step b bs (b == 10) refl (at_feed bs) h
 
-no_feed : (t : Bool) (n : ℕ) → cond t (Some n) None ≡ None → t ≡ false
-no_feed true n h = cc
-no_feed false n h = refl
+-- a place that is told only where there is one
+pub not_found : (t : Bool) (n : ℕ) → cond t (Some n) None ≡ None → t ≡ false
+not_found true n h = cc
+not_found false n h = refl
 
-one_feed : (t : Bool) (n i : ℕ) → cond t (Some n) None ≡ Some i → (t ≡ true) × (n ≡ i)
-one_feed true n i h = (refl, cc)
-one_feed false n i h = cc
+pub found_at : (t : Bool) (n i : ℕ) → cond t (Some n) None ≡ Some i → (t ≡ true) × (n ≡ i)
+found_at true n i h = (refl, cc)
+found_at false n i h = cc
 
 -- where there is none it is one line
 pub found_none : (bytes : List ℕ) (found : Option ℕ) → found ≡ position (λ b. b == 10) bytes → found ≡ None → has_feed bytes ≡ false
 found_none bytes found is none =
-    let t = no_feed (nat_lt (line_len bytes) (length bytes)) (line_len bytes) (sym is ∙ none) in
+    let t = not_found (nat_lt (line_len bytes) (length bytes)) (line_len bytes) (sym is ∙ none) in
     let whole : take (line_len bytes) bytes ≡ bytes = grind (arith, common_steps) in
     subst (λ (zs : List ℕ). has_feed zs ≡ false) whole (front_one bytes)
 
 -- where there is one, a line ends there
 pub found_some : (bytes : List ℕ) (found : Option ℕ) (i : ℕ) → found ≡ position (λ b. b == 10) bytes → found ≡ Some i → EndsLine bytes i
 found_some bytes found i is some =
-    let h = one_feed (nat_lt (line_len bytes) (length bytes)) (line_len bytes) i (sym is ∙ some) in
+    let h = found_at (nat_lt (line_len bytes) (length bytes)) (line_len bytes) i (sym is ∙ some) in
     let within : line_len bytes < length bytes = grind arith in
     subst (λ (n : ℕ). EndsLine bytes n) h.1 (record { within = within; one = front_one bytes; cut = at_feed bytes within })
 
