@@ -28,19 +28,6 @@ use ymx_script::{ScriptEnd, script};
 /// How many milliseconds the last words of an end may wait to be said.
 const LAST_WORDS: u16 = 1_000;
 
-/// Why a file can't be opened.
-#[derive(Clone, Copy)]
-pub enum Unopened {
-    /// There is none of this name.
-    Missing,
-    /// It may not be read.
-    Denied,
-    /// It is a folder.
-    Folder,
-    /// For another reason.
-    Other,
-}
-
 /// Opens files by their names.
 pub trait FileOpener {
     /// An opened file.
@@ -49,8 +36,8 @@ pub trait FileOpener {
     /// The bytes of the file of this name, if the opener can tell.
     ghost held: { Self → List ℕ → Option (List ℕ) };
 
-    /// Opens the file of this name, to be read from its beginning.
-    fn open(&self, name: &str) -> Result<Self::File, Unopened>
+    /// Opens the file of this name, to be read from its beginning. An error says why it can't be, or nothing.
+    fn open(&self, name: &str) -> Result<Self::File, &'static str>
         ensures { IfOk result (λ file. Keeps (held self.now name.now) (Self.File.remaining file) × (Self.File.failures file ≡ 0)) };
 }
 
@@ -253,18 +240,12 @@ fn finish_script<D: Outlet>(end: ScriptEnd, errors: &mut D) -> u8
 }
 
 /// Says why the file of this name can't be opened, and that it can't, and answers the status of a fault.
-pub(crate) fn cannot_open<D: Outlet>(errors: &mut D, name: &str, why: Unopened) -> u8
+pub(crate) fn cannot_open<'a, D: Outlet>(errors: &mut D, name: &'a str, why: &'a str) -> u8
     ensures { result ≡ 1 }
 {
     let name = name.as_bytes();
-    let reason = match why {
-        Unopened::Missing => "no such file\n",
-        Unopened::Denied => "permission denied\n",
-        Unopened::Folder => "is a folder\n",
-        Unopened::Other => "",
-    };
-    if !reason.is_empty() {
-        say(errors, &[b"ymx: ", name, b": ", reason.as_bytes()]);
+    if !why.is_empty() {
+        say(errors, &[b"ymx: ", name, b": ", why.as_bytes(), b"\n"]);
     }
     say(errors, &[b"ymx: ", name, b": the file can't be opened\n"]);
     1

@@ -2,7 +2,7 @@
 
 ghost use Rattle.std.specs.Prelude.{None};
 
-use crate::command::{FileOpener, Unopened};
+use crate::command::FileOpener;
 use std::fs::File;
 use std::io::{self, ErrorKind};
 use std::rt::Files;
@@ -11,7 +11,6 @@ use ymx_model::ReaderInlet;
 /// The files of the system. No contract says what they hold, nor which there are.
 #[derive(Drop)]
 pub struct Disk<'a, T> {
-    /// The runtime.
     pub rt: &'a T,
 }
 
@@ -20,13 +19,13 @@ impl<T: Files<File = File>> FileOpener for Disk<'_, T> {
 
     ghost held = { λ s name. None };
 
-    fn open(&self, name: &str) -> Result<ReaderInlet<File>, Unopened> {
+    fn open(&self, name: &str) -> Result<ReaderInlet<File>, &'static str> {
         let reader = match File::open(self.rt, name) {
             Ok(file) => file,
             Err(error) => return Err(reason_of(&error)),
         };
         match reader.metadata() {
-            Ok(metadata) if metadata.is_dir() => Err(Unopened::Folder),
+            Ok(metadata) if metadata.is_dir() => Err("is a folder"),
             _ => Ok(ReaderInlet {
                 reader,
                 failures: 0,
@@ -36,11 +35,11 @@ impl<T: Files<File = File>> FileOpener for Disk<'_, T> {
 }
 
 /// Why the system opens no file.
-fn reason_of(error: &io::Error) -> Unopened {
+fn reason_of(error: &io::Error) -> &'static str {
     match error.kind() {
-        ErrorKind::NotFound => Unopened::Missing,
-        ErrorKind::PermissionDenied => Unopened::Denied,
-        ErrorKind::IsADirectory => Unopened::Folder,
-        _ => Unopened::Other,
+        ErrorKind::NotFound => "no such file",
+        ErrorKind::PermissionDenied => "permission denied",
+        ErrorKind::IsADirectory => "is a folder",
+        _ => "",
     }
 }

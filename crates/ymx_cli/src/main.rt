@@ -11,7 +11,7 @@ mod repeats;
 mod standard;
 mod time;
 
-use command::{Devices, Unopened, cannot_open, name_other_end, say, say_fault, ymx_main};
+use command::{Devices, cannot_open, name_other_end, say, say_fault, ymx_main};
 use disk::Disk;
 use help::words_of_help;
 use log::{Log, LogWriter};
@@ -44,7 +44,7 @@ fn main(rt: HostRuntime) -> ExitCode {
         lines: LogWriter::new(&rt, &log),
     };
     if !hold_standard(&rt) {
-        return ExitCode::from(cannot_open(&mut devices.errors, "/dev/null", Unopened::Other));
+        return ExitCode::from(cannot_open(&mut devices.errors, "/dev/null", ""));
     }
     let alloc = rt.alloc();
     let status = match words(&rt, alloc) {
