@@ -1,15 +1,16 @@
 #!/bin/sh
 # Measures how long a small stream waits beside large ones: 64 bytes there and back, one exchange after another, beside
 # downloads that take all that a slow line carries. The line is the relay bench/line.py, which needs no privilege. The
-# same is measured of Go's yamux, if tests/interop/run.sh finds Go, of `ssh -L`, if that and sshd are installed, and of
-# plain TCP over the line, in turn.
+# same is measured of Go's yamux, if tests/interop/run.sh finds Go, of `ssh -L` and of two haproxies, if they are installed,
+# and of plain TCP over the line, in turn. haproxy has a connection over the line for each user.
 #
 #     bench/latency.sh [RUNS]
 #
 # RUNS is how often each is measured, 3 if it is left out: it prints the medians of these runs' medians, with the lowest
-# and the highest, Jain's index of what the downloads brought (1 where each brought as much), and what they brought
-# together. Where YMX_BEFORE names a program of ymx, as one from before a change, that is measured in turn too. ROWS names
-# the rows to measure, by their numbers from 1 on. Needs Python 3 and iproute2.
+# and the highest, Jain's index of what the downloads brought (1 if each brought as much), and what they brought
+# together. It ends with the lines of bench/README.md, for tools/speeds.py. If YMX_BEFORE names a program of ymx, such as
+# one from before a change, that is measured in turn too. ROWS names the rows to measure, by their numbers from 1 on.
+# Needs Python 3 and iproute2.
 set -eu
 here=$(cd "$(dirname "$0")" && pwd)
 . "$here/../tests/over.sh"
@@ -25,6 +26,7 @@ PATH=$PATH:/usr/sbin
 PYTHONPATH=$root/tests:$here python3 -B - "$ymx" "${YMX_BEFORE-}" "$peer" "$here/line.py" "${1-3}" "${ROWS-1 2 3 4}" "$scratch" << 'PYTHON'
 import random
 import selectors
+import shutil
 import socket
 import statistics
 import subprocess
@@ -38,10 +40,10 @@ from ports import free_port
 ymx, before, peer, relay, runs, chosen, folder = sys.argv[1:]
 # What is measured, million bits a second, the round trip in milliseconds, how many downloads, the windows.
 ROWS = [
-    (10, 50, 8, 262_144),
-    (10, 50, 8, 1 << 20),
-    (100, 20, 50, 262_144),
-    (10, 50, 1, 262_144),
+    ("8 downloads over 10 Mbit/s and 50 ms", 10, 50, 8, 262_144),
+    ("the same with windows of 1 MiB", 10, 50, 8, 1 << 20),
+    ("50 downloads over 100 Mbit/s and 20 ms", 100, 20, 50, 262_144),
+    ("1 download over 10 Mbit/s and 50 ms", 10, 50, 1, 262_144),
 ]
 # Seconds in which the downloads get going, and for which exchanges are measured.
 WARM, MEASURED = 4, 12
@@ -154,17 +156,20 @@ def jain(brought):
 
 def tunnel(processes, kind, target, row):
     """The port at which users of it call, where its ends have the line between them."""
-    megabits, trip, _, window = row
+    _, megabits, trip, _, window = row
     at = {name: free_port() for name in ("users", "line", "remote")}
     place = {name: f"127.0.0.1:{port}" for name, port in at.items()}
     line = [sys.executable, relay, place["line"], f"127.0.0.1:{target}", str(megabits), str(trip / 2)]
     if kind == "plain TCP":
         begin(processes, at["line"], line)
         return at["line"]
-    program = {"ymx": ymx, "ymx before": before, "Go's yamux": peer, "ssh -L": "ssh"}[kind]
+    program = {"ymx": ymx, "ymx before": before, "Go's yamux": peer, "ssh -L": "ssh", "haproxy": "haproxy"}[kind]
     if program == "ssh":
         remote = others.sshd(folder, place["remote"])
         local = others.ssh(folder, place["line"], place["users"], f"127.0.0.1:{target}")
+    elif program == "haproxy":
+        remote = others.haproxy(folder, place["remote"], f"127.0.0.1:{target}")
+        local = others.haproxy(folder, place["users"], place["line"])
     elif program == peer:
         remote = [peer, "remote", "-at", place["remote"], "-to", f"127.0.0.1:{target}", "-window", str(window)]
         local = [peer, "local", "-at", place["users"], "-to", place["line"], "-window", str(window)]
@@ -182,7 +187,7 @@ def measure(kind, target, row):
     processes = []
     try:
         port = tunnel(processes, kind, target, row)
-        downloads = Downloads(port, row[2])
+        downloads = Downloads(port, row[3])
         try:
             time.sleep(WARM)
             downloads.mark()
@@ -199,12 +204,14 @@ def measure(kind, target, row):
 
 
 target = server()
-kinds = ["ymx"] + ["ymx before"] * bool(before) + ["Go's yamux"] * bool(peer) + ["ssh -L"] * others.has_ssh() + ["plain TCP"]
+kinds = ["ymx"] + ["ymx before"] * bool(before) + ["Go's yamux"] * bool(peer) + ["ssh -L"] * others.has_ssh()
+kinds += ["haproxy"] * bool(shutil.which("haproxy")) + ["plain TCP"]
+# The lines of bench/README.md, which tools/speeds.py takes.
+lines = []
 print(f"{SIZE} bytes there and back beside downloads; medians of {runs}")
 for number in map(int, chosen.split()):
     row = ROWS[number - 1]
-    megabits, trip, count, window = row
-    print(f"{count} downloads over {megabits} Mbit/s and {trip} ms there and back, windows of {window // 1024} KiB", flush=True)
+    print(row[0], flush=True)
     found = {kind: [] for kind in kinds}
     for _ in range(int(runs)):
         for kind in kinds:
@@ -216,4 +223,7 @@ for number in map(int, chosen.split()):
             f" Jain's index {statistics.median(fair):.3f}; {statistics.median(speed):.2f} MB a second",
             flush=True,
         )
+    medians = (f"{statistics.median(wait for wait, _, _ in found[kind]):,.0f}" for kind in kinds)
+    lines.append(f"| latency, {row[0]}: {'; '.join(kinds)} | {'; '.join(medians)} ms |")
+print("\n" + "\n".join(lines))
 PYTHON

@@ -3,8 +3,8 @@
 # with Go's yamux in place of ymx, and with plain copying in place of yamux; and, if they are installed, with `ssh -L`
 # and an sshd, which encrypt, and with two haproxies. Medians of five runs, in turn. The
 # client compares what comes back. Then it times 64 bytes there and back, 500 times one after another: alone, beside
-# 1,000 idle connections, and beside 63 busy ones. Needs Go, as tests/interop/run.sh does. With a number it makes so
-# many runs. If YMX_BEFORE names a program of ymx, such as one from before a change, that is measured in turn too.
+# 1,000 idle connections, and beside 63 busy ones. It ends with the lines of bench/README.md, for tools/speeds.py. Needs Go,
+# as tests/interop/run.sh does. With a number it makes so many runs. If YMX_BEFORE names a program of ymx, such as one from before a change, that is measured in turn too.
 set -eu
 top=$(cd "$(dirname "$0")/.." && pwd)
 case ${1-5} in
@@ -44,15 +44,23 @@ LINKS = "ymx --links 4"
 # Another program of ymx, to be compared.
 BEFORE = os.environ.get("YMX_BEFORE")
 KINDS = ["ymx", "ymx before"] if BEFORE else ["ymx"]
-KINDS += ["Go", "plain copying"]
+KINDS += ["Go's yamux"]
 KINDS += ["ssh -L"] if others.has_ssh() else []
 KINDS += ["haproxy"] if shutil.which("haproxy") else []
+KINDS += ["plain copying"]
 CASES = [
     ("1 connection of 1 GiB", 1, 1, 1 << 30),
     ("64 connections of 16 MiB at once", 64, 64, 16 << 20),
     ("2,000 connections of 1 KiB, 64 at once", 2000, 64, 1024),
-    ("2,000 empty connections, one after another", 2000, 1, 0),
+    ("2,000 empty connections in turn", 2000, 1, 0),
 ]
+# The lines of bench/README.md, which tools/speeds.py takes.
+ROWS, COSTS, WAITS = [], [], []
+
+
+def short(number):
+    """The number with two digits that tell, or whole."""
+    return f"{number:.0f}" if number >= 10 else f"{number:.2g}"
 
 
 def free_address():
@@ -128,7 +136,7 @@ def tunnel(kind, echo):
     if kind == "plain copying":
         far = Process([peer, "forward", "-at", ANY, "-to", echo.address])
         return Process([peer, "forward", "-at", ANY, "-to", far.address]), far
-    if kind == "Go":
+    if kind == "Go's yamux":
         far = Process([peer, "remote", "-at", ANY, "-to", echo.address])
         return Process([peer, "local", "-at", ANY, "-to", far.address]), far
     options = ["--window", "1048576"] if kind == WIDE else []
@@ -161,19 +169,23 @@ for name, count, at_once, size in CASES:
     for _ in range(runs):
         for kind in figures:
             figures[kind].append(measure(kind, count, at_once, size))
+    speeds, costs = {}, {}
+    unit = "MB a second each way" if size >= 1 << 20 else "connections a second"
     for kind, taken in figures.items():
         seconds, processor, memory = (statistics.median(column) for column in zip(*taken))
-        if size >= 1 << 20:
-            speed = f"{count * size / seconds / 1e6:,.0f} MB a second each way"
-        else:
-            speed = f"{count / seconds:,.0f} connections a second"
-        print(f"  {kind}: {speed}; {processor:.2f} s of processor, {memory:.0f} MiB at most in one process")
+        speeds[kind] = f"{(count * size / 1e6 if size >= 1 << 20 else count) / seconds:,.0f}"
+        costs[kind] = f"{short(processor)} s, {memory:.0f} MiB"
+        print(f"  {kind}: {speeds[kind]} {unit}; {costs[kind]}")
+    ROWS.append(f"| tunnel, {name}: {'; '.join(KINDS)} | {'; '.join(speeds[kind] for kind in KINDS)} {unit} |")
+    COSTS.append([name, *(costs[kind] for kind in KINDS)])
+    if name.startswith("64 "):
+        ROWS.append(f"| the same with `local --links 4` | {speeds[LINKS]} {unit} |")
 
 EXCHANGES = 500
 BESIDE = [
-    ("64 bytes there and back, alone", 0, 0),
-    ("64 bytes there and back, beside 1,000 idle connections", 1000, 0),
-    ("64 bytes there and back, beside 63 busy connections", 0, 63),
+    ("nothing", 0, 0),
+    ("1,000 idle connections", 1000, 0),
+    ("63 connections that carry as much as they can", 0, 63),
 ]
 
 
@@ -223,12 +235,21 @@ def measure_exchanges(kind, idle, busy):
 
 
 for name, idle, busy in BESIDE:
-    print(name)
+    print(f"64 bytes there and back, beside {name}")
     figures = {kind: [] for kind in KINDS}
     for _ in range(runs):
         for kind in figures:
             figures[kind].append(measure_exchanges(kind, idle, busy))
+    waits = []
     for kind, taken in figures.items():
         wait, memory = (statistics.median(column) for column in zip(*taken))
-        print(f"  {kind}: {wait:.2f} ms; {memory:.0f} MiB at most in one process")
+        waits.append(f"{short(wait)} ms" + f", {memory:.0f} MiB" * (idle + busy > 0))
+        print(f"  {kind}: {waits[-1]}")
+    WAITS.append([name, *waits])
+
+print("\n" + "\n".join(ROWS))
+for first, rows in ("Connections", COSTS), ("Beside", WAITS):
+    print()
+    for row in [[first, *KINDS], ["---"] * (len(KINDS) + 1), *rows]:
+        print(f"| {' | '.join(row)} |".replace(" --- ", "---"))
 PYTHON

@@ -1,11 +1,14 @@
 #!/usr/bin/env python3
-"""speeds.py [--same]: draws docs/speeds.svg from the table of bench/README.md.
+"""speeds.py [--same | --take FILE DAY MACHINE]: draws docs/speeds.svg from the table of bench/README.md.
 
 It takes the rows `tunnel, ..: ymx; Go's yamux; ..`, which may have more that are compared, such as `ssh -L`, and the day
 and the machine that the page tells of them; and below them the rows `latency, ..: ymx; Go's yamux; ..`, of which a lower
 figure is better. Each row has a scale of its own: its longest bar is its highest figure.
-With --same it draws nothing: it fails where the picture is another one, or where what README.md says of the tunnel's
+With --same it draws nothing: it fails if the picture is another one, or if what README.md says of the tunnel's
 speed isn't what bench/README.md says.
+With --take it first writes the figures of one run into both pages. FILE has what `bench/tunnel.sh 3` and
+`bench/latency.sh 3` printed, one after the other. DAY and MACHINE are told as today: '26 November 2026', 'four cores of an
+Intel Xeon at 2.5 GHz'.
 """
 import re
 import sys
@@ -80,21 +83,57 @@ def picture_of(page):
     return "\n".join([*head, *lines, "</svg>", ""])
 
 
-TOLD = r"1 GiB goes through the tunnel at ([\d,]+) MB/s, through Go's yamux in its place at ([\d,]+), (?:through `ssh -L` at ([\d,]+), through haproxy at ([\d,]+), )?and by plain copying at ([\d,]+): medians of (\w+) runs on ([^,]*),"
+# How README.md names them in a sentence, which begins and ends so.
+THROUGH = {"ymx": "through ymx", "Go's yamux": "through Go's yamux", "ssh -L": "through `ssh -L`", "haproxy": "through haproxy", "plain copying": "by plain copying", "plain TCP": "without a tunnel"}
+SPEED = re.compile(r"1 GiB goes through ymx [^\n]*? without a tunnel\.")
+
+
+def joined(told):
+    *all, last = told
+    return f"{', '.join(all)}, and {last}"
+
+
+def sentences(page):
+    """What README.md has to say of the tunnel's speed."""
+    rows = {what: pairs for what, _, pairs in rows_of(page) + latencies_of(page)}
+    moved, slow = rows["1 connection of 1 GiB"], rows["8 downloads over 10 Mbit/s and 50 ms"]
+    runs, day, machine = taken_at(page)
+    quick = re.search(r"^\| nothing \| (.*) ms \|$", page, re.M).group(1).split(" ms | ")
+    return (
+        f"1 GiB goes {joined(f'{THROUGH[who]} at {figure} MB/s' for who, figure in moved)}: medians of {runs} runs on {day}, on {machine}. "
+        f"In the same order, 64 bytes there and back take {', '.join(quick[:-1])} and {quick[-1]} ms. Beside eight downloads over a line of 10 Mbit/s "
+        f"and 50 ms they take {joined(f'{figure} ms {THROUGH[who]}' for who, figure in slow)}."
+    )
 
 
 def strange_figures(page):
-    """What README.md says of the tunnel's speed, where it isn't what the page says."""
-    known = {what: [figure for _, figure in pairs] for what, _, pairs in rows_of(page)}
-    told = re.search(TOLD, (ROOT / "README.md").read_text())
+    """What README.md says of the tunnel's speed, if it isn't what the page says."""
+    told = SPEED.search((ROOT / "README.md").read_text())
     if told is None:
         yield "README.md doesn't tell the tunnel's speed in words that this script knows"
-        return
-    *figures, runs, day = filter(None, told.groups())
-    if figures != known.get("1 connection of 1 GiB"):
-        yield f"README.md says {figures} of 1 GiB, and bench/README.md {known.get('1 connection of 1 GiB')}"
-    if (runs, day) != taken_at(page)[:2]:
-        yield f"README.md says {runs} runs on {day}, and bench/README.md {taken_at(page)[:2]}"
+    elif told.group() != sentences(page):
+        yield f"README.md says\n{told.group()}\nand bench/README.md\n{sentences(page)}"
+
+
+def take(file, day, machine):
+    """Writes the lines that the scripts printed, and the day and the machine, into both pages."""
+    page, printed = (ROOT / "bench/README.md").read_text(), Path(file).read_text()
+    for row in re.findall(r"^\| (?:tunnel,|latency,|the same with `local --links) .*$", printed, re.M):
+        name = re.escape(re.split(r": ymx| \| ", row)[0])
+        page, found = re.subn(rf"^{name}(?:: ymx| \| ).*$", lambda _: row, page, flags=re.M)
+        if not found:
+            sys.exit(f"bench/README.md has no row {name}")
+    for table in re.findall(r"^\| (?:Connections|Beside) \|.*\n(?:\|.*\n)+", printed, re.M):
+        head = table.split(" |")[0]
+        page = re.sub(rf"^{re.escape(head)} \|.*\n(?:\|.*\n)+", lambda _: table, page, flags=re.M)
+    runs = re.search(r"medians of (\d+)", printed).group(1)
+    told = f"are medians of { {'3': 'three', '5': 'five'}.get(runs, runs)} runs on {day}, on a virtual machine with {machine}"
+    page = re.sub(r"(The tunnel's figures) are medians of [^\n]*? GHz", rf"\1 {told}", page)
+    page = re.sub(r"(The latencies) are medians of [^\n]*?: 64 bytes", rf"\1 {told}: 64 bytes", page)
+    print("now read what bench/README.md says below its tables: some of it is of earlier runs")
+    (ROOT / "bench/README.md").write_text(page)
+    readme = (ROOT / "README.md").read_text()
+    (ROOT / "README.md").write_text(SPEED.sub(lambda _: sentences(page), readme))
 
 
 def main(words):
@@ -105,7 +144,10 @@ def main(words):
             wrong.append("docs/speeds.svg is not what tools/speeds.py draws: run it again")
         print("\n".join(wrong) or f"{len(rows_of(page) + latencies_of(page))} rows, as in bench/README.md")
         return 1 if wrong else 0
-    if words:
+    if words[:1] == ["--take"] and len(words) == 4:
+        take(*words[1:])
+        page = (ROOT / "bench/README.md").read_text()
+    elif words:
         sys.exit(__doc__)
     PICTURE.write_text(picture_of(page))
     return 0
