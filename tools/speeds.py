@@ -100,9 +100,9 @@ def sentences(page):
     runs, day, machine = taken_at(page)
     quick = re.search(r"^\| nothing \| (.*) ms \|$", page, re.M).group(1).split(" ms | ")
     return (
-        f"1 GiB goes {joined(f'{THROUGH[who]} at {figure} MB/s' for who, figure in moved)}: medians of {runs} runs on {day}, on {machine}. "
-        f"In the same order, 64 bytes there and back take {', '.join(quick[:-1])} and {quick[-1]} ms. Beside eight downloads over a line of 10 Mbit/s "
-        f"and 50 ms they take {joined(f'{figure} ms {THROUGH[who]}' for who, figure in slow)}."
+        f"1 GiB goes {joined(f'{THROUGH[who]} at {figure} MB/s' for who, figure in moved)}. In the same order, 64 bytes there and back "
+        f"take {', '.join(quick[:-1])} and {quick[-1]} ms. These are medians of {runs} runs on {day}, on {machine}. Beside eight downloads "
+        f"over a line of 10 Mbit/s and 50 ms, 64 bytes take {joined(f'{figure} ms {THROUGH[who]}' for who, figure in slow)}."
     )
 
 
