@@ -7,7 +7,7 @@
 set -euo pipefail
 here=$(cd "$(dirname "$0")" && pwd)
 root=$(cd "$here/.." && pwd)
-[ $# = 1 ] || { echo 'usage: release/bindings.sh FOLDER' >&2; exit 2; }
+[[ $# = 1 && $1 != -* ]] || { echo 'usage: release/bindings.sh FOLDER' >&2; exit 2; }
 compilers="${CC_x86_64-cc} ${CC_aarch64-aarch64-linux-gnu-gcc}"
 for tool in python3 readelf git $compilers; do
     command -v "$tool" > /dev/null || { echo "release/bindings.sh needs $tool" >&2; exit 1; }

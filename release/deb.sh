@@ -7,7 +7,7 @@
 set -euo pipefail
 here=$(cd "$(dirname "$0")" && pwd)
 root=$(cd "$here/.." && pwd)
-[ $# = 1 ] || { echo 'usage: release/deb.sh FOLDER' >&2; exit 2; }
+[[ $# = 1 && $1 != -* ]] || { echo 'usage: release/deb.sh FOLDER' >&2; exit 2; }
 for tool in dpkg-deb readelf "${CC_amd64-cc}" "${CC_arm64-aarch64-linux-gnu-gcc}"; do
     command -v "$tool" > /dev/null || { echo "release/deb.sh needs $tool" >&2; exit 1; }
 done

@@ -5,7 +5,7 @@
 set -euo pipefail
 here=$(cd "$(dirname "$0")" && pwd)
 root=$(cd "$here/.." && pwd)
-[ $# = 1 ] || { echo 'usage: release/image.sh FILE' >&2; exit 2; }
+[[ $# = 1 && $1 != -* ]] || { echo 'usage: release/image.sh FILE' >&2; exit 2; }
 to=$(cd "$(dirname "$1")" && pwd)/$(basename "$1")
 scratch=$(mktemp -d)
 trap 'rm -rf "$scratch"' EXIT

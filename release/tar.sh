@@ -5,7 +5,7 @@
 set -euo pipefail
 here=$(cd "$(dirname "$0")" && pwd)
 root=$(cd "$here/.." && pwd)
-[ $# = 1 ] || { echo 'usage: release/tar.sh FOLDER' >&2; exit 2; }
+[[ $# = 1 && $1 != -* ]] || { echo 'usage: release/tar.sh FOLDER' >&2; exit 2; }
 mkdir -p "$1"
 to=$(cd "$1" && pwd)
 scratch=$(mktemp -d)
