@@ -74,7 +74,7 @@ def picture_of(page):
         lines += more
     head = [
         f'<svg xmlns="http://www.w3.org/2000/svg" viewBox="0 0 {WIDTH} {y}" font-family="sans-serif" font-size="11" fill="#1f2d3a" role="img" '
-        'aria-label="Speeds of ymx, of Go\'s yamux and of plain copying, as bars; bench/README.md has the figures">',
+        'aria-label="Speeds of ymx and of others, as bars; bench/README.md has the figures">',
         f'  <rect x="0.5" y="0.5" width="{WIDTH - 1}" height="{y - 1}" rx="8" fill="#ffffff" stroke="#c8d2dc"/>',
         f'  <text x="{LEFT}" y="22">Through the tunnel. A longer bar is faster. Each group of bars has its own scale.</text>',
         f'  <text x="{LEFT}" y="38">Medians of {runs} runs on {day},</text>',
