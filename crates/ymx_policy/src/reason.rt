@@ -1,36 +1,24 @@
 //! Why the system refused, as `-v` tells it.
 
-use std::io::{self, ErrorKind};
-use thiserror::Error;
+use std::io::ErrorKind;
+use std::{fmt, io};
 
 /// Why the system refused. It prints as `-v` tells it.
-#[derive(Clone, Copy, Debug, PartialEq, Eq, Error)]
+#[derive(Clone, Copy, PartialEq, Eq)]
 pub enum Reason {
-    #[error("address in use")]
     InUse,
-    #[error("permission denied")]
     NotPermitted,
-    #[error("no address of this machine")]
     NotHere,
-    #[error("refused")]
     Refused,
-    #[error("unreachable")]
     Unreachable,
-    #[error("timed out")]
     TimedOut,
-    #[error("reset")]
     Reset,
     /// No port of this machine is left for a call.
-    #[error("no port left")]
     NoPort,
-    #[error("no descriptor left")]
     NoDescriptor,
-    #[error("no memory")]
     NoMemory,
-    #[error("no thread")]
     NoThread,
     /// The system has this number for it, or 0 where it says none.
-    #[error("error {0}")]
     Other(i32),
 }
 
@@ -63,6 +51,25 @@ impl Reason {
         match Reason::of(error) {
             Reason::NotHere => Reason::NoPort,
             reason => reason,
+        }
+    }
+}
+
+impl fmt::Display for Reason {
+    fn fmt<W: fmt::Write>(&self, f: &mut fmt::Formatter<W>) -> fmt::Result {
+        match self {
+            Reason::InUse => write!(f, "address in use"),
+            Reason::NotPermitted => write!(f, "permission denied"),
+            Reason::NotHere => write!(f, "no address of this machine"),
+            Reason::Refused => write!(f, "refused"),
+            Reason::Unreachable => write!(f, "unreachable"),
+            Reason::TimedOut => write!(f, "timed out"),
+            Reason::Reset => write!(f, "reset"),
+            Reason::NoPort => write!(f, "no port left"),
+            Reason::NoDescriptor => write!(f, "no descriptor left"),
+            Reason::NoMemory => write!(f, "no memory"),
+            Reason::NoThread => write!(f, "no thread"),
+            Reason::Other(number) => write!(f, "error {number}"),
         }
     }
 }
