@@ -1,5 +1,5 @@
 #!/bin/sh
-# Says what a session takes that `connect_tcp` runs, over TCP on the loopback and with no stream: the bytes that it asks the C
+# Says what a session takes over TCP on the loopback, with no stream: the bytes that it asks the C
 # library for, and its resident memory, with what of its threads' stacks is touched. It is what 65 sessions at once take more
 # than one, by 64. Needs `rt`, a C compiler and Python 3; proves and builds in a temporary folder, which takes some minutes.
 # With a program it takes that one: size_bench.rattle, as it was built before.
@@ -12,7 +12,7 @@ trap 'exit 130' INT TERM
 program=${1-}
 if [ "$program" = '' ]; then
     # shellcheck disable=SC2046
-    "$top/tools/kit.py" copy "$work" size_bench ymx_connect $("$top/tools/kit.py" uses ymx_connect) anyhow
+    "$top/tools/kit.py" copy "$work" size_bench yamux $("$top/tools/kit.py" uses yamux) anyhow
     cp "$top/bench/size_bench.rattle" "$work/crates/size_bench/src/main.rt"
     echo "proving and building the bench (some minutes)" >&2
     cd "$work/crates/size_bench"
@@ -36,5 +36,5 @@ def taken(count):
 
 one, many = taken(1), taken(65)
 for name, few, all_ in zip(("asked_for_bytes", "resident_bytes"), one, many):
-    print(f"connect_{name} {(all_ - few) // 64}")
+    print(f"session_{name} {(all_ - few) // 64}")
 END

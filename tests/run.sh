@@ -54,7 +54,7 @@ if [ "${1-}" != --no-kit ]; then
     try 'each allocation fails once' "$root/tests/no_memory/run.sh"
     try 'programs that must not compile' "$root/tests/must_not_compile/run.sh"
     # compiled together, as most of the time goes into what they share
-    try 'sessions, engines, threads and units' "$root/tests/try_tests.sh" session worlds engine hub tunnel connect yamux no_memory/parts units
+    try 'sessions, engines, threads and units' "$root/tests/try_tests.sh" session worlds engine hub tunnel yamux no_memory/parts units
     try "the guide's client and server" "$root/tests/examples/run.sh" guide
 fi
 if [ "${1-}" = --all ]; then

@@ -1,10 +1,10 @@
 #!/usr/bin/env python3
 """recorders.py: whether a body could differ by what a recorder keeps or witnesses.
 
-The front door and the library's servers run with `Witnessed`. `Off` is for a hub that a program makes by hand: what a
-contract says of a history is proved with the others. So the bodies must be the same for all. An `ensures` may speak of
-`KEEPS` and `WITNESSED`, since it is proved of every body. Anything else that names them, as an invariant, a ghost field, a
-ghost member or a `requires`, could let a body do another thing for one recorder, and so could an `impl` block for one.
+A session of `yamux` has `Off`, and one of `with_history` has `Witnessed`. What a contract says of a history is proved with
+the others than `Off`. So the bodies must be the same for all. An `ensures` may speak of `KEEPS` and `WITNESSED`, since it is
+proved of every body. Anything else that names them, as an invariant, a ghost field, a ghost member or a `requires`, could let
+a body do another thing for one recorder, and so could an `impl` block for one.
 Those that there are stand below, each with its reason. It prints any other, and ends with 'N places, M unknown'.
 """
 import re
@@ -87,6 +87,10 @@ KNOWN = {
             "ghost Finishes = { λ half seat answer. Books R.KEEPS half.seat seat",
             "ghost Resets = { λ half seat answer. Books R.KEEPS half.seat seat",
         )
+    ],
+    "what a thread of a pump promises, as an `ensures` would": [
+        ("yamux/src/pumps.rt", "ghost kept_by = { λ promise pumped. R.KEEPS ≡ false → HasRead"),
+        ("yamux/src/pumps.rt", "ghost kept_by = { λ promise pumped. R.KEEPS ≡ false → R.WITNESSED ≡ true → HasWritten"),
     ],
 }
 

@@ -157,7 +157,7 @@ build
 timeout 300 "$program" > "$scratch/history.out" || fail 'both hubs failed' "$scratch/history.out"
 printf 'the word has come: true\nboth histories are one run: true\n' | cmp - "$scratch/history.out" || fail 'the history is another' "$scratch/history.out"
 
-prove echoed ymx_joined ymx_connect ymx_seats ymx_headline ymx_machine ymx_model
+prove echoed ymx_joined yamux ymx_connect ymx_seats ymx_headline ymx_machine ymx_model
 build
 timeout 300 "$program" > "$scratch/echoed.out" || fail 'both ends of the echo failed' "$scratch/echoed.out"
 printf 'the same came back: true\none stream was echoed: true\n' | cmp - "$scratch/echoed.out" || fail 'the echo is another' "$scratch/echoed.out"

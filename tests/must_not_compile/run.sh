@@ -9,11 +9,10 @@ here=$(cd "$(dirname "$0")" && pwd)
 . "$here/../over.sh"
 
 copy_repository
-mkdir -p "$scratch/crates/misuse/src" "$scratch/crates/misuse_of_hubs/src" "$scratch/crates/misuse_of_the_door/src"
+mkdir -p "$scratch/crates/misuse/src" "$scratch/crates/misuse_of_hubs/src"
 {
     echo "misuse: ymx_half ymx_ring ymx_memory"
     echo "misuse_of_hubs: ymx_hub $(below ymx_hub)"
-    echo "misuse_of_the_door: ymx_connect $(below ymx_connect)"
 } >> "$scratch/crates.txt"
 
 for program in "$here"/*.rattle; do
@@ -21,7 +20,6 @@ for program in "$here"/*.rattle; do
     want=$(sed -n '2s,^// ,,p' "$program")
     crate=misuse
     ! grep -q '^use ymx_hub::' "$program" || crate=misuse_of_hubs
-    ! grep -q '^use ymx_connect::' "$program" || crate=misuse_of_the_door
     cp "$program" "$scratch/crates/$crate/src/main.rt"
     try='timeout 1200 rt check'
     [ "$want" != 'run=ended status=0' ] || try='rt try'

@@ -1,5 +1,5 @@
 #!/bin/sh
-# The plain door: exchanges, and what becomes of streams and sessions that are let go.
+# Sessions and streams: exchanges, and what becomes of streams and sessions that are let go.
 set -eu
 here=$(cd "$(dirname "$0")" && pwd)
 exec "$here/../try_tests.sh" yamux

@@ -9,7 +9,7 @@ use ymx_memory::RefusedAllocation;
 use ymx_model::{DeviceFault, Inlet, Outlet, ReaderInlet, WriterOutlet};
 
 /// Shuts a connection while two threads use it.
-pub trait Shut: Send + Sync + Drop + 'static {
+pub trait Shut: Drop {
     /// Ends both directions at once: a `pull` or a `push` that waits returns, and so does each later one. If it does nothing, the drop
     /// of a session waits for the peer.
     fn shut(&self);

@@ -1,9 +1,9 @@
 //! Why a call of a session or of a stream fails.
 
 use std::{error, fmt};
-use ymx_connect::{PumpWhy, Undrained};
+use ymx_connect::PumpWhy;
 use ymx_header::Fault;
-use ymx_hub::{HubFault, WriteFault};
+use ymx_hub::{HubFault, Undrained, WriteFault};
 use ymx_memory::RefusedAllocation;
 use ymx_model::CallFault;
 use ymx_session::NewFault;

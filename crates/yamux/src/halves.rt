@@ -2,14 +2,17 @@
 
 ghost use Rattle.std.specs.Prelude.{◌≡◌, ◌<◌, ◌≤◌, length, drop, Ok, Some, IfOk, MatchResult};
 ghost use Rattle.ymx_hub.specs.Books.{Books};
+ghost use Rattle.ymx_machine.specs.declared.types.Reply.TheVariants as reply;
 ghost use Rattle.ymx_hub.specs.Turns.{ReadTurns};
-ghost use Rattle.yamux.specs.Door.{WritesAll, Finishes};
+ghost use Rattle.ymx_connect.specs.Streams.{ReadsUpTo, Copies};
+ghost use Rattle.yamux.specs.Door.{WritesAll, Finishes, CopiesAll};
 
 use crate::error::Error;
-use crate::host::Host;
+use crate::host::Runtime;
 use crate::pumps::discard;
 use std::marker::Model;
-use ymx_hub::{Off, ReadHalf, WriteHalf};
+use std::sync::Wait;
+use ymx_hub::{HubFault, Off, ReadHalf, WriteHalf};
 use ymx_seats::{Recorder, Sight};
 
 /// Bytes that `read_all` and `copy` move at once.
@@ -17,24 +20,24 @@ const CHUNK: usize = 4_096;
 
 /// The writing half of a stream. Let go before it was closed, it resets the stream, so that the peer never takes a part for the
 /// whole. A call that fails resets it too, and each later call fails in the same way.
-pub struct Writer<W: Host, R: Recorder = Off> {
+pub struct Writer<W: Runtime, R: Recorder = Off> {
     rt: W,
     /// `None` once the stream was finished, or reset by this half.
     half: Option<WriteHalf<R>>,
     /// Why the stream was reset by this half, or not finished.
-    failed: Option<Error>,
+    pub(crate) failed: Option<Error>,
 }
 
 /// The reading half of a stream. Let go before it gave the end, it has the stream reset as soon as its writer is closed too. To write
 /// without reading, `close` it.
-pub struct Reader<W: Host, R: Recorder = Off> {
+pub struct Reader<W: Runtime, R: Recorder = Off> {
     rt: W,
     /// Who opened or accepted the stream: a release shows it the history too.
     caller: Sight<R>,
     half: ReadHalf<R>,
 }
 
-impl<W: Host, R: Recorder> Model for Writer<W, R> {
+impl<W: Runtime, R: Recorder> Model for Writer<W, R> {
     ghost use Rattle.std.specs.Prelude.{Option};
     ghost use Rattle.ymx_hub.specs.Halves.{HalfView};
 
@@ -43,7 +46,7 @@ impl<W: Host, R: Recorder> Model for Writer<W, R> {
     ghost view = { λ writer. writer.half };
 }
 
-impl<W: Host, R: Recorder> Model for Reader<W, R> {
+impl<W: Runtime, R: Recorder> Model for Reader<W, R> {
     ghost use Rattle.yamux.specs.Door.{ReaderView};
 
     ghost Value = { ReaderView };
@@ -51,7 +54,7 @@ impl<W: Host, R: Recorder> Model for Reader<W, R> {
     ghost view = { λ reader. record { caller = reader.caller; half = reader.half } };
 }
 
-impl<W: Host, R: Recorder> Drop for Writer<W, R> {
+impl<W: Runtime, R: Recorder> Drop for Writer<W, R> {
     fn drop(self) {
         let Writer {
             rt,
@@ -68,7 +71,7 @@ impl<W: Host, R: Recorder> Drop for Writer<W, R> {
     }
 }
 
-impl<W: Host, R: Recorder> Drop for Reader<W, R> {
+impl<W: Runtime, R: Recorder> Drop for Reader<W, R> {
     fn drop(self) {
         let Reader {
             rt,
@@ -80,7 +83,7 @@ impl<W: Host, R: Recorder> Drop for Reader<W, R> {
     }
 }
 
-impl<W: Host, R: Recorder> Writer<W, R> {
+impl<W: Runtime, R: Recorder> Writer<W, R> {
     pub(crate) fn new(rt: W, half: WriteHalf<R>) -> Writer<W, R>
         ensures { result ≡ Some half }
     {
@@ -106,6 +109,18 @@ impl<W: Host, R: Recorder> Writer<W, R> {
             },
             None => Err(self.failed.unwrap_or(Error::Finished)),
         }
+    }
+
+    /// The half of the hub, unless the stream was finished, or reset by this one.
+    pub fn into_half(self) -> Option<WriteHalf<R>>
+        ensures { result ≡ self }
+    {
+        let Writer {
+            rt: _,
+            half,
+            failed: _,
+        } = self;
+        half
     }
 
     /// Finishes the stream: the peer reads what was written, and then the end (half-close).
@@ -143,7 +158,7 @@ impl<W: Host, R: Recorder> Writer<W, R> {
     }
 }
 
-impl<W: Host, R: Recorder> Reader<W, R> {
+impl<W: Runtime, R: Recorder> Reader<W, R> {
     pub(crate) fn new(rt: W, caller: Sight<R>, half: ReadHalf<R>) -> Reader<W, R>
         ensures { result ≡ record { caller = caller; half = half } }
     {
@@ -172,7 +187,10 @@ impl<W: Host, R: Recorder> Reader<W, R> {
 
     /// Reads up to the end, and gives all bytes that were read, in order. It fails as `read` does, and with `Memory` where there is none
     /// for the bytes: what was read is gone then.
-    pub fn read_all(&mut self) -> Result<Vec<u8>, Error> {
+    pub fn read_all(&mut self) -> Result<Vec<u8>, Error>
+        ensures same { (self.new.caller ≡ self.old.caller) × (self.new.half.id ≡ self.old.half.id) }
+        ensures booked { IfOk result (λ bytes. Books R.KEEPS self.old.half.seat self.new.half.seat (ReadsUpTo reply.ReadEnd self.old.half.id self.old.half.seat.number bytes.items)) }
+    {
         let rt = self.rt;
         let mut buffer = [0; CHUNK];
         let mut bytes = Vec::new(rt.alloc());
@@ -184,6 +202,18 @@ impl<W: Host, R: Recorder> Reader<W, R> {
             ymx_memory::extend(&mut bytes, &buffer[..count])?;
         }
         unreachable!()
+    }
+
+    /// The half of the hub.
+    pub fn into_half(self) -> ReadHalf<R>
+        ensures { result ≡ self.half }
+    {
+        let Reader {
+            rt: _,
+            caller: _,
+            half,
+        } = self;
+        half
     }
 
     /// Reads no more, without a wait: what comes is dropped, so that the peer's writes go on. What was written here arrives. The stream
@@ -203,31 +233,45 @@ impl<W: Host, R: Recorder> Reader<W, R> {
 /// Reads one stream up to its end, and writes all that was read to another, in order: how many bytes, at most the greatest `u64`. The
 /// other stream is not finished by it. It fails as `read` and `write_all` do, and resets the other stream then: what it was given
 /// is a part.
-pub fn copy<W: Host, R: Recorder>(
+pub fn copy<W: Runtime, R: Recorder>(
     reader: &mut Reader<W, R>,
     writer: &mut Writer<W, R>,
-) -> Result<u64, Error> {
-    match copy_all(reader, writer) {
+) -> Result<u64, Error>
+    ensures copied { IfOk result (λ count. CopiesAll R.KEEPS reader.old reader.new writer.old writer.new count) }
+{
+    let rt = writer.rt;
+    let Some(half) = &mut writer.half else {
+        return Err(writer.failed.unwrap_or(Error::Finished));
+    };
+    match copy_all(&rt, &mut reader.half, half) {
         Ok(copied) => Ok(copied),
-        Err(error) => Err(writer.fail(error)),
+        Err(fault) => Err(writer.fail(Error::from(fault))),
     }
 }
 
 /// The same, and the other stream is left as it is.
-fn copy_all<W: Host, R: Recorder>(
-    reader: &mut Reader<W, R>,
-    writer: &mut Writer<W, R>,
-) -> Result<u64, Error> {
-    let rt = reader.rt;
+fn copy_all<W: Wait, R: Recorder>(
+    rt: &W,
+    reader: &mut ReadHalf<R>,
+    writer: &mut WriteHalf<R>,
+) -> Result<u64, HubFault>
+    ensures same { (reader.new.id ≡ reader.old.id) × (writer.new.id ≡ writer.old.id) }
+    ensures copied { IfOk result (λ count. Copies R.KEEPS reader.old writer.old reader.new.seat writer.new.seat count) }
+{
     let mut buffer = [0; CHUNK];
     let mut copied = 0u64;
     for _ in rt.forever() {
-        let count = reader.read(&mut buffer)?;
+        let count = match reader.read(rt, &mut buffer) {
+            Ok(count) => count,
+            Err(fault) => return Err(fault),
+        };
         if count == 0 {
             return Ok(copied);
         }
-        writer.write_all(&buffer[..count])?;
-        copied = copied.saturating_add(count as u64);
+        match writer.write_all(rt, &buffer[..count]) {
+            Ok(()) => copied = copied.saturating_add(count as u64),
+            Err(stop) => return Err(stop.fault),
+        }
     }
     unreachable!()
 }

@@ -4,8 +4,12 @@ use std::alloc::AllocGlobal;
 use std::sync::Wait;
 use std::thread::Threads;
 
-/// The runtime that `main` is given: it may wait, start threads and find memory. Sessions and streams keep it by value, so none of
-/// their calls takes it. Everything that may do all of that is one.
-pub trait Host: Wait + Threads + AllocGlobal + Copy + Drop + Send + Sync + 'static {}
+/// The runtime of who calls a session or a stream, which may wait and find memory. They keep it by value, so none of their calls takes it.
+pub trait Runtime: Wait + AllocGlobal + Copy + Drop {}
 
-impl<W: Wait + Threads + AllocGlobal + Copy + Drop + Send + Sync + 'static> Host for W {}
+impl<W: Wait + AllocGlobal + Copy + Drop> Runtime for W {}
+
+/// The runtime that `main` is given: it may start threads too, as a session needs them.
+pub trait Host: Runtime + Threads + Send + Sync + 'static {}
+
+impl<W: Runtime + Threads + Send + Sync + 'static> Host for W {}

@@ -1,22 +1,29 @@
 //! The two pumps of a session, each of which runs in a thread of its own until the session is over.
 
-ghost use Rattle.std.specs.Prelude.{◌<◌, vec_len, false};
+ghost use Rattle.std.specs.Prelude.{◌≡◌, ◌<◌, ◌≤◌, vec_len, true, false};
+ghost use Rattle.ymx_memory.specs.Bounds.{most_zeros};
+ghost use Rattle.ymx_seats.specs.Views.{IsNewcomer};
+ghost use Rattle.ymx_connect.specs.Pumping.{HasRead, HasWritten};
 
+use crate::ending::Ending;
+use crate::host::Runtime;
 use std::alloc::Global;
-use std::sync::Wait;
+use std::snapshot::Snapshot;
+use std::sync::Arc;
+use std::thread::Promise;
 use ymx_connect::{Gate, PumpEnd, PumpWhy, SettlerEnd, read_pump, write_pump};
 use ymx_header::FRAME_LENGTH;
 use ymx_hub::Hub;
 use ymx_memory::RefusedAllocation;
 use ymx_model::{Inlet, Outlet};
-use ymx_seats::{Recorder, Seat};
+use ymx_seats::{Recorder, Seat, Sight};
 
 /// Bytes that the read pump reads at once: 13 whole frames of the longest that are sent. With 16 a session would take more
 /// than 600,000 bytes.
-const READ_BUFFER: usize = 13 * FRAME_LENGTH;
+pub(crate) const READ_BUFFER: usize = 13 * FRAME_LENGTH;
 
 /// Bytes that the write pump writes at once: 16 whole frames of the longest that are sent.
-const WRITE_BUFFER: usize = 16 * FRAME_LENGTH;
+pub(crate) const WRITE_BUFFER: usize = 16 * FRAME_LENGTH;
 
 /// What a pump moves bytes through.
 #[derive(Drop)]
@@ -26,17 +33,64 @@ pub(crate) struct Buffer {
 }
 
 impl Buffer {
-    /// What the read pump moves bytes through.
-    pub(crate) fn for_reading(alloc: Global) -> Result<Buffer, RefusedAllocation> {
-        let bytes = ymx_memory::zeros(alloc, READ_BUFFER)?;
+    /// A buffer of this length, which isn't 0.
+    pub(crate) fn new(alloc: Global, length: usize) -> Result<Buffer, RefusedAllocation>
+        requires { (0 < length) × (length ≤ most_zeros) }
+    {
+        let bytes = ymx_memory::zeros(alloc, length)?;
         Ok(Buffer { bytes })
     }
+}
 
-    /// What the write pump moves bytes through.
-    pub(crate) fn for_writing(alloc: Global) -> Result<Buffer, RefusedAllocation> {
-        let bytes = ymx_memory::zeros(alloc, WRITE_BUFFER)?;
-        Ok(Buffer { bytes })
-    }
+/// A pump that is to run over this device, as a caller that has made no call.
+#[derive(Drop)]
+pub(crate) struct Pump<W: Runtime, R: Recorder, D: Drop> {
+    pub(crate) rt: W,
+    pub(crate) hub: Arc<Hub<R>, Global>,
+    pub(crate) seat: Sight<R>,
+    pub(crate) device: D,
+    pub(crate) buffer: Buffer,
+    /// Where it leaves its end.
+    pub(crate) end: Arc<Ending, Global>,
+}
+
+/// How a pump ended.
+#[derive(Drop)]
+pub(crate) struct Pumped<R: Recorder, D: Drop> {
+    /// Its device, behind what it moved.
+    pub(crate) device: D,
+    /// Why it ended.
+    pub(crate) why: PumpWhy,
+    /// How many bytes it moved.
+    pub(crate) moved: u64,
+    /// What its seat has seen.
+    pub(crate) sight: Sight<R>,
+}
+
+/// What the thread of a read pump promises of this reader: it is read on from where it was.
+#[derive(Drop)]
+pub(crate) struct ReadsOn<I> {
+    pub(crate) before: Snapshot<I>,
+}
+
+/// What the thread of a write pump promises of this writer: it is written on from where it was.
+#[derive(Drop)]
+pub(crate) struct WritesOn<O> {
+    pub(crate) before: Snapshot<O>,
+}
+
+impl<R: Recorder, I: Inlet + Drop> Promise<Pumped<R, I>> for ReadsOn<I> {
+    ghost use Rattle.std.specs.Prelude.{◌≡◌, false};
+    ghost use Rattle.ymx_connect.specs.Pumping.{HasRead};
+
+    ghost kept_by = { λ promise pumped. R.KEEPS ≡ false → HasRead (I.failures promise.before.value) (I.failures pumped.device) (I.remaining promise.before.value) (I.remaining pumped.device) pumped.moved pumped.why pumped.sight };
+}
+
+impl<R: Recorder, O: Outlet + Drop> Promise<Pumped<R, O>> for WritesOn<O> {
+    ghost use Rattle.std.specs.Prelude.{◌≡◌, true, false};
+    ghost use Rattle.ymx_connect.specs.Pumping.{HasWritten};
+
+    ghost kept_by = { λ promise pumped. R.KEEPS ≡ false → R.WITNESSED ≡ true → HasWritten R.role R.config (O.failures promise.before.value) (O.failures pumped.device) (O.contents promise.before.value) (O.contents pumped.device) (O.is_ended pumped.device) pumped.moved pumped.why pumped.sight };
 }
 
 /// Lets a pump run.
@@ -59,64 +113,67 @@ impl Gate for AlwaysOpen {
     }
 }
 
-/// Runs the read pump at the first seat until it ends, and lets its reader go. After each feed it looks at the streams that were
-/// released, at the second seat.
-pub(crate) fn pump_in<W: Wait, R: Recorder, I: Inlet + Drop>(
-    rt: &W,
-    hub: &Hub<R>,
-    seats: (Seat<R>, Seat<R>),
-    reader: I,
-    buffer: Buffer,
-) -> PumpWhy {
-    let Buffer { mut bytes } = buffer;
-    let mut reader = reader;
-    let (end, settler_end) = read_pump(
-        rt,
-        hub,
-        seats,
-        &mut reader,
-        &mut AlwaysOpen,
-        bytes.as_mut_slice(),
-    );
-    let PumpEnd {
-        seat,
-        moved: _,
-        why,
-    } = end;
-    let SettlerEnd {
-        seat: settler,
-        settled: _,
-    } = settler_end;
-    discard(seat);
-    discard(settler);
-    why
+impl<W: Runtime, R: Recorder, I: Inlet + Drop> Pump<W, R, I> {
+    /// Runs the read pump until it ends. After each feed it looks at the streams that were released, at another seat.
+    pub(crate) fn read(self, settler: Sight<R>) -> Pumped<R, I>
+        requires { IsNewcomer self.seat.number self.seat.seen }
+        ensures { R.KEEPS ≡ false → HasRead (I.failures self.device) (I.failures result.device) (I.remaining self.device) (I.remaining result.device) result.moved result.why result.sight }
+    {
+        let rt = self.rt;
+        let Buffer { mut bytes } = self.buffer;
+        let mut device = self.device;
+        let seat = self.seat.into_seat(rt.alloc());
+        let (ended, settled) = read_pump(
+            &rt,
+            &*self.hub,
+            (seat, settler.into_seat(rt.alloc())),
+            &mut device,
+            &mut AlwaysOpen,
+            bytes.as_mut_slice(),
+        );
+        let PumpEnd { seat, moved, why } = ended;
+        let SettlerEnd {
+            seat: settler,
+            settled: _,
+        } = settled;
+        discard(settler);
+        self.end.tell(&rt, why);
+        Pumped {
+            device,
+            why,
+            moved,
+            sight: seat.into_sight(),
+        }
+    }
 }
 
-/// Runs the write pump until it ends, and lets its writer go.
-pub(crate) fn pump_out<W: Wait, R: Recorder, O: Outlet + Drop>(
-    rt: &W,
-    hub: &Hub<R>,
-    seat: Seat<R>,
-    writer: O,
-    buffer: Buffer,
-) -> PumpWhy {
-    let Buffer { mut bytes } = buffer;
-    let mut writer = writer;
-    let end = write_pump(
-        rt,
-        hub,
-        seat,
-        &mut writer,
-        &mut AlwaysOpen,
-        bytes.as_mut_slice(),
-    );
-    let PumpEnd {
-        seat,
-        moved: _,
-        why,
-    } = end;
-    discard(seat);
-    why
+impl<W: Runtime, R: Recorder, O: Outlet + Drop> Pump<W, R, O> {
+    /// Runs the write pump until it ends.
+    pub(crate) fn write(self) -> Pumped<R, O>
+        requires { IsNewcomer self.seat.number self.seat.seen }
+        ensures { R.KEEPS ≡ false → R.WITNESSED ≡ true → HasWritten R.role R.config (O.failures self.device) (O.failures result.device) (O.contents self.device) (O.contents result.device) (O.is_ended result.device) result.moved result.why result.sight }
+    {
+        let rt = self.rt;
+        let Buffer { mut bytes } = self.buffer;
+        let mut device = self.device;
+        let seat = self.seat.into_seat(rt.alloc());
+        let ended = write_pump(
+            &rt,
+            &*self.hub,
+            seat,
+            &mut device,
+            &mut AlwaysOpen,
+            bytes.as_mut_slice(),
+        );
+        let PumpEnd { seat, moved, why } = ended;
+        self.end.tell(&rt, why);
+        Pumped {
+            device,
+            why,
+            moved,
+            sight: seat.into_sight(),
+        }
+    }
 }
 
 /// Lets a seat go, with its entries.

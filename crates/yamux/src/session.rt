@@ -1,14 +1,16 @@
 //! A session.
 
-ghost use Rattle.std.specs.Prelude.{◌≡◌, None, IfOk, IfSome};
+ghost use Rattle.std.specs.Prelude.{◌≡◌, ◌<◌, ◌≤◌, None, IfOk, IfSome};
+ghost use Rattle.ymx_memory.specs.Bounds.{most_zeros};
+ghost use Rattle.ymx_seats.specs.Views.{IsNewcomer};
 ghost use Rattle.yamux.specs.Door.{IsOpened, IsAccepted};
 ghost use Rattle.ymx_session.specs.NewSessions.{new_fault};
 
 use crate::connection::{Connection, Shut, TcpShut};
 use crate::ending::Ending;
 use crate::error::{Error, said_by};
-use crate::host::Host;
-use crate::pumps::{Buffer, discard, pump_in, pump_out};
+use crate::host::{Host, Runtime};
+use crate::pumps::{Buffer, Pump, READ_BUFFER, WRITE_BUFFER, discard};
 use crate::stream::Stream;
 use std::alloc::Global;
 use std::net::TcpStream;
@@ -22,17 +24,17 @@ use ymx_session::Session as Machine;
 
 /// A running session over a connection. It owns the connection, and two threads that move its bytes. Threads may share it by `&` or in
 /// an `Arc`. Let go, it is aborted, and its threads have ended then.
-pub struct Session<W: Host, S: Shut = TcpShut, R: Recorder = Off> {
-    rt: W,
-    hub: Arc<Hub<R>, Global>,
+pub struct Session<W: Runtime, S: Shut = TcpShut, R: Recorder = Off> {
+    pub(crate) rt: W,
+    pub(crate) hub: Arc<Hub<R>, Global>,
     shutter: S,
     /// Who closes the session.
     closer: Mutex<Seat<R>>,
-    reading: Arc<Ending, Global>,
-    writing: Arc<Ending, Global>,
+    pub(crate) reading: Arc<Ending, Global>,
+    pub(crate) writing: Arc<Ending, Global>,
 }
 
-impl<W: Host, S: Shut, R: Recorder> Drop for Session<W, S, R> {
+impl<W: Runtime, S: Shut, R: Recorder> Drop for Session<W, S, R> {
     fn drop(self) {
         let Session {
             rt,
@@ -58,28 +60,20 @@ impl<W: Host> Session<W> {
     pub fn client(rt: W, socket: TcpStream, config: Config) -> Result<Session<W>, Error>
         ensures may { IfOk result (λ _. new_fault Role.Client config ≡ None) }
     {
-        Session::over(
-            rt,
-            Connection::tcp(rt.alloc(), socket)?,
-            Role::Client,
-            config,
-        )
+        let connection = Connection::tcp(rt.alloc(), socket)?;
+        Session::over(rt, connection, Role::Client, config)
     }
 
     /// The side that was called, over this connection. It fails as `client` does.
     pub fn server(rt: W, socket: TcpStream, config: Config) -> Result<Session<W>, Error>
         ensures may { IfOk result (λ _. new_fault Role.Server config ≡ None) }
     {
-        Session::over(
-            rt,
-            Connection::tcp(rt.alloc(), socket)?,
-            Role::Server,
-            config,
-        )
+        let connection = Connection::tcp(rt.alloc(), socket)?;
+        Session::over(rt, connection, Role::Server, config)
     }
 }
 
-impl<W: Host, S: Shut> Session<W, S> {
+impl<W: Host, S: Shut + Send + Sync + 'static> Session<W, S> {
     /// The session of this role over any connection that can be shut. It fails as `client` does.
     pub fn over<I: Inlet + Send + Drop + 'static, O: Outlet + Send + Drop + 'static>(
         rt: W,
@@ -95,7 +89,11 @@ impl<W: Host, S: Shut> Session<W, S> {
     }
 }
 
-impl<W: Host, S: Shut, R: Recorder + Send + Sync + 'static> Session<W, S, R> {
+impl<W: Host, S: Shut + Send + Sync + 'static, R: Recorder + Send + Sync + 'static> Session<
+    W,
+    S,
+    R,
+> {
     /// The session of a hub, over any connection that can be shut. `Memory` and `NoThread` where there is none, and `Exhausted` where
     /// the hub has no seat left.
     pub fn over_hub<I: Inlet + Send + Drop + 'static, O: Outlet + Send + Drop + 'static>(
@@ -103,75 +101,98 @@ impl<W: Host, S: Shut, R: Recorder + Send + Sync + 'static> Session<W, S, R> {
         connection: Connection<I, O, S>,
         hub: Arc<Hub<R>, Global>,
     ) -> Result<Session<W, S, R>, Error> {
-        let alloc = rt.alloc();
-        let Connection {
-            reader,
-            writer,
-            shutter,
-        } = connection;
-        let reading = ymx_memory::shared(alloc, Ending::new())?;
-        let writing = ymx_memory::shared(alloc, Ending::new())?;
+        let session = Session::without_pumps(rt, hub, connection.shutter)?;
+        let settler = session.sight()?;
+        let pump = session.pump(connection.reader, READ_BUFFER, &session.reading)?;
+        let reading = thread::spawn(
+            &rt,
+            move ||
+                requires { IsNewcomer pump.seat.number pump.seat.seen }
+            {
+                let _ = pump.read(settler);
+            },
+        );
+        if reading.is_err() {
+            return Err(session.without_thread(&session.reading));
+        }
+        let pump = session.pump(connection.writer, WRITE_BUFFER, &session.writing)?;
+        let writing = thread::spawn(
+            &rt,
+            move ||
+                requires { IsNewcomer pump.seat.number pump.seat.seen }
+            {
+                let _ = pump.write();
+            },
+        );
+        if writing.is_err() {
+            return Err(session.without_thread(&session.writing));
+        }
+        Ok(session)
+    }
+}
+
+impl<W: Runtime, S: Shut, R: Recorder> Session<W, S, R> {
+    /// The session of a hub, whose pumps have no threads yet.
+    pub(crate) fn without_pumps(
+        rt: W,
+        hub: Arc<Hub<R>, Global>,
+        shutter: S,
+    ) -> Result<Session<W, S, R>, Error> {
+        let reading = ymx_memory::shared(rt.alloc(), Ending::new())?;
+        let writing = ymx_memory::shared(rt.alloc(), Ending::new())?;
         let closer = Mutex::new(hub.seat(&rt)?);
-        let session = Session {
+        Ok(Session {
             rt,
             hub,
             shutter,
             closer,
             reading,
             writing,
+        })
+    }
+
+    /// A pump over this device, which is about to get a thread.
+    pub(crate) fn pump<D: Drop>(
+        &self,
+        device: D,
+        buffer: usize,
+        end: &Arc<Ending, Global>,
+    ) -> Result<Pump<W, R, D>, Error>
+        requires { (0 < buffer) × (buffer ≤ most_zeros) }
+        ensures { IfOk result (λ pump. (pump.device ≡ device) × IsNewcomer pump.seat.number pump.seat.seen) }
+    {
+        let rt = self.rt;
+        let pump = Pump {
+            rt,
+            hub: ymx_memory::share(&self.hub)?,
+            seat: self.sight()?,
+            device,
+            buffer: Buffer::new(rt.alloc(), buffer)?,
+            end: ymx_memory::share(end)?,
         };
-        session.start_reading(reader)?;
-        session.start_writing(writer)?;
-        Ok(session)
+        end.begin(&rt);
+        Ok(pump)
     }
 
-    /// Starts the thread of the read pump.
-    fn start_reading<I: Inlet + Send + Drop + 'static>(&self, reader: I) -> Result<(), Error> {
-        let (rt, alloc) = (self.rt, self.rt.alloc());
-        let buffer = Buffer::for_reading(alloc)?;
-        let (seat, settler) = (sight(&rt, &self.hub)?, sight(&rt, &self.hub)?);
-        let hub = ymx_memory::share(&self.hub)?;
-        let end = ymx_memory::share(&self.reading)?;
-        self.reading.begin(&rt);
-        let started = thread::spawn(&rt, move || {
-            let seats = (seat.into_seat(alloc), settler.into_seat(alloc));
-            let why = pump_in(&rt, &*hub, seats, reader, buffer);
-            end.tell(&rt, why);
-        });
-        if started.is_err() {
-            self.reading.tell(&rt, PumpWhy::NoThread);
-            return Err(Error::NoThread);
-        }
-        Ok(())
+    /// `NoThread`, of a pump for which no thread could be made.
+    pub(crate) fn without_thread(&self, end: &Ending) -> Error {
+        end.tell(&self.rt, PumpWhy::NoThread);
+        Error::NoThread
     }
 
-    /// Starts the thread of the write pump.
-    fn start_writing<O: Outlet + Send + Drop + 'static>(&self, writer: O) -> Result<(), Error> {
-        let (rt, alloc) = (self.rt, self.rt.alloc());
-        let buffer = Buffer::for_writing(alloc)?;
-        let seat = sight(&rt, &self.hub)?;
-        let hub = ymx_memory::share(&self.hub)?;
-        let end = ymx_memory::share(&self.writing)?;
-        self.writing.begin(&rt);
-        let started = thread::spawn(&rt, move || {
-            let why = pump_out(&rt, &*hub, seat.into_seat(alloc), writer, buffer);
-            end.tell(&rt, why);
-        });
-        if started.is_err() {
-            self.writing.tell(&rt, PumpWhy::NoThread);
-            return Err(Error::NoThread);
-        }
-        Ok(())
+    /// What is left of a new seat, which has made no call.
+    pub(crate) fn sight(&self) -> Result<Sight<R>, Error>
+        ensures { IfOk result (λ sight. IsNewcomer sight.number sight.seen) }
+    {
+        let seat = self.hub.seat(&self.rt)?;
+        Ok(seat.into_sight())
     }
-}
 
-/// A new seat of a hub, which may be let go.
-fn sight<W: Host, R: Recorder>(rt: &W, hub: &Hub<R>) -> Result<Sight<R>, Error> {
-    let seat = hub.seat(rt)?;
-    Ok(seat.into_sight())
-}
+    /// The hub, whose calls take the seat of who makes them: what it has seen then, its contracts say.
+    pub fn hub(&self) -> &Hub<R> {
+        &self.hub
+    }
 
-impl<W: Host, S: Shut, R: Recorder> Session<W, S, R> {
     /// Opens a stream (stream identifiers). It doesn't wait for the peer, and bytes may be written at once.
     ///
     /// Refused, in this order, with `Closed`, `Lost`, `PeerAway` after the peer's Go Away, `Exhausted` where the ids are used up,

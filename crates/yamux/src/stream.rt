@@ -2,24 +2,26 @@
 
 ghost use Rattle.std.specs.Prelude.{◌≡◌, ◌<◌, ◌≤◌, length, drop, Ok, Some, IfOk, MatchResult};
 ghost use Rattle.ymx_hub.specs.Books.{Books};
+ghost use Rattle.ymx_machine.specs.declared.types.Reply.TheVariants as reply;
 ghost use Rattle.ymx_hub.specs.Turns.{ReadTurns};
+ghost use Rattle.ymx_connect.specs.Streams.{ReadsUpTo};
 ghost use Rattle.yamux.specs.Door.{WritesAll, Finishes};
 
 use crate::error::Error;
 use crate::halves::{Reader, Writer};
-use crate::host::Host;
+use crate::host::Runtime;
 use std::marker::Model;
 use ymx_hub::{Off, ReadHalf, WriteHalf};
 use ymx_seats::{Recorder, Sight};
 
 /// A stream of a session. Let go before it was finished (`close_write`, `close`) and read to its end, it is reset, so that neither
 /// side takes a part for the whole.
-pub struct Stream<W: Host, R: Recorder = Off> {
+pub struct Stream<W: Runtime, R: Recorder = Off> {
     writer: Writer<W, R>,
     reader: Reader<W, R>,
 }
 
-impl<W: Host, R: Recorder> Model for Stream<W, R> {
+impl<W: Runtime, R: Recorder> Model for Stream<W, R> {
     ghost use Rattle.yamux.specs.Door.{StreamView};
 
     ghost Value = { StreamView };
@@ -27,7 +29,7 @@ impl<W: Host, R: Recorder> Model for Stream<W, R> {
     ghost view = { λ stream. record { writer = stream.writer; reader = stream.reader } };
 }
 
-impl<W: Host, R: Recorder> Drop for Stream<W, R> {
+impl<W: Runtime, R: Recorder> Drop for Stream<W, R> {
     fn drop(self) {
         let Stream { writer, reader } = self;
         drop(writer);
@@ -35,7 +37,7 @@ impl<W: Host, R: Recorder> Drop for Stream<W, R> {
     }
 }
 
-impl<W: Host, R: Recorder> Stream<W, R> {
+impl<W: Runtime, R: Recorder> Stream<W, R> {
     pub(crate) fn new(rt: W, caller: Sight<R>, halves: (WriteHalf<R>, ReadHalf<R>)) -> Stream<W, R>
         ensures { result ≡ record { writer = Some halves.0; reader = record { caller = caller; half = halves.1 } } }
     {
@@ -64,7 +66,10 @@ impl<W: Host, R: Recorder> Stream<W, R> {
 
     /// Reads up to the end, and gives all bytes that were read, in order. It fails as `read` does, and with `Memory` where there is none
     /// for the bytes: what was read is gone then.
-    pub fn read_all(&mut self) -> Result<Vec<u8>, Error> {
+    pub fn read_all(&mut self) -> Result<Vec<u8>, Error>
+        ensures same { (self.new.writer ≡ self.old.writer) × (self.new.reader.caller ≡ self.old.reader.caller) × (self.new.reader.half.id ≡ self.old.reader.half.id) }
+        ensures booked { IfOk result (λ bytes. Books R.KEEPS self.old.reader.half.seat self.new.reader.half.seat (ReadsUpTo reply.ReadEnd self.old.reader.half.id self.old.reader.half.seat.number bytes.items)) }
+    {
         self.reader.read_all()
     }
 

@@ -1,41 +1,20 @@
--- What the door says whose session has its history in proofs.
-use Rattle.std.proofs.Common.{◌≡◌, ℕ, List, [], ◌∷◌, ◌++◌, true, false, zero, suc, ◌+◌, Option, Some, None, Result, Ok, Err, refl, sym, ap, subst, ◌∙◌, inl, inr, arith, append_assoc, append-nil}
+-- What stands in the history that callers of a session have seen.
+use Rattle.std.proofs.Common.{◌≡◌, ℕ, List, [], ◌∷◌, ◌++◌, true, false, zero, suc, ◌+◌, Option, Some, None, Ok, refl, sym, ap, subst, ◌∙◌, inl, inr, arith, append_assoc, append-nil}
 use mathlib.Core.List.{IsPrefix}
 use Rattle.ymx_machine.specs.declared.types.Reply.TheVariants as reply
 use Rattle.ymx_model.specs.declared.types.Role.{Role}
 use Rattle.ymx_model.specs.declared.types.Config.{Config}
 use Rattle.ymx_model.specs.declared.types.Entry.{Entry}
-use Rattle.ymx_session.specs.NewSessions.{new_fault}
 use Rattle.ymx_seats.specs.Views.{SeatView, IsWitnessed}
-use Rattle.std.specs.Prelude.{IfOk}
-use Rattle.std.specs.Result.{result_and}
-use Rattle.ymx_hub.specs.declared.faults.HubFault.{HubFault}
 use Rattle.ymx_hub.specs.Books.{Books, Grows, Extends, Spends, Closes, to_finish}
 use Rattle.ymx_hub.specs.Halves.{HalfView, OpensHalves, AcceptsHalves}
-use Rattle.ymx_hub.specs.Releasing.{Releases, IsDropped}
 use Rattle.ymx_seats.specs.declared.plays.Right.{Right}
 use Rattle.ymx_hub.specs.Rights.{MayWrite, MayRead, SaysSole, WritesAlone, ReadsAlone}
 use Rattle.ymx_hub.specs.Shown.{HasGrown, IsShown, BooksShown}
 use Rattle.ymx_hub.proofs.Rights.{writes_alone, reads_alone}
 use Rattle.ymx_hub.specs.Turns.{WriteTurns}
-use Rattle.ymx_connect.specs.declared.connect_fault.ConnectFault.{ConnectFault}
-use Rattle.ymx_connect.specs.declared.connect_fault.ConnectFault.TheVariants.{Session, Memory, NoThread}
-use Rattle.ymx_connect.specs.Connecting.{IsConnectFault}
-use Rattle.ymx_connect.specs.Settings.{IsLack}
 use Rattle.ymx_connect.specs.Streams.{ReadsUpTo, Copies}
-use Rattle.ymx_connect.specs.Told.{SeesLast, SeesRelease, FinishesHalf, ClosesHalf, ClosesStream, ReadsToEnd, StandsIn, Exchanges, Echoes, EchoesNext, EchoesMany, HasEchoed}
-
--- a session was made, and its pumps could not run
-pub lacks_later : (role : Role) (config : Config) (fault : ConnectFault) → new_fault role config ≡ None → IsLack fault → IsConnectFault role config fault
-lacks_later role config (Session why) n f = absurd f
-lacks_later role config (Memory refused) n f = n
-lacks_later role config (NoThread refused) n f = n
-
--- all reads of a half, up to the end
-pub reads_to_end : (role : Role) (config : Config) (id : ℕ) (before after : SeatView) (bytes : List ℕ) →
-    Books false before after (ReadsUpTo reply.ReadEnd id before.number bytes) → IsWitnessed true role config after.seen →
-    ReadsToEnd role config bytes
-reads_to_end role config id before after bytes reads history = record { id = id; before = before; after = after; reads = reads; history = history }
+use Rattle.ymx_connect.specs.Told.{SeesLast, FinishesHalf, ClosesHalf, StandsIn, Exchanges, Echoes, EchoesNext, EchoesMany, HasEchoed}
 
 pub stands : (n : ℕ) (v w : Option (List Entry)) → HasGrown n v w → StandsIn v w
 stands n None None g = tt
@@ -50,7 +29,7 @@ stands_on (Some v) None x g h = absurd g
 stands_on (Some v) (Some w) None g h = absurd h
 stands_on (Some v) (Some w) (Some x) g h = (g.0 ++ h.0, sym (append_assoc v g.0 h.0) ∙ ap (λ es. es ++ h.0) g.1 ∙ h.1)
 
-stands_itself : (v : Option (List Entry)) → StandsIn v v
+pub stands_itself : (v : Option (List Entry)) → StandsIn v v
 stands_itself None = tt
 stands_itself (Some es) = ([], append-nil es)
 
@@ -98,25 +77,6 @@ pub last_reads_alone : (role : Role) (config : Config) (id number n : ℕ) (righ
 last_reads_alone role config id number n right last seen met may same by sole is history =
     reads_alone role config id number right seen may (subst (λ (x : Right × ℕ × Option (List Entry)). SaysSole x.0 x.1 x.2) (λ i. (same i, by i, sym is i)) sole) history
 
--- where the last call of a half was not refused
-pub finishes_half : (old new : SeatView) (writer : HalfView) (answer : Result (Unit {0}) HubFault) → SeesLast old new writer.seat (Spends (to_finish writer.id) writer.id writer.seat.number answer) → WritesAlone writer.id writer.seat.number new.seen → IfOk answer (λ u. FinishesHalf old new writer)
-finishes_half old new writer (Ok u) sees sole = record { sees = sees; alone = sole }
-finishes_half old new writer (Err fault) sees sole = tt
-
-pub closes_half : (old new : SeatView) (reader : HalfView) (answer : Result (Unit {0}) HubFault) → SeesLast old new reader.seat (Closes reader.id reader.seat.number answer) → ReadsAlone reader.id reader.seat.number new.seen → IfOk answer (λ u. ClosesHalf old new reader)
-closes_half old new reader (Ok u) sees sole = record { sees = sees; alone = sole }
-closes_half old new reader (Err fault) sees sole = tt
-
--- the half that is released is shown the history with its caller
-pub sees_release : (role : Role) (config : Config) (old new last : SeatView) (reader : HalfView) (answer : Result (Unit {0}) HubFault) → BooksShown false reader.seat last (Releases reader.id reader.seat.number answer) → IfOk answer (λ u. IsDropped false true role config reader.id reader.seat last) → IsShown old new → new.seen ≡ last.seen → SeesRelease role config old new reader answer
-sees_release role config old new last reader answer booked dropped mine same = record { sees = record { last = last; booked = booked; shown = mine; seen = same }; dropped = dropped }
-
--- both halves make their last call
-pub closes_stream : (role : Role) (config : Config) (old between new : SeatView) (writer reader : HalfView) (finished released answer : Result (Unit {0}) HubFault) →
-    SeesLast old between writer.seat (Spends (to_finish writer.id) writer.id writer.seat.number finished) → SeesRelease role config between new reader released →
-    answer ≡ result_and finished released → ClosesStream role config old new writer reader answer
-closes_stream role config old between new writer reader finished released answer f r a = record { between = between; finished = finished; released = released; finishes = f; releases = r; answered = a }
-
 -- A stream that was opened, written and finished, read up to the end and closed. `writer` and `reader` are its halves as they made their
 -- last calls.
 pub exchanges : (text bytes : List ℕ) (caller opened finished closed : SeatView) (made : HalfView × HalfView) (writer reader : HalfView) (u : Unit {0}) →
@@ -146,11 +106,11 @@ exchanges text bytes caller opened finished closed made writer reader u opens fi
 -- A stream that was accepted, read up to the end, and sent back.
 pub echoes : (caller accepted finished closed : SeatView) (made : HalfView × HalfView) (writer reader : HalfView) (count : ℕ) →
     Books false caller accepted (AcceptsHalves caller.number (Ok (Some made))) → FinishesHalf accepted finished writer → ClosesHalf finished closed reader →
-    Copies made.1 made.0 reader.seat writer.seat (Ok count) → (reader.id ≡ made.1.id) × (writer.id ≡ made.0.id) →
+    Copies false made.1 made.0 reader.seat writer.seat count → (reader.id ≡ made.1.id) × (writer.id ≡ made.0.id) →
     EchoesNext caller.seen closed.seen
-echoes caller accepted finished closed made writer reader count accepts finishes closes copied ids = (made.0.id, copied.0, it, refl)
+echoes caller accepted finished closed made writer reader count accepts finishes closes copied ids = (made.0.id, copied.bytes, it, refl)
   where
-    it : Echoes made.0.id copied.0 closed.seen
+    it : Echoes made.0.id copied.bytes closed.seen
     it = record {
       caller = caller;
       accepted = accepted;
@@ -162,12 +122,12 @@ echoes caller accepted finished closed made writer reader count accepts finishes
       closed = closed;
       same = refl;
       accepts = accepts;
-      reads = copied.2.0;
-      writes = copied.2.1;
+      reads = copied.read;
+      writes = copied.written;
       finishes = subst (λ (it : ℕ). SeesLast accepted finished writer.seat (Spends (to_finish it) it writer.seat.number (Ok tt))) ids.1 finishes.sees;
-      writes_alone = subst (λ (x : ℕ × ℕ). WritesAlone x.0 x.1 finished.seen) (λ i. (ids.1 i, copied.2.1.number i)) finishes.alone;
+      writes_alone = subst (λ (x : ℕ × ℕ). WritesAlone x.0 x.1 finished.seen) (λ i. (ids.1 i, copied.written.number i)) finishes.alone;
       closes = subst (λ (it : ℕ). SeesLast finished closed reader.seat (Closes it reader.seat.number (Ok tt))) ids.0 closes.sees;
-      reads_alone = subst (λ (x : ℕ × ℕ). ReadsAlone x.0 x.1 closed.seen) (λ i. (ids.0 i, copied.2.0.number i)) closes.alone;
+      reads_alone = subst (λ (x : ℕ × ℕ). ReadsAlone x.0 x.1 closed.seen) (λ i. (ids.0 i, copied.read.number i)) closes.alone;
       within = stands_itself closed.seen;
     }
 

@@ -1,7 +1,6 @@
 pub mod Ends
 pub mod Pumps
 pub mod Turns
-pub mod Connecting
 pub mod Pumping
 pub mod Settings
 pub mod Streams

@@ -1,5 +1,5 @@
--- What the pumps behind the front door did with their devices (this project's own).
-use Rattle.std.specs.Prelude.{◌≡◌, ℕ, List, Bool, true, false, Option, None, Result, MatchResult}
+-- What the pumps of a session did with their devices, and who worked with it (this project's own).
+use Rattle.std.specs.Prelude.{◌≡◌, ℕ, List, Bool, true, false, Option, Result, MatchResult}
 use Rattle.ymx_model.specs.declared.types.Role.{Role}
 use Rattle.ymx_model.specs.declared.types.Config.{Config}
 use Rattle.ymx_model.specs.devices.Devices.{has_failed}
@@ -19,13 +19,10 @@ use Rattle.ymx_connect.specs.declared.pump_end.PumpWhy.{PumpWhy}
 use Rattle.ymx_connect.specs.declared.pump_end.PumpWhy.TheVariants.{End}
 use Rattle.ymx_connect.specs.Ends.{ReadEnd, WriteEnd}
 use Rattle.ymx_connect.specs.Pumps.{PumpRead, PumpWrote}
-use Rattle.ymx_connect.specs.declared.ended.Ended.{Ended}
-use Rattle.ymx_connect.specs.Connecting.{may_end, may_end_writing}
 
 -- The read pump ran at the seat of a caller that had made no call, until it ended by itself: the reader gave bytes, of which the
 -- session took a beginning, and so many. Its seat has then seen what stands in `now`, perhaps more than at its last call.
 pub record HasRead (fails failed : ℕ) (before after : Option (List ℕ)) (moved : ℕ) (why : PumpWhy) (now : SeatView) : Type 0 where
-  pub spared : may_end why ≡ true
   pub ended : ReadEnd false fails failed after false why
   pub first : SeatView
   pub last : SeatView
@@ -37,7 +34,6 @@ pub record HasRead (fails failed : ℕ) (before after : Option (List ℕ)) (move
 -- gave, and so many bytes. It ended with End only where nothing is due and nothing will be, by the history in the sight of that
 -- seat. The seat has then seen what stands in `now`, perhaps more.
 pub record HasWritten (role : Role) (config : Config) (fails failed : ℕ) (before after : Option (List ℕ)) (is_ended : Bool) (moved : ℕ) (why : PumpWhy) (now : SeatView) : Type 0 where
-  pub spared : may_end_writing why ≡ true
   pub ended : WriteEnd false fails failed is_ended false why
   pub size : ℕ
   pub first : SeatView
@@ -89,10 +85,3 @@ pub record InOneHistory (role : Role) (config : Config) (Worked Read Wrote : Sea
   pub worked : Worked caller
   pub read : Read reader
   pub wrote : Wrote writer
-
--- That of a session over a TCP connection, whose bytes no contract sees: of its two ways, how often calls of them have failed, and
--- whether its writing side was shut. Before, no call of them had failed.
-abbrev pub InOneHistoryOverTcp : Role → Config → (Worked : SeatView → Type 0) → Ended → Type 0
-InOneHistoryOverTcp role config Worked ended =
-    (read_failed write_failed : ℕ) × (was_shut : Bool)
-    × InOneHistory role config Worked (HasRead 0 read_failed None None ended.read_bytes ended.read) (HasWritten role config 0 write_failed None None was_shut ended.written_bytes ended.written)

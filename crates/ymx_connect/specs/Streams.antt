@@ -1,17 +1,11 @@
 -- What `read_all` and `copy` add to the lists of their seats (this project's own).
-use Rattle.std.specs.Prelude.{◌≡◌, ℕ, ◌-◌, ◌^◌, ◌⊎◌, min, List, [], ◌∷◌, ◌++◌, length, false, Result, Ok, Err}
-use Rattle.std.specs.Io.{StartsWith}
-use Rattle.ymx_machine.specs.shared.Evidence.{evidence}
-use Rattle.ymx_machine.specs.declared.types.CallFault.{CallFault}
+use Rattle.std.specs.Prelude.{◌≡◌, ℕ, ◌-◌, ◌^◌, ◌⊎◌, min, List, [], ◌∷◌, ◌++◌, length, Bool}
 use Rattle.ymx_machine.specs.shared.Events.{Reply}
 use Rattle.ymx_machine.specs.declared.types.Reply.TheVariants as reply
 use Rattle.ymx_model.specs.declared.types.Entry.{Entry}
 use Rattle.ymx_seats.specs.Views.{SeatView}
-use Rattle.ymx_hub.specs.declared.faults.HubFault.{HubFault}
-use Rattle.ymx_hub.specs.declared.faults.HubFault.TheVariants.{Memory}
-use Rattle.ymx_hub.specs.Answers.{hub_fault_of}
 use Rattle.ymx_hub.specs.Books.{Books, One, to_read, to_write}
-use Rattle.ymx_hub.specs.Turns.{EndsIn, IsUnrefused}
+use Rattle.ymx_hub.specs.Turns.{IsUnrefused}
 use Rattle.ymx_hub.specs.Carried.{read_bytes, bytes_written}
 use Rattle.ymx_hub.specs.Halves.{HalfView}
 
@@ -35,12 +29,6 @@ abbrev pub ReadsUpTo : Reply → (id seat : ℕ) → List ℕ → List Entry →
 ReadsUpTo told id seat bytes added =
     (reads : List Entry) × (last : List Entry) × (size : ℕ) × (added ≡ reads ++ last) × ReadsOn id seat bytes reads × One seat (to_read id size) told last
 
--- these, up to this fault: a refusal, or want of memory and no refusal
-abbrev pub ReadsUntil : HubFault → (id seat : ℕ) → List ℕ → List Entry → Type 0
-ReadsUntil fault id seat bytes added =
-    ((fault ≡ Memory evidence) × ReadsOn id seat bytes added)
-    ⊎ ((why : CallFault) × (fault ≡ hub_fault_of why) × ReadsUpTo (reply.Refused why) id seat bytes added)
-
 -- ---- writes
 
 -- each entry is a write to this stream by this seat
@@ -56,28 +44,11 @@ WritesOf id seat bytes added = AreWritesTo id seat added × (bytes_written added
 abbrev pub WritesOn : (id seat : ℕ) → List ℕ → List Entry → Type 0
 WritesOn id seat bytes added = WritesOf id seat bytes added × IsUnrefused added
 
--- these, up to this fault: a refusal, or want of memory and no refusal
-abbrev pub WritesUntil : HubFault → (id seat : ℕ) → List ℕ → List Entry → Type 0
-WritesUntil fault id seat bytes added =
-    ((fault ≡ Memory evidence) × WritesOn id seat bytes added)
-    ⊎ ((why : CallFault) × (fault ≡ hub_fault_of why) × WritesOf id seat bytes added × EndsIn (λ told. told ≡ reply.Refused why) added)
-
 -- ---- a copy
 
--- the seats of both halves behind a copy: what was read, by reads that are such, was written, by writes that are such
-abbrev pub BooksCopy : (reader writer : HalfView) (reads writes : SeatView) →
-    (Read Written : ℕ → ℕ → List Entry → Type 0) → Type 0
-BooksCopy reader writer reads writes Read Written =
-    Books false reader.seat reads (Read reader.id reader.seat.number)
-    × Books false writer.seat writes (Written writer.id writer.seat.number)
-
--- Read up to the end, all of it was written, and counted as far as 64 bits go; or the reads stopped, and all that they gave
--- was written; or the writes stopped, and took a beginning of what the reads gave.
-abbrev pub Copies : (reader writer : HalfView) (reads writes : SeatView) → Result ℕ HubFault → Type 0
-Copies reader writer reads writes (Ok count) =
-    (bytes : List ℕ) × (count ≡ min (length bytes) (2 ^ 64 - 1))
-    × BooksCopy reader writer reads writes (λ id seat. ReadsUpTo reply.ReadEnd id seat bytes) (λ id seat. WritesOn id seat bytes)
-Copies reader writer reads writes (Err fault) =
-    ((bytes : List ℕ) × BooksCopy reader writer reads writes (λ id seat. ReadsUntil fault id seat bytes) (λ id seat. WritesOn id seat bytes))
-    ⊎ ((given : List ℕ) × (taken : List ℕ) × StartsWith given taken
-    × BooksCopy reader writer reads writes (λ id seat. ReadsOn id seat given) (λ id seat. WritesUntil fault id seat taken))
+-- Read up to the end, and all of it was written, and counted as far as 64 bits go: what the seats of both halves have booked.
+pub record Copies (keeps : Bool) (reader writer : HalfView) (reads writes : SeatView) (count : ℕ) : Type 0 where
+  pub bytes : List ℕ
+  pub counted : count ≡ min (length bytes) (2 ^ 64 - 1)
+  pub read : Books keeps reader.seat reads (ReadsUpTo reply.ReadEnd reader.id reader.seat.number bytes)
+  pub written : Books keeps writer.seat writes (WritesOn writer.id writer.seat.number bytes)

@@ -1,22 +1,17 @@
--- What the door says whose session has its history in proofs (this project's own).
-use Rattle.std.specs.Prelude.{◌≡◌, ◌⊎◌, ℕ, zero, suc, List, true, false, Option, Some, None, Result, Ok, IfOk}
-use Rattle.std.specs.Result.{result_and}
+-- What callers of a session did whose history stands in proofs (this project's own).
+use Rattle.std.specs.Prelude.{◌≡◌, ◌⊎◌, ℕ, zero, suc, List, false, Option, Some, None, Ok}
 use mathlib.Core.List.{IsPrefix}
 use Rattle.ymx_machine.specs.declared.types.Reply.TheVariants as reply
-use Rattle.ymx_model.specs.declared.types.Role.{Role}
-use Rattle.ymx_model.specs.declared.types.Config.{Config}
 use Rattle.ymx_model.specs.declared.types.Entry.{Entry}
-use Rattle.ymx_seats.specs.Views.{SeatView, IsWitnessed}
+use Rattle.ymx_seats.specs.Views.{SeatView}
 use Rattle.ymx_hub.specs.Books.{Books, Spends, Closes, to_finish}
-use Rattle.ymx_hub.specs.Releasing.{Releases, IsDropped}
 use Rattle.ymx_hub.specs.Rights.{WritesAlone, ReadsAlone}
 use Rattle.ymx_hub.specs.Shown.{IsShown, BooksShown}
-use Rattle.ymx_hub.specs.declared.faults.HubFault.{HubFault}
 use Rattle.ymx_hub.specs.Halves.{HalfView, OpensHalves, AcceptsHalves}
 use Rattle.ymx_hub.specs.Turns.{WriteTurns}
 use Rattle.ymx_connect.specs.Streams.{ReadsUpTo, WritesOn}
 
--- ---- what the calls do
+-- ---- last calls
 
 -- A half made its last call, whose entries are such, and its seat is gone. The caller has seen the whole history behind it: of
 -- its own nothing is new there, and of the half just these entries, behind all that the half had seen.
@@ -37,30 +32,6 @@ pub record FinishesHalf (old new : SeatView) (writer : HalfView) : Type 0 where
 pub record ClosesHalf (old new : SeatView) (reader : HalfView) : Type 0 where
   pub sees : SeesLast old new reader.seat (Closes reader.id reader.seat.number (Ok tt))
   pub alone : ReadsAlone reader.id reader.seat.number new.seen
-
--- A reading half made its last call, and was released. Unless that was refused, nothing of its stream is left that had come.
-pub record SeesRelease (role : Role) (config : Config) (old new : SeatView) (reader : HalfView) (answer : Result (Unit {0}) HubFault) : Type 0 where
-  pub sees : SeesLast old new reader.seat (Releases reader.id reader.seat.number answer)
-  pub dropped : IfOk answer (λ _. IsDropped false true role config reader.id reader.seat sees.last)
-
--- Both halves of a stream made their last call: the writing half was finished, and then the reading half released. The first
--- refusal is answered.
-pub record ClosesStream (role : Role) (config : Config) (old new : SeatView) (writer reader : HalfView) (answer : Result (Unit {0}) HubFault) : Type 0 where
-  pub between : SeatView
-  pub finished : Result (Unit {0}) HubFault
-  pub released : Result (Unit {0}) HubFault
-  pub finishes : SeesLast old between writer.seat (Spends (to_finish writer.id) writer.id writer.seat.number finished)
-  pub releases : SeesRelease role config between new reader released
-  pub answered : answer ≡ result_and finished released
-
--- The reads of one stream at one seat gave these bytes, and then the end. What the seat has seen then is the history of a session
--- of this role and config.
-pub record ReadsToEnd (role : Role) (config : Config) (bytes : List ℕ) : Type 0 where
-  pub id : ℕ
-  pub before : SeatView
-  pub after : SeatView
-  pub reads : Books false before after (ReadsUpTo reply.ReadEnd id before.number bytes)
-  pub history : IsWitnessed true role config after.seen
 
 -- ---- what programs do with one stream
 

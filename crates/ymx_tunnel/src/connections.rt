@@ -8,9 +8,8 @@ use std::alloc::Global;
 use std::net::{Shutdown, TcpStream};
 use std::sync::atomic::{AtomicBool, Ordering};
 use std::sync::{Arc, Mutex, Wait};
-use ymx_connect::{ConnectionReader, ConnectionWriter};
 use ymx_memory::RefusedAllocation;
-use ymx_model::{DeviceFault, Inlet, Outlet};
+use ymx_model::{DeviceFault, Inlet, Outlet, ReaderInlet, WriterOutlet};
 
 /// The connections of a server that are open.
 #[derive(Drop)]
@@ -140,7 +139,7 @@ impl Connections {
 #[derive(Drop)]
 pub(crate) struct TrackedReader<'a> {
     connection: &'a Connection,
-    reader: ConnectionReader<'a>,
+    inlet: ReaderInlet<&'a TcpStream>,
     failures: u64,
 }
 
@@ -148,7 +147,8 @@ pub(crate) struct TrackedReader<'a> {
 #[derive(Drop)]
 pub(crate) struct TrackedWriter<'a> {
     connection: &'a Connection,
-    writer: ConnectionWriter<'a>,
+    outlet: WriterOutlet<&'a TcpStream>,
+    was_shut: bool,
 }
 
 impl<'a> TrackedReader<'a> {
@@ -156,7 +156,10 @@ impl<'a> TrackedReader<'a> {
     pub(crate) fn new(connection: &'a Connection) -> TrackedReader<'a> {
         TrackedReader {
             connection,
-            reader: ConnectionReader::new(&connection.socket),
+            inlet: ReaderInlet {
+                reader: &connection.socket,
+                failures: 0,
+            },
             failures: 0,
         }
     }
@@ -167,7 +170,11 @@ impl<'a> TrackedWriter<'a> {
     pub(crate) fn new(connection: &'a Connection) -> TrackedWriter<'a> {
         TrackedWriter {
             connection,
-            writer: ConnectionWriter::new(&connection.socket),
+            outlet: WriterOutlet {
+                writer: &connection.socket,
+                failures: 0,
+            },
+            was_shut: false,
         }
     }
 }
@@ -181,7 +188,7 @@ impl Inlet for TrackedReader<'_> {
         if self.failures == u64::MAX {
             return Err(DeviceFault);
         }
-        match self.reader.pull(buffer) {
+        match self.inlet.pull(buffer) {
             Ok(0) if !self.connection.is_broken() => {
                 self.connection.has_ended.store(true, Ordering::SeqCst);
                 Ok(0)
@@ -198,12 +205,12 @@ impl Inlet for TrackedReader<'_> {
 impl Outlet for TrackedWriter<'_> {
     ghost contents = { λ _. None };
 
-    ghost failures = { λ s. s.writer.outlet.failures };
+    ghost failures = { λ s. s.outlet.failures };
 
-    ghost is_ended = { λ s. s.writer.was_shut };
+    ghost is_ended = { λ s. s.was_shut };
 
     fn push(&mut self, bytes: &[u8]) -> Result<usize, DeviceFault> {
-        let pushed = self.writer.push(bytes);
+        let pushed = self.outlet.push(bytes);
         if pushed.is_err() {
             self.connection.has_broken.store(true, Ordering::SeqCst);
         }
@@ -212,10 +219,18 @@ impl Outlet for TrackedWriter<'_> {
 
     fn end(&mut self) -> Result<(), DeviceFault> {
         self.connection.was_ended.store(true, Ordering::SeqCst);
-        let ended = self.writer.end();
-        if ended.is_err() {
-            self.connection.has_broken.store(true, Ordering::SeqCst);
+        if self.outlet.failures == u64::MAX {
+            return Err(DeviceFault);
         }
-        ended
+        match self.connection.socket.shutdown(Shutdown::Write) {
+            Ok(()) => {
+                self.was_shut = true;
+                Ok(())
+            }
+            Err(_) => {
+                self.connection.has_broken.store(true, Ordering::SeqCst);
+                Err(self.outlet.fail())
+            }
+        }
     }
 }

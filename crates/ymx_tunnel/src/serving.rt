@@ -1,16 +1,13 @@
 //! The two servers of a tunnel: one opens a stream for each connection, and one makes a connection for each stream.
 
 use crate::connections::Connections;
-use crate::direction::spend;
 use crate::joining::{Joining, join_both};
-use std::alloc::Global;
 use std::net::{Net, SocketAddr, TcpListener, TcpStream};
-use std::sync::Wait;
 use std::sync::atomic::{AtomicBool, Ordering};
 use std::thread;
 use std::thread::Threads;
-use ymx_connect::starting::start;
-use ymx_connect::{Caller, Handle, Naming, Reader, StreamFault, Writer};
+use yamux::{Error, Runtime, Session, Shut, Stream};
+use ymx_seats::Recorder;
 
 /// How many streams `serve_remote` serves at once where nothing else is said.
 pub const USUAL_WORKERS: u32 = 16;
@@ -26,9 +23,8 @@ pub struct Served {
 
 /// What the workers of a server share.
 #[derive(Drop)]
-struct ServerState<'a, J: Naming> {
-    handle: &'a Handle<J>,
-    alloc: Global,
+struct ServerState<'a, W: Runtime, S: Shut, R: Recorder> {
+    session: &'a Session<W, S, R>,
     connections: &'a Connections,
     lacked_memory: AtomicBool,
 }
@@ -37,69 +33,63 @@ struct ServerState<'a, J: Naming> {
 /// A connection for which no thread can be made is closed, and so is one for which no stream can be opened. It ends
 /// after `count` connections, or at an accept that fails; without `count` also at the first connection that is accepted
 /// after the session was lost. Whoever sees that the session is over shuts the connections. It returns once all workers
-/// have ended, and at once where the session has no seat left for it.
-pub fn serve_local<J: Naming + Send + Sync, R: Threads + Wait + Sync>(
-    rt: &R,
-    alloc: Global,
-    handle: &Handle<J>,
+/// have ended.
+pub fn serve_local<
+    W: Runtime + Threads + Send + Sync,
+    S: Shut + Send + Sync,
+    R: Recorder + Send + Sync,
+>(
+    rt: &W,
+    session: &Session<W, S, R>,
     listener: &TcpListener,
     count: Option<u32>,
     connections: &Connections,
 ) -> Served {
-    let state = ServerState::new(alloc, handle, connections);
-    let Some(mut watcher) = state.caller(rt) else {
-        return state.served(false);
-    };
-    let accept_failed = accept_all(rt, &state, &mut watcher, listener, count);
-    watcher.leave();
-    state.served(accept_failed)
-}
-
-/// Accepts connections for as long as `serve_local` says, and has each served. `true` where an accept failed.
-fn accept_all<J: Naming + Send + Sync, R: Threads + Wait + Sync>(
-    rt: &R,
-    server: &ServerState<'_, J>,
-    watcher: &mut Caller<J>,
-    listener: &TcpListener,
-    count: Option<u32>,
-) -> bool {
-    thread::scope(thread::scope_env(), rt, |scope| {
+    let state = ServerState::new(session, connections);
+    let server = &state;
+    let accept_failed = thread::scope(thread::scope_env(), rt, |scope| {
         for _ in 0..count.map_or(u64::MAX, u64::from) {
             let Ok((socket, _)) = listener.accept() else {
                 return true;
             };
-            if count.is_none() && !watcher.is_running(rt) {
+            if count.is_none() && !session.is_running() {
                 return false;
             }
-            if start(scope, move || serve_connection(rt, server, socket)).is_err() {
+            if scope
+                .spawn(move || serve_connection(rt, server, socket))
+                .is_err()
+            {
                 server.lack_memory();
             }
         }
         false
-    })
+    });
+    state.served(accept_failed)
 }
 
 /// Accepts streams in so many workers, 16 where nothing is said, and at least one. Each connects to the target and copies
 /// both ways, for one stream after the other. A stream for which no connection can be made is reset. Whoever sees that the session is over
-/// shuts the connections. It returns once the session gives out no more streams and all workers have ended. A worker for
-/// which the session has no seat left ends at once.
+/// shuts the connections. It returns once the session gives out no more streams and all workers have ended.
 pub fn serve_remote<
-    J: Naming + Send + Sync,
-    R: Net<Stream = TcpStream, Listener = TcpListener> + Threads + Wait + Sync,
+    W: Runtime + Net<Stream = TcpStream, Listener = TcpListener> + Threads + Send + Sync,
+    S: Shut + Send + Sync,
+    R: Recorder + Send + Sync,
 >(
-    rt: &R,
-    alloc: Global,
-    handle: &Handle<J>,
+    rt: &W,
+    session: &Session<W, S, R>,
     target: SocketAddr,
     workers: Option<u32>,
     connections: &Connections,
 ) -> Served {
     let workers = workers.unwrap_or(USUAL_WORKERS);
-    let state = ServerState::new(alloc, handle, connections);
+    let state = ServerState::new(session, connections);
     let server = &state;
     thread::scope(thread::scope_env(), rt, |scope| {
         for _ in 1..workers {
-            if start(scope, move || serve_streams(rt, server, target)).is_err() {
+            if scope
+                .spawn(move || serve_streams(rt, server, target))
+                .is_err()
+            {
                 server.lack_memory();
             }
         }
@@ -109,51 +99,47 @@ pub fn serve_remote<
 }
 
 /// Opens a stream for a connection, and copies both ways. The connection is closed where no stream can be opened.
-fn serve_connection<J: Naming + Send + Sync, R: Threads + Wait + Sync>(
-    rt: &R,
-    server: &ServerState<'_, J>,
-    socket: TcpStream,
-) {
+fn serve_connection<
+    W: Runtime + Threads + Send + Sync,
+    S: Shut + Send + Sync,
+    R: Recorder + Send + Sync,
+>(rt: &W, server: &ServerState<'_, W, S, R>, socket: TcpStream) {
     let _ = socket.set_nodelay(true);
-    let Some(mut caller) = server.caller(rt) else {
-        return;
-    };
-    let opened = caller.open(rt);
-    caller.leave();
-    match opened {
-        Ok((writer, reader)) => server.join(rt, socket, writer, reader),
-        Err(StreamFault::Memory(_)) => server.lack_memory(),
+    match server.session.open() {
+        Ok(stream) => server.join(rt, socket, stream),
+        Err(Error::Memory(_)) => server.lack_memory(),
         Err(_) => {}
     }
 }
 
-/// Accepts streams, one after the other, and serves each, until the session gives out no more.
+/// Accepts streams, one after the other, and serves each, until the session gives out no more. If it can't connect to the target for
+/// one, this is let go, and so reset.
 fn serve_streams<
-    J: Naming + Send + Sync,
-    R: Net<Stream = TcpStream, Listener = TcpListener> + Threads + Wait + Sync,
->(rt: &R, server: &ServerState<'_, J>, target: SocketAddr) {
-    let Some(mut caller) = server.caller(rt) else {
-        return;
-    };
+    W: Runtime + Net<Stream = TcpStream, Listener = TcpListener> + Threads + Send + Sync,
+    S: Shut + Send + Sync,
+    R: Recorder + Send + Sync,
+>(rt: &W, server: &ServerState<'_, W, S, R>, target: SocketAddr) {
     for _ in rt.forever() {
-        let Some((writer, reader)) = next_stream(rt, server, &mut caller) else {
-            break;
+        let Some(stream) = next_stream(rt, server) else {
+            return;
         };
-        serve_stream(rt, server, target, writer, reader);
+        let Ok(socket) = TcpStream::connect(rt, target) else {
+            continue;
+        };
+        let _ = socket.set_nodelay(true);
+        server.join(rt, socket, stream);
     }
-    caller.leave();
 }
 
 /// The next stream, unless the session gives out no more.
-fn next_stream<J: Naming, R: Wait>(
-    rt: &R,
-    server: &ServerState<'_, J>,
-    caller: &mut Caller<J>,
-) -> Option<(Writer<J>, Reader<J>)> {
+fn next_stream<W: Runtime, S: Shut, R: Recorder>(
+    rt: &W,
+    server: &ServerState<'_, W, S, R>,
+) -> Option<Stream<W, R>> {
     for _ in rt.forever() {
-        match caller.accept(rt) {
+        match server.session.accept() {
             Ok(stream) => return stream,
-            Err(StreamFault::Memory(_)) => {
+            Err(Error::Memory(_)) => {
                 server.lack_memory();
                 thread::yield_now();
             }
@@ -163,30 +149,14 @@ fn next_stream<J: Naming, R: Wait>(
     unreachable!()
 }
 
-/// Connects to the target for a stream, and copies both ways. If it can't connect the stream is reset.
-fn serve_stream<
-    J: Naming + Send + Sync,
-    R: Net<Stream = TcpStream, Listener = TcpListener> + Threads + Wait + Sync,
->(rt: &R, server: &ServerState<'_, J>, target: SocketAddr, writer: Writer<J>, reader: Reader<J>) {
-    match TcpStream::connect(rt, target) {
-        Ok(socket) => {
-            let _ = socket.set_nodelay(true);
-            server.join(rt, socket, writer, reader);
-        }
-        Err(_) => spend(rt, Some(writer), Some(reader)),
-    }
-}
-
-impl<'a, J: Naming> ServerState<'a, J> {
+impl<'a, W: Runtime, S: Shut, R: Recorder> ServerState<'a, W, S, R> {
     /// Nothing has begun yet.
     fn new(
-        alloc: Global,
-        handle: &'a Handle<J>,
+        session: &'a Session<W, S, R>,
         connections: &'a Connections,
-    ) -> ServerState<'a, J> {
+    ) -> ServerState<'a, W, S, R> {
         ServerState {
-            handle,
-            alloc,
+            session,
             connections,
             lacked_memory: AtomicBool::new(false),
         }
@@ -197,30 +167,13 @@ impl<'a, J: Naming> ServerState<'a, J> {
         self.lacked_memory.store(true, Ordering::SeqCst);
     }
 
-    /// A caller of the session, for this thread. `None` where there is none left, and a want of memory is noted.
-    fn caller<R: Wait>(&self, rt: &R) -> Option<Caller<J>> {
-        match self.handle.caller(rt) {
-            Ok(caller) => Some(caller),
-            Err(StreamFault::Memory(_)) => {
-                self.lack_memory();
-                None
-            }
-            Err(_) => None,
-        }
-    }
-
     /// Copies both ways between a connection and a stream, and notes a want of memory.
-    fn join<R: Threads + Wait + Sync>(
-        &self,
-        rt: &R,
-        socket: TcpStream,
-        writer: Writer<J>,
-        reader: Reader<J>,
-    )
+    fn join(&self, rt: &W, socket: TcpStream, stream: Stream<W, R>)
     where
-        J: Send + Sync,
+        W: Threads + Send + Sync,
+        R: Send + Sync,
     {
-        match join_both(rt, self.alloc, self.connections, socket, writer, reader) {
+        match join_both(rt, self.connections, socket, stream) {
             Joining::Ended => {}
             Joining::Lacked => self.lack_memory(),
         }
