@@ -6,7 +6,7 @@ Sockets that never wait are private there. Those that wait are the standard libr
 types, as bounds do. They make no call of them, and import nothing else of `std::net` or `std::io`, so that reads and
 writes of such a socket aren't in scope. And they name neither `mio` nor `libc`.
 One file reads from what it is lent, whatever that is, by a bound on `Read`: it names no socket, and its contract says of any
-reader which bytes came.
+reader which bytes came. And one writes a line into memory by `Write`: it names no socket but the one that is to be read.
 It prints each place that does, and ends with 'N lines to be read, M calls elsewhere'.
 """
 import re
@@ -23,6 +23,8 @@ MAY = {
 }
 # who reads from what it is lent, and names no socket
 LENT = "echoing.rt"
+# who writes into memory, and names no socket but this
+INTO_MEMORY, OWN = "socket.rt", "TcpConnection"
 SOCKET = re.compile(r"\b(?:Tcp|Udp|Unix)\w+")
 IMPORT = re.compile(r"\buse std::(net|io)::(\{[^}]*\}|[\w*]+)")
 METHODS = "incoming|local_addr|peer_addr|take_error|set_\\w+|shutdown|try_clone|peek|write_vectored|as_\\w*fd"
@@ -33,15 +35,19 @@ CALL = re.compile(
 )
 
 
-def places(code, is_lent):
-    """Where this code makes a call of the system's sockets, or imports one."""
-    if is_lent:
+def places(code, name):
+    """Where the code of this file makes a call of the system's sockets, or imports one."""
+    may = MAY
+    if name == INTO_MEMORY:
+        yield from (found.start() for found in SOCKET.finditer(code) if found[0] != OWN)
+        may = {**MAY, "io": MAY["io"] | {"Write"}}
+    if name == LENT:
         yield from (found.start() for found in SOCKET.finditer(code))
         code = re.sub(r"\buse std::io::Read;", lambda found: " " * len(found[0]), code)
     for found in CALL.finditer(code):
         yield found.start()
     for found in IMPORT.finditer(code):
-        if not set(re.findall(r"[\w*]+", found[2])) <= MAY[found[1]]:
+        if not set(re.findall(r"[\w*]+", found[2])) <= may[found[1]]:
             yield found.start()
 
 
@@ -53,7 +59,7 @@ def main():
             continue
         # what clauses import calls nothing
         code = re.sub("(?m)//.*|^ *ghost use .*", "", path.read_text(encoding="utf-8"))
-        for place in sorted(places(code, path.name == LENT)):
+        for place in sorted(places(code, path.name)):
             calls += 1
             number = code.count("\n", 0, place) + 1
             print(f"crates/ymx_forward/src/{path.name}:{number}: a call of sockets: {code.splitlines()[number - 1].strip()}")
