@@ -22,16 +22,27 @@ pub enum Ending {
     Refused,
 }
 
-impl fmt::Display for Ending {
-    fn fmt<W: fmt::Write>(&self, f: &mut fmt::Formatter<W>) -> fmt::Result {
-        f.write_str(match self {
+impl Ending {
+    /// The label under which it is counted.
+    pub(crate) fn label(self) -> &'static str {
+        match self {
             Ending::Ended => "ended",
-            Ending::ConnectionFailed => "connection failed",
+            Ending::ConnectionFailed => "connection_failed",
             Ending::Idle => "idle",
             Ending::Reset => "reset",
             Ending::Lost => "lost",
-            Ending::OutOfMemory => "no memory",
+            Ending::OutOfMemory => "no_memory",
             Ending::Refused => "refused",
+        }
+    }
+}
+
+impl fmt::Display for Ending {
+    fn fmt<W: fmt::Write>(&self, f: &mut fmt::Formatter<W>) -> fmt::Result {
+        f.write_str(match self {
+            Ending::ConnectionFailed => "connection failed",
+            Ending::OutOfMemory => "no memory",
+            other => other.label(),
         })
     }
 }
@@ -113,6 +124,19 @@ pub enum Declined {
     OutOfMemory,
     /// The system refused to watch the connection.
     Unwatched,
+}
+
+impl Declined {
+    /// The label under which it is counted.
+    pub(crate) fn label(self) -> &'static str {
+        match self {
+            Declined::BySession(CallFault::Lost | CallFault::Closed) => "lost",
+            Declined::BySession(CallFault::PeerAway) => "peer_away",
+            Declined::BySession(CallFault::OutOfMemory(_)) | Declined::OutOfMemory => "no_memory",
+            Declined::Unwatched => "unwatched",
+            Declined::BySession(_) => "other",
+        }
+    }
 }
 
 impl fmt::Display for Declined {

@@ -1,54 +1,49 @@
 //! What is counted of an end since it began.
 
-use crate::connections::{Declined, Ending};
 use crate::event::Event;
 use std::alloc::Global;
 use std::collections::BTreeMap;
 use std::time::Instant;
-use ymx_model::CallFault;
 use ymx_policy::Reason;
 
-/// What is counted of an end since it began.
+/// How a connection may have ended.
+pub(crate) const ENDINGS: &str = "ended connection_failed idle reset lost no_memory refused";
+
+/// Why a connection may have got no stream.
+pub(crate) const CAUSES: &str = "lost peer_away no_memory unwatched other";
+
+/// Why a connection to the target may not have been made.
+pub(crate) const REASONS: &str = "refused unreachable timed_out no_port no_descriptor other";
+
+/// What is counted of an end since it began. Each count stays at the greatest `u64`.
 #[derive(Drop)]
 pub struct Counts {
     /// When each connection began that is open, by its number.
     open_since: BTreeMap<u64, Instant>,
+    /// Connections that have ended, by [`ENDINGS`].
+    pub(crate) ended: [u64; 7],
+    /// Connections that got no stream, by [`CAUSES`].
+    pub(crate) declined: [u64; 5],
+    /// Connections to the target that could not be made, by [`REASONS`].
+    pub(crate) unreached: [u64; 6],
     pub(crate) numbers: Numbers,
 }
 
-/// The counts, each of which stays at the greatest `u64`.
+/// What is counted with no label.
 #[derive(Drop, Default)]
 pub(crate) struct Numbers {
     pub(crate) to_peer: u64,
     pub(crate) from_peer: u64,
     pub(crate) begun: u64,
     pub(crate) open: u64,
-    pub(crate) ended: u64,
-    pub(crate) failed: u64,
-    pub(crate) idle: u64,
-    pub(crate) reset: u64,
-    pub(crate) lost: u64,
-    pub(crate) lacked_memory: u64,
-    pub(crate) refused: u64,
-    pub(crate) declined_lost: u64,
-    pub(crate) declined_away: u64,
-    pub(crate) declined_memory: u64,
-    pub(crate) declined_unwatched: u64,
-    pub(crate) declined_other: u64,
     pub(crate) sessions_begun: u64,
-    pub(crate) sessions_ended: u64,
     /// The last session was lost or has ended, and none follows.
     is_lost: bool,
+    pub(crate) sessions_ended: u64,
     /// The last call to the peer failed.
     is_unreachable: bool,
     pub(crate) places: u64,
     pub(crate) waiting: u64,
-    pub(crate) target_refused: u64,
-    pub(crate) target_unreachable: u64,
-    pub(crate) target_timed_out: u64,
-    pub(crate) target_no_port: u64,
-    pub(crate) target_no_descriptor: u64,
-    pub(crate) target_other: u64,
     pub(crate) rejected: u64,
     pub(crate) system_refusals: u64,
 }
@@ -58,6 +53,9 @@ impl Counts {
     pub fn new(alloc: Global) -> Counts {
         Counts {
             open_since: BTreeMap::new(alloc),
+            ended: [0; 7],
+            declined: [0; 5],
+            unreached: [0; 6],
             numbers: Numbers::default(),
         }
     }
@@ -78,13 +76,21 @@ impl Counts {
         match event {
             Event::Ended(origin, ended) => {
                 self.end(origin.number);
-                add(self.ended_so(ended.ending()), 1);
+                add_to(&mut self.ended, ENDINGS, ended.ending().label());
             }
             Event::Declined(origin, why) => {
                 self.end(origin.number);
-                add(self.declined_so(*why), 1);
+                add_to(&mut self.declined, CAUSES, why.label());
             }
-            Event::Unreached(_, reason) => add(self.unreached_so(*reason), 1),
+            Event::Unreached(_, reason) => {
+                // a shortage is a refusal of the system too
+                let is_short = matches!(
+                    reason,
+                    Reason::NoPort | Reason::NoDescriptor | Reason::NoMemory
+                );
+                add(&mut self.numbers.system_refusals, u64::from(is_short));
+                add_to(&mut self.unreached, REASONS, label_of(*reason));
+            }
             Event::Passed(to_peer, from_peer) => {
                 add(&mut self.numbers.to_peer, *to_peer);
                 add(&mut self.numbers.from_peer, *from_peer);
@@ -134,48 +140,25 @@ impl Counts {
         let _ = self.open_since.remove(&number);
         take(&mut self.numbers.open, 1);
     }
+}
 
-    /// The count of connections that ended so.
-    fn ended_so(&mut self, ending: Ending) -> &mut u64 {
-        match ending {
-            Ending::Ended => &mut self.numbers.ended,
-            Ending::ConnectionFailed => &mut self.numbers.failed,
-            Ending::Idle => &mut self.numbers.idle,
-            Ending::Reset => &mut self.numbers.reset,
-            Ending::Lost => &mut self.numbers.lost,
-            Ending::OutOfMemory => &mut self.numbers.lacked_memory,
-            Ending::Refused => &mut self.numbers.refused,
-        }
+/// The label of what could not be made for this reason.
+fn label_of(reason: Reason) -> &'static str {
+    match reason {
+        Reason::Refused => "refused",
+        Reason::Unreachable => "unreachable",
+        Reason::TimedOut => "timed_out",
+        Reason::NoPort => "no_port",
+        Reason::NoDescriptor => "no_descriptor",
+        _ => "other",
     }
+}
 
-    /// The count of connections to the target that could not be made for this reason. A shortage is a refusal of the system too.
-    fn unreached_so(&mut self, reason: Reason) -> &mut u64 {
-        let numbers = &mut self.numbers;
-        if let Reason::NoPort | Reason::NoDescriptor | Reason::NoMemory = reason {
-            add(&mut numbers.system_refusals, 1);
-        }
-        match reason {
-            Reason::Refused => &mut numbers.target_refused,
-            Reason::Unreachable => &mut numbers.target_unreachable,
-            Reason::TimedOut => &mut numbers.target_timed_out,
-            Reason::NoPort => &mut numbers.target_no_port,
-            Reason::NoDescriptor => &mut numbers.target_no_descriptor,
-            _ => &mut numbers.target_other,
-        }
-    }
-
-    /// The count of connections that got no stream for this reason.
-    fn declined_so(&mut self, why: Declined) -> &mut u64 {
-        match why {
-            Declined::BySession(CallFault::Lost | CallFault::Closed) => &mut self
-                .numbers
-                .declined_lost,
-            Declined::BySession(CallFault::PeerAway) => &mut self.numbers.declined_away,
-            Declined::BySession(CallFault::OutOfMemory(_)) | Declined::OutOfMemory => {
-                &mut self.numbers.declined_memory
-            }
-            Declined::Unwatched => &mut self.numbers.declined_unwatched,
-            Declined::BySession(_) => &mut self.numbers.declined_other,
+/// Counts one more of what has this one of these labels.
+fn add_to(counts: &mut [u64], labels: &str, label: &str) {
+    for (count, of) in counts.iter_mut().zip(labels.split(' ')) {
+        if of == label {
+            add(count, 1);
         }
     }
 }
