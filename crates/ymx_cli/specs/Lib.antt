@@ -1,4 +1,3 @@
 pub mod Doing
 pub mod Log
 pub mod Repeats
-pub mod Time

@@ -240,7 +240,7 @@ impl<R: Wait + Clock, D: LineDevice> LogWriter<'_, R, D> {
         if let Some(patience) = self.patience {
             let time = self.time();
             let mut log = self.log.lock(self.rt);
-            let _ = log.finish(time.as_slice(), patience);
+            let _ = log.finish(time.as_str().as_bytes(), patience);
         }
     }
 
@@ -250,16 +250,16 @@ impl<R: Wait + Clock, D: LineDevice> LogWriter<'_, R, D> {
         let now = self.rt.monotonic();
         let mut log = self.log.lock(self.rt);
         match (self.patience, now) {
-            (Some(patience), Ok(now)) => log.tell(time.as_slice(), line, now, patience),
+            (Some(patience), Ok(now)) => log.tell(time.as_str().as_bytes(), line, now, patience),
             (patience, _) => log.write_all(line, patience),
         }
     }
 
     /// What stands before each line.
-    fn time(&self) -> ArrayVec<u8, TIME> {
+    fn time(&self) -> ArrayString<TIME> {
         match self.rt.since_1970() {
-            Ok(now) if self.has_times => time_text(now).map(ArrayVec::from).unwrap_or_default(),
-            _ => ArrayVec::new(),
+            Ok(now) if self.has_times => time_text(now).unwrap_or_default(),
+            _ => ArrayString::new(),
         }
     }
 }
