@@ -15,18 +15,20 @@ use Rattle.clap.specs.declared.builder.action.ArgAction.{ArgAction}
 use Rattle.clap.specs.declared.builder.action.ArgAction.TheVariants.{Append, Set, SetTrue}
 use Rattle.clap.specs.declared.error.kind.ErrorKind.{ErrorKind}
 use Rattle.clap.specs.declared.error.kind.ErrorKind.TheVariants.{ArgumentConflict, DisplayHelp, DisplayVersion, MissingRequiredArgument, OutOfMemory, TooManyValues, ValueValidation}
-use Rattle.ymx_policy.specs.declared.options.LocalOptions.{LocalOptions}
+use Rattle.ymx_policy.specs.declared.options.Endpoint.{Endpoint}
+use Rattle.ymx_policy.specs.declared.options.Endpoint.TheVariants.{Local, Remote}
 use Rattle.ymx_policy.specs.declared.options.Network.{Network}
 use Rattle.ymx_policy.specs.declared.options.Networks.{Networks}
 use Rattle.ymx_policy.specs.declared.options.PeerAddress.{PeerAddress}
 use Rattle.ymx_policy.specs.declared.options.PeerAddress.TheVariants as peer
-use Rattle.ymx_policy.specs.declared.options.RemoteOptions.{RemoteOptions}
+use Rattle.ymx_policy.specs.declared.options.Plan.{Plan}
+use Rattle.ymx_policy.specs.declared.options.SessionOptions.{SessionOptions}
 use Rattle.ymx_arguments.specs.declared.options.BadOption.{BadOption}
 use Rattle.ymx_arguments.specs.declared.options.BadOption.TheVariants as bad
 use Rattle.ymx_arguments.specs.declared.reading.CommandFault.{CommandFault}
 use Rattle.ymx_arguments.specs.declared.reading.CommandFault.TheVariants.{Clap, BadAddress}
 use Rattle.ymx_arguments.specs.declared.reading.Task.{Task}
-use Rattle.ymx_arguments.specs.declared.reading.Task.TheVariants.{Frames, Script, Local, Remote, Selftest}
+use Rattle.ymx_arguments.specs.declared.reading.Task.TheVariants.{Frames, Script, Selftest, Tunnel}
 use Rattle.ymx_arguments.specs.declared.rows.Kind.{Kind}
 use Rattle.ymx_arguments.specs.declared.rows.Kind.TheVariants as kind
 use Rattle.ymx_arguments.specs.Rows.{OptionRow, is_of, row_of, rows}
@@ -176,27 +178,31 @@ abbrev pub IsFileOf : List Entry → Option (Bor Text) → Type 0
 IsFileOf given None = (first_of (codes "file") given ≡ None) ⊎ (first_of (codes "file") given ≡ Some (codes "-"))
 IsFileOf given (Some name) = (first_of (codes "file") given ≡ Some name.now) × (name.now ≢ codes "-")
 
--- `local` has what its options say
-abbrev pub IsLocalOf : List Entry → LocalOptions → Type 0
-IsLocalOf given local =
-    IsAddressOf given (codes "listen") local.listen × IsPeerOf given local.peer × IsNumberOf given (codes "count") local.count
-    × IsNumberOr 262144 given (codes "window") local.window × ReadsFlag given (codes "keep") local.is_kept
-    × IsNumberOr 1 given (codes "links") local.links × IsNumberOf given (codes "ping") local.ping
-    × IsNumberOr 60 given (codes "keepalive") local.keepalive × IsNumberOf given (codes "timeout") local.timeout
-    × IsNumberOf given (codes "idle") local.idle × ReadsFlag given (codes "proxy-protocol") local.names_users
-    × AreNetworksOf given local.from × IsStatusOf given local.status × ReadsFlag given (codes "verbose") local.is_verbose
-    × ReadsFlag given (codes "times") local.has_times
+-- an endpoint has what its own options say
+abbrev pub IsEndpointOf : List Entry → Endpoint → Type 0
+IsEndpointOf given (Local listen count links names) =
+    IsAddressOf given (codes "listen") listen × IsNumberOf given (codes "count") count × IsNumberOr 1 given (codes "links") links
+    × ReadsFlag given (codes "proxy-protocol") names
+IsEndpointOf given (Remote target workers peers) =
+    IsAddressOf given (codes "target") target × IsNumberOr 1024 given (codes "workers") workers × IsNumberOf given (codes "peers") peers
 
--- `remote` has what its options say
-abbrev pub IsRemoteOf : List Entry → RemoteOptions → Type 0
-IsRemoteOf given remote =
-    IsPeerOf given remote.peer × IsAddressOf given (codes "target") remote.target × IsNumberOr 262144 given (codes "window") remote.window
-    × IsNumberOr 1024 given (codes "workers") remote.workers × ReadsFlag given (codes "keep") remote.is_kept
-    × IsNumberOf given (codes "peers") remote.peers × IsNumberOf given (codes "ping") remote.ping
-    × IsNumberOr 60 given (codes "keepalive") remote.keepalive × IsNumberOf given (codes "timeout") remote.timeout
-    × IsNumberOf given (codes "idle") remote.idle
-    × AreNetworksOf given remote.from × IsStatusOf given remote.status × ReadsFlag given (codes "verbose") remote.is_verbose
-    × ReadsFlag given (codes "times") remote.has_times
+-- a session is what the options say
+abbrev pub IsSessionOf : List Entry → SessionOptions → Type 0
+IsSessionOf given session =
+    IsNumberOr 262144 given (codes "window") session.window × IsNumberOf given (codes "ping") session.ping
+    × IsNumberOr 60 given (codes "keepalive") session.keepalive × IsNumberOf given (codes "idle") session.idle
+
+-- a plan is what the options say
+abbrev pub IsPlanOf : List Entry → Plan → Type 0
+IsPlanOf given plan =
+    IsEndpointOf given plan.endpoint × IsPeerOf given plan.peer × IsSessionOf given plan.session × ReadsFlag given (codes "keep") plan.is_kept
+    × IsNumberOf given (codes "timeout") plan.timeout × AreNetworksOf given plan.from × IsStatusOf given plan.status
+    × ReadsFlag given (codes "verbose") plan.is_verbose × ReadsFlag given (codes "times") plan.has_times
+
+-- the subcommand of an endpoint
+abbrev pub name_of : Endpoint → Text
+name_of (Local listen count links names) = codes "local"
+name_of (Remote target workers peers) = codes "remote"
 
 -- ---- what words ask for
 
@@ -204,8 +210,7 @@ IsRemoteOf given remote =
 abbrev pub IsTaskFor : Text → List Entry → Task → Type 0
 IsTaskFor name given (Frames limit file) = (name ≡ codes "frames") × IsNumberOr 262144 given (codes "limit") limit × IsFileOf given file
 IsTaskFor name given (Script file) = (name ≡ codes "script") × IsFileOf given file
-IsTaskFor name given (Local local) = (name ≡ codes "local") × IsLocalOf given local
-IsTaskFor name given (Remote remote) = (name ≡ codes "remote") × IsRemoteOf given remote
+IsTaskFor name given (Tunnel plan) = (name ≡ name_of plan.endpoint) × IsPlanOf given plan
 IsTaskFor name given Selftest = (name ≢ codes "frames") × (name ≢ codes "script") × (name ≢ codes "local") × (name ≢ codes "remote")
 
 -- the task is what the subcommand that was met asks for

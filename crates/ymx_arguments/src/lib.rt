@@ -12,4 +12,4 @@ mod rows;
 
 pub use reading::{CommandFault, Task, parse};
 pub use rows::foreign_option;
-pub use ymx_policy::{LocalOptions, Networks, PeerAddress, RemoteOptions};
+pub use ymx_policy::Plan;

@@ -3,13 +3,13 @@
 ghost use Rattle.std.specs.Prelude.{[], ◌≡◌, ◌≢◌, ◌≤◌, codes, map, option_map, unwrap_or, IfErr, MatchOption, MatchResult};
 ghost use Rattle.std.specs.Str.Parse.{digits_value};
 ghost use Rattle.clap.specs.Words.{all_of, first_of, found_of, one_of, rows_of};
-ghost use Rattle.ymx_arguments.specs.CommandLine.{AreNetworksOf, HasClash, IsAddressOf, IsFileOf, IsLocalOf, IsNumberIn, IsNumberOf, IsNumberOr, IsPeerOf, IsRemoteOf, IsStatusOf, IsWrong, ReadsFlag};
+ghost use Rattle.ymx_arguments.specs.CommandLine.{AreNetworksOf, HasClash, IsAddressOf, IsEndpointOf, IsFileOf, IsNumberIn, IsNumberOf, IsNumberOr, IsPeerOf, IsPlanOf, IsStatusOf, IsWrong, ReadsFlag, name_of};
 
 use crate::networks::network_at;
 use crate::rows::row_of;
 use clap::ArgMatches;
 use std::net::SocketAddrV4;
-use ymx_policy::{LocalOptions, Networks, PeerAddress, RemoteOptions};
+use ymx_policy::{Endpoint, Networks, PeerAddress, Plan, SessionOptions};
 
 /// How many networks are taken.
 const MOST_NETWORKS: usize = 8;
@@ -35,44 +35,55 @@ pub(crate) enum BadOption<'a> {
     NoStatus,
 }
 
-/// The options of `local`.
-pub(crate) fn local_options<'a>(found: &ArgMatches<'a>) -> Result<LocalOptions, BadOption<'a>>
-    ensures { MatchResult result (IsLocalOf (rows_of (found_of found.now))) (IsWrong (rows_of (found_of found.now))) }
+/// The plan of `local`.
+pub(crate) fn local_plan<'a>(found: &ArgMatches<'a>) -> Result<Plan, BadOption<'a>>
+    ensures { MatchResult result (λ plan. (name_of plan.endpoint ≡ codes "local") × IsPlanOf (rows_of (found_of found.now)) plan) (IsWrong (rows_of (found_of found.now))) }
 {
-    Ok(LocalOptions {
-        listen: address(found, "listen")?,
-        peer: peer(found)?,
+    let listen = address(found, "listen")?;
+    let peer = peer(found)?;
+    let endpoint = Endpoint::Local {
+        listen,
         count: number(found, "count")?,
-        window: number_or(found, "window", 262_144)?,
-        is_kept: flag(found, "keep"),
         links: number_or(found, "links", 1)?,
-        ping: number(found, "ping")?,
-        keepalive: number_or(found, "keepalive", 60)?,
-        timeout: number(found, "timeout")?,
-        idle: number(found, "idle")?,
         names_users: flag(found, "proxy-protocol"),
-        from: networks(found)?,
-        status: status(found)?,
-        is_verbose: flag(found, "verbose"),
-        has_times: flag(found, "times"),
-    })
+    };
+    plan_of(found, peer, endpoint)
 }
 
-/// The options of `remote`.
-pub(crate) fn remote_options<'a>(found: &ArgMatches<'a>) -> Result<RemoteOptions, BadOption<'a>>
-    ensures { MatchResult result (IsRemoteOf (rows_of (found_of found.now))) (IsWrong (rows_of (found_of found.now))) }
+/// The plan of `remote`.
+pub(crate) fn remote_plan<'a>(found: &ArgMatches<'a>) -> Result<Plan, BadOption<'a>>
+    ensures { MatchResult result (λ plan. (name_of plan.endpoint ≡ codes "remote") × IsPlanOf (rows_of (found_of found.now)) plan) (IsWrong (rows_of (found_of found.now))) }
 {
-    Ok(RemoteOptions {
-        peer: peer(found)?,
+    let peer = peer(found)?;
+    let endpoint = Endpoint::Remote {
         target: address(found, "target")?,
-        window: number_or(found, "window", 262_144)?,
         workers: number_or(found, "workers", 1_024)?,
-        is_kept: flag(found, "keep"),
         peers: number(found, "peers")?,
+    };
+    plan_of(found, peer, endpoint)
+}
+
+/// The plan of this endpoint, which meets its peer so.
+fn plan_of<'a>(
+    found: &ArgMatches<'a>,
+    peer: PeerAddress,
+    endpoint: Endpoint,
+) -> Result<Plan, BadOption<'a>>
+    requires { IsEndpointOf (rows_of (found_of found.now)) endpoint × IsPeerOf (rows_of (found_of found.now)) peer }
+    ensures { MatchResult result (λ plan. (name_of plan.endpoint ≡ name_of endpoint) × IsPlanOf (rows_of (found_of found.now)) plan) (IsWrong (rows_of (found_of found.now))) }
+{
+    let session = SessionOptions {
+        window: number_or(found, "window", 262_144)?,
         ping: number(found, "ping")?,
         keepalive: number_or(found, "keepalive", 60)?,
-        timeout: number(found, "timeout")?,
         idle: number(found, "idle")?,
+    };
+    Ok(Plan {
+        endpoint,
+        peer,
+        session,
+        is_kept: flag(found, "keep"),
+        timeout: number(found, "timeout")?,
         from: networks(found)?,
         status: status(found)?,
         is_verbose: flag(found, "verbose"),

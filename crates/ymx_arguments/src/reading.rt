@@ -5,13 +5,14 @@ ghost use Rattle.clap.specs.Words.{found_of, kind_of, rows_of, subcommand_of, su
 ghost use Rattle.ymx_arguments.specs.CommandLine.{IsClap, IsFaultFor, IsFaultOf, kind_for, IsMistakeFor, IsMistakeOf, IsTaskFor, IsTaskOf, LacksMemory, ymx_app};
 
 use crate::command::{command, subcommand};
-use crate::options::{BadOption, file, local_options, number_or, remote_options};
+use crate::options::{BadOption, file, local_plan, number_or, remote_plan};
 use crate::rows::row_of;
 use clap::error::ErrorKind;
 use clap::{ArgMatches, Error};
 use std::alloc::{AllocError, Global};
 use std::convert::AsStr;
-use ymx_policy::{LocalOptions, RemoteOptions};
+use std::fmt::Write;
+use ymx_policy::Plan;
 
 /// What a command line asks for.
 #[derive(Clone, Copy)]
@@ -21,10 +22,8 @@ pub enum Task<'a> {
     Frames { limit: u32, file: Option<&'a str> },
     /// The script of a file or, with no name, of standard input, to be played.
     Script { file: Option<&'a str> },
-    /// An end of a tunnel that has users.
-    Local(LocalOptions),
-    /// An end of a tunnel that calls a target.
-    Remote(RemoteOptions),
+    /// An end of a tunnel, to be run by this plan.
+    Tunnel(Plan),
     /// The test of a tunnel, in one process.
     Selftest,
 }
@@ -92,8 +91,8 @@ fn task_for<'a>(name: &str, found: &ArgMatches<'a>) -> Result<Task<'a>, BadOptio
             file: file(found),
         }),
         "script" => Ok(Task::Script { file: file(found) }),
-        "local" => Ok(Task::Local(local_options(found)?)),
-        "remote" => Ok(Task::Remote(remote_options(found)?)),
+        "local" => Ok(Task::Tunnel(local_plan(found)?)),
+        "remote" => Ok(Task::Tunnel(remote_plan(found)?)),
         _ => Ok(Task::Selftest),
     }
 }
@@ -133,41 +132,41 @@ fn kind_for(bad: BadOption<'_>) -> ErrorKind
 
 /// What is said of this mistake.
 fn message_of(alloc: Global, bad: BadOption<'_>) -> Result<String, AllocError> {
+    let mut said = String::new(alloc);
     match bad {
         BadOption::Number { name, text } => {
             let row = row_of(name);
-            format!(in alloc;
-                "invalid value '{text}' for '--{name} <{}>': a number is decimal digits alone, from {} to {}",
-                row.value_name(),
-                row.least,
-                row.most
-            )
+            let (value, least, most) = (row.value_name(), row.least, row.most);
+            write!(
+                said,
+                "invalid value '{text}' for '--{name} <{value}>': a number is decimal digits alone, from {least} to {most}"
+            )?
         }
-        BadOption::Address { name, text } => format!(in alloc;
-            "bad address '{text}' for '--{name}'"
-        ),
-        BadOption::Clash { name, other } => format!(in alloc;
-            "the argument '--{name} <{}>' cannot be used with '--{other} <ADDRESS>'",
-            row_of(name).value_name()
-        ),
-        BadOption::NoPeer => format!(in alloc;
-            "the following required arguments were not provided:\n  <--peer <ADDRESS>|--bind <ADDRESS>>"
-        ),
-        BadOption::Network { text } => {
-            format!(in alloc;
-                "invalid value '{text}' for '--from <NETWORK>': it wants an IPv4 address, or one with '/' and a number from 0 to 32, as 192.0.2.0/24"
-            )
+        BadOption::Address { name, text } => write!(said, "bad address '{text}' for '--{name}'")?,
+        BadOption::Clash { name, other } => {
+            let value = row_of(name).value_name();
+            write!(
+                said,
+                "the argument '--{name} <{value}>' cannot be used with '--{other} <ADDRESS>'"
+            )?
         }
-        BadOption::ManyNetworks => format!(in alloc;
-            "the argument '--from <NETWORK>' can be given 8 times at most"
-        ),
-        BadOption::FarStatus { text } => {
-            format!(in alloc;
-                "invalid value '{text}' for '--status <ADDRESS>': it wants an address of the loopback, as 127.0.0.1:9100, unless '--status-anywhere' is given"
-            )
-        }
-        BadOption::NoStatus => format!(in alloc;
-            "the argument '--status-anywhere' is only for '--status <ADDRESS>'"
-        ),
+        BadOption::NoPeer => said.push_str(
+            "the following required arguments were not provided:\n  <--peer <ADDRESS>|--bind <ADDRESS>>",
+        )?,
+        BadOption::Network { text } => write!(
+            said,
+            "invalid value '{text}' for '--from <NETWORK>': it wants an IPv4 address, or one with '/' and a number from 0 to 32, as 192.0.2.0/24"
+        )?,
+        BadOption::ManyNetworks => said.push_str(
+            "the argument '--from <NETWORK>' can be given 8 times at most",
+        )?,
+        BadOption::FarStatus { text } => write!(
+            said,
+            "invalid value '{text}' for '--status <ADDRESS>': it wants an address of the loopback, as 127.0.0.1:9100, unless '--status-anywhere' is given"
+        )?,
+        BadOption::NoStatus => said.push_str(
+            "the argument '--status-anywhere' is only for '--status <ADDRESS>'",
+        )?,
     }
+    Ok(said)
 }

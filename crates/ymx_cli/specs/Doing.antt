@@ -76,8 +76,7 @@ Does held (task.Frames limit None) status input output errors = PrintsFrames lim
 Does held (task.Frames limit (Some name)) status input output errors = IsUntouched input × PrintsFile limit status (held name.now) output errors
 Does held (task.Script None) status input output errors = PlaysScript status input output errors
 Does held (task.Script (Some name)) status input output errors = IsUntouched input × PlaysFile status (held name.now) output errors
-Does held (task.Local options) status input output errors = IsUntouched input × IsUntouched output
-Does held (task.Remote options) status input output errors = IsUntouched input × IsUntouched output
+Does held (task.Tunnel plan) status input output errors = IsUntouched input × IsUntouched output
 Does held task.Selftest status input output errors = IsUntouched input × (status ≡ 0 → TakesText output echo_lines)
 
 -- The fault of words is explained: a mistake with status 2, and nothing is written to the writer; the help or the version with status 0,

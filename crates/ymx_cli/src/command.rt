@@ -87,9 +87,8 @@ impl<F: FileOpener, R: Inlet, W: Outlet + Send, D: LogOutlet + Send> Devices<F, 
             Task::Frames { limit, file } => self.run_frames(rt, alloc, limit, file),
             Task::Script { file: None } => finish_script(script(rt, alloc, reader, writer), errors),
             Task::Script { file: Some(name) } => self.play_file(rt, alloc, name),
-            Task::Local(options) => self.run_end(rt, alloc, Plan::Local(options)),
-            Task::Remote(options) => self.run_end(rt, alloc, Plan::Remote(options)),
-            Task::Selftest => u8::from(run_selftest(rt, alloc, writer, errors).is_none()),
+            Task::Tunnel(plan) => self.run_end(rt, alloc, plan),
+            Task::Selftest => u8::from(!run_selftest(rt, alloc, writer, errors)),
         }
     }
 
@@ -98,15 +97,11 @@ impl<F: FileOpener, R: Inlet, W: Outlet + Send, D: LogOutlet + Send> Devices<F, 
     fn run_end<T: Host + Threads + Sync>(&mut self, rt: &T, alloc: Global, plan: Plan) -> u8
         ensures { (self.new.reader ≡ self.old.reader) × (self.new.writer ≡ self.old.writer) }
     {
-        let (is_verbose, has_times) = match plan {
-            Plan::Local(it) => (it.is_verbose, it.has_times),
-            Plan::Remote(it) => (it.is_verbose, it.has_times),
-        };
         let terms = plan.terms();
         let of_errors = LAST_WORDS * u16::from(!terms.goes_on && terms.places <= 1);
-        let of_lines = of_errors * u16::from(!is_verbose);
-        self.errors.limit(of_errors, has_times);
-        self.lines.limit(of_lines, has_times);
+        let of_lines = of_errors * u16::from(!plan.is_verbose);
+        self.errors.limit(of_errors, plan.has_times);
+        self.lines.limit(of_lines, plan.has_times);
         run_end(rt, alloc, plan, &mut self.errors, &mut self.lines)
     }
 
@@ -189,10 +184,10 @@ impl<F: FileOpener, R: Inlet, W: Outlet + Send, D: LogOutlet + Send> Devices<F, 
 /// Says of an option that only the other end of a tunnel has that it is that one's.
 pub(crate) fn name_other_end<S: AsStr, D: Outlet>(lines: &mut D, words: &[S]) {
     if let Some((option, other)) = foreign_option(words) {
-        say(lines, &[b"ymx: ", option.as_bytes()]);
+        let (option, other) = (option.as_bytes(), other.as_bytes());
         say(
             lines,
-            &[b" is an option of `ymx ", other.as_bytes(), b"`\n"],
+            &[b"ymx: ", option, b" is an option of `ymx ", other, b"`\n"],
         );
     }
 }

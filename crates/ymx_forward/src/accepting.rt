@@ -192,7 +192,7 @@ impl PeerAcceptor {
     }
 
     /// Who called next. Who may not call from where he does is closed, and nothing of him is read.
-    pub(crate) fn next<R: Host, D: Outlet>(&mut self, context: Context<'_, R, D>) -> Caller {
+    pub(crate) fn next<R: Host, D: Outlet>(&mut self, context: Context<'_, '_, R, D>) -> Caller {
         let Some(socket) = self.acceptor.accept(0) else {
             if let Some(reason) = self.acceptor.take_refusal() {
                 context.tell(Event::Refused(Named::Bind(self.at), reason));
@@ -210,7 +210,7 @@ impl PeerAcceptor {
     /// Tells of somebody who is closed. Of those in a second the first is told.
     pub(crate) fn tell_closed<R: Host, D: Outlet>(
         &mut self,
-        context: Context<'_, R, D>,
+        context: Context<'_, '_, R, D>,
         notice: Notice,
     ) {
         let now = time_of(context.rt);
@@ -221,7 +221,7 @@ impl PeerAcceptor {
     }
 
     /// Says that nobody can come in any more, and why.
-    pub(crate) fn say_failure<R: Host, D: Outlet>(&self, context: Context<'_, R, D>) {
+    pub(crate) fn say_failure<R: Host, D: Outlet>(&self, context: Context<'_, '_, R, D>) {
         let reason = match self.acceptor.failure() {
             Some(Some(reason)) => Some(Notice::Refused(Named::Bind(self.at), reason)),
             _ => None,

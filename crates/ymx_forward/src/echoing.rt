@@ -7,14 +7,10 @@ use std::alloc::Global;
 use std::io;
 use std::io::Read;
 
-/// What the connection of this number sent has come back: just these bytes, and then the end. Only [`Echoed::read`] makes one.
+/// What the connection of this number sent has come back. Only [`Echoed::read`] makes one.
 #[derive(Drop)]
 pub(crate) struct Echoed {
     number: u8,
-    sent: Vec<u8>,
-    received: Vec<u8>,
-    ghost whole: { received.items ≡ sent.items },
-    ghost sized: { length sent.items ≡ size_of number },
 }
 
 impl Echoed {
@@ -24,23 +20,17 @@ impl Echoed {
         reader: &mut R,
         alloc: Global,
         number: u8,
-        sent: Vec<u8>,
+        sent: &[u8],
     ) -> io::Result<Option<Echoed>>
         ensures number { IfOk result (λ it. IfSome it (λ echoed. echoed.number ≡ number)) }
-        ensures sent { IfOk result (λ it. IfSome it (λ echoed. echoed.sent.items ≡ sent.items)) }
-        // What it holds as received is all that the reader had still to give, where that can be told.
-        ensures received { IfOk result (λ it. IfSome it (λ echoed. IfSome (R.remaining reader.old) (λ bytes. echoed.received.items ≡ bytes))) }
+        ensures sized { IfOk result (λ it. IfSome it (λ _. length sent.now ≡ size_of number)) }
+        // What was sent is all that the reader had still to give, where that can be told.
+        ensures received { IfOk result (λ it. IfSome it (λ _. IfSome (R.remaining reader.old) (λ bytes. bytes ≡ sent.now))) }
     {
         let mut received = Vec::new(alloc);
         reader.read_to_end(&mut received)?;
-        if sent.len() != size_of(number) || received.as_slice() != sent.as_slice() {
-            return Ok(None);
-        }
-        Ok(Some(Echoed {
-            number,
-            sent,
-            received,
-        }))
+        let is_whole = sent.len() == size_of(number) && received.as_slice() == sent;
+        Ok(is_whole.then_some(Echoed { number }))
     }
 
     /// The number of its connection.

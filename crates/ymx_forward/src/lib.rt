@@ -28,7 +28,7 @@ mod users;
 mod voice;
 
 pub use places::run_end;
-pub use selftest::{AllEchoed, run_selftest};
+pub use selftest::run_selftest;
 
 /// What an end of a tunnel runs on: TCP, the clock, and waiting.
 pub trait Host: Net<Stream = TcpStream, Listener = TcpListener> + Clock + Wait {}

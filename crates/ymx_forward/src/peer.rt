@@ -9,7 +9,7 @@ use std::io;
 use std::net::{SocketAddr, SocketAddrV4, TcpStream};
 use std::time::Duration;
 use ymx_engine::{Device, Pulled};
-use ymx_policy::Session;
+use ymx_policy::{Session, keepalive_of};
 
 /// How many bytes that still come are read at once.
 const DROPPED: usize = 8_192;
@@ -45,10 +45,10 @@ impl Peer {
         token: usize,
     ) -> Result<Socket, NoEvents> {
         let Peer { socket, address: _ } = self;
-        if let Some(keepalive) = session.keepalive {
+        if let Some(keepalive) = keepalive_of(session.options.keepalive) {
             socket.keep_alive(keepalive);
         }
-        if let Some(seconds) = session.ping {
+        if let Some(seconds) = session.options.ping {
             socket.limit_silence(seconds.saturating_mul(2_000));
         }
         Socket::wire(socket, poll, token)

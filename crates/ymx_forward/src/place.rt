@@ -22,8 +22,8 @@ use std::{io, thread};
 use ymx_model::{CallFault, Outlet};
 use ymx_page::{Declined, Event};
 use ymx_policy::{
-    Ask, Callee, Deed, Happened, Notice, Peers, Plan, Reason, Session, Side as Wanted,
-    Users as Comers, Words, World, run,
+    Ask, Callee, Deed, Endpoint, Happened, Notice, Peers, Plan, Reason, Session, Users as Comers,
+    Words, World, run,
 };
 
 /// How many users are closed at once at most: as many as wait in the system.
@@ -37,8 +37,8 @@ const GLANCES: u64 = 10;
 
 /// What a place has.
 #[derive(Drop)]
-pub(crate) struct Place<'a, R, D> {
-    context: Context<'a, R, D>,
+pub(crate) struct Place<'a, 's, R, D> {
+    context: Context<'a, 's, R, D>,
     plan: Plan,
     /// What it shares with other places.
     common: Arc<Common, Global>,
@@ -63,8 +63,8 @@ pub(crate) struct Place<'a, R, D> {
 }
 
 /// Runs a place of an end. Whether it said a fault.
-pub(crate) fn run_place<'a, R: Host, D: Outlet>(
-    context: Context<'a, R, D>,
+pub(crate) fn run_place<'a, 's, R: Host, D: Outlet>(
+    context: Context<'a, 's, R, D>,
     plan: Plan,
     common: Arc<Common, Global>,
     is_woken: bool,
@@ -89,7 +89,7 @@ pub(crate) fn run_place<'a, R: Host, D: Outlet>(
     status != 0
 }
 
-impl<'a, R: Host, D: Outlet> Place<'a, R, D> {
+impl<'a, 's, R: Host, D: Outlet> Place<'a, 's, R, D> {
     /// Says this.
     fn say(&self, words: Words) {
         let context = self.context;
@@ -363,7 +363,7 @@ impl<'a, R: Host, D: Outlet> Place<'a, R, D> {
         let Some(peer) = self.peer.take() else {
             return Ok(Happened::Failed(None));
         };
-        if let Wanted::Server { .. } = session.side {
+        if let Endpoint::Remote { .. } = session.endpoint {
             self.side = Some(Side::Remote(Arc::try_clone(&self.common.drain)?));
         }
         self.prepare()?;
@@ -391,7 +391,7 @@ impl<'a, R: Host, D: Outlet> Place<'a, R, D> {
     }
 }
 
-impl<R: Host, D: Outlet> World for Place<'_, R, D> {
+impl<R: Host, D: Outlet> World for Place<'_, '_, R, D> {
     ghost log = { λ _. None };
 
     fn perform(&mut self, ask: Ask) -> Happened {
@@ -405,7 +405,7 @@ impl<R: Host, D: Outlet> World for Place<'_, R, D> {
 }
 
 /// Closes a user for whom there is no session.
-fn decline<R: Host, D: Outlet>(context: Context<'_, R, D>, user: TcpConnection) {
+fn decline<R: Host, D: Outlet>(context: Context<'_, '_, R, D>, user: TcpConnection) {
     let origin = context.begin(user.peer());
     let why = Declined::BySession(CallFault::Lost);
     context.tell(Event::Declined(origin, why));

@@ -9,7 +9,7 @@ use crate::session::LISTENER;
 use crate::status::Page;
 use crate::system::{Poll, StartFault, Waker, listen};
 use crate::users::{Common, place_of};
-use crate::voice::{Context, Lent, Sink};
+use crate::voice::{Context, Sink, context_of};
 use crossbeam_channel::{Receiver, Sender, bounded};
 use std::alloc::{AllocError, Global};
 use std::net::{SocketAddr, SocketAddrV4};
@@ -19,7 +19,7 @@ use std::thread;
 use std::thread::{Threads, join_mut};
 use ymx_model::Outlet;
 use ymx_page::{Counts, Event};
-use ymx_policy::{Fault, LocalOptions, Named, Notice, PeerAddress, Plan, Reason, RemoteOptions};
+use ymx_policy::{Endpoint, Fault, Named, Notice, PeerAddress, Plan, Reason};
 
 /// Runs an end of a tunnel by this plan, and beside it its page, if it has one. `ymx local` forwards each connection that comes as
 /// a stream of a session with its peer; `ymx remote` connects each stream of its peers to the target. Says faults on `errors`. On
@@ -32,11 +32,7 @@ pub fn run_end<R: Host + Threads + Sync, D: Outlet + Send>(
     errors: &mut D,
     lines: &mut D,
 ) -> u8 {
-    let (is_verbose, status) = match plan {
-        Plan::Local(options) => (options.is_verbose, options.status),
-        Plan::Remote(options) => (options.is_verbose, options.status),
-    };
-    let sink = new_sink(alloc, is_verbose, errors, lines);
+    let sink = new_sink(alloc, plan.is_verbose, errors, lines);
     let context = context_of(rt, alloc, &sink);
     let terms = plan.terms();
     let Ok(common) = Common::new(alloc, terms.users.count, terms.places as usize) else {
@@ -47,10 +43,10 @@ pub fn run_end<R: Host + Threads + Sync, D: Outlet + Send>(
         context,
         plan,
         common,
-        is_watched: status.is_some(),
+        is_watched: plan.status.is_some(),
         has_failed: AtomicBool::new(false),
     };
-    match status {
+    match plan.status {
         None => end.run(),
         Some(address) => end.run_beside_page(address),
     }
@@ -67,33 +63,20 @@ pub(crate) fn new_sink<'a, D: Outlet>(
     is_verbose: bool,
     errors: &'a mut D,
     lines: &'a mut D,
-) -> Mutex<Sink<Lent<'a, D>>> {
+) -> Mutex<Sink<'a, D>> {
+    let counts = Counts::new(alloc);
     Mutex::new(Sink {
-        errors: Lent { outlet: errors },
-        lines: Lent { outlet: lines },
+        errors,
+        lines,
         is_verbose,
-        counts: Counts::new(alloc),
+        counts,
     })
-}
-
-/// What goes along, where all is told there.
-pub(crate) fn context_of<'a, R: Host, D: Outlet>(
-    rt: &'a R,
-    alloc: Global,
-    sink: &'a Mutex<Sink<D>>,
-) -> Context<'a, R, D> {
-    Context {
-        rt,
-        alloc,
-        sink,
-        link: None,
-    }
 }
 
 /// An end of a tunnel.
 #[derive(Drop)]
-struct End<'a, R, D> {
-    context: Context<'a, R, D>,
+struct End<'a, 's, R, D> {
+    context: Context<'a, 's, R, D>,
     plan: Plan,
     common: Arc<Common, Global>,
     /// It has a page, through which it can be asked to take no more connections.
@@ -102,7 +85,7 @@ struct End<'a, R, D> {
     has_failed: AtomicBool,
 }
 
-impl<'a, R: Host + Threads + Sync, D: Outlet + Send> End<'a, R, D> {
+impl<'a, 's, R: Host + Threads + Sync, D: Outlet + Send> End<'a, 's, R, D> {
     /// Runs it, and beside it its page at this address.
     fn run_beside_page(&self, address: SocketAddrV4) {
         let context = self.context;
@@ -126,16 +109,11 @@ impl<'a, R: Host + Threads + Sync, D: Outlet + Send> End<'a, R, D> {
 
     /// Runs its places.
     fn run(&self) {
-        match self.plan {
-            Plan::Local(options) if options.links > 1 => self.run_links(options),
-            Plan::Remote(
-                RemoteOptions {
-                    peer: PeerAddress::Listen(address),
-                    is_kept,
-                    peers,
-                    ..
-                },
-            ) if is_kept || peers.is_some() => match self.new_queue(is_kept) {
+        let is_kept = self.plan.is_kept;
+        match (self.plan.endpoint, self.plan.peer) {
+            (Endpoint::Local { count, links, .. }, _) if links > 1 => self.run_links(count, links),
+            (Endpoint::Remote { peers, .. }, PeerAddress::Listen(address))
+                if is_kept || peers.is_some() => match self.new_queue(is_kept) {
                 Ok((give, queue)) => self.run_peers(give, &queue, address),
                 Err(_) => self.fail(None, Fault::OutOfMemory),
             },
@@ -176,11 +154,10 @@ impl<'a, R: Host + Threads + Sync, D: Outlet + Send> End<'a, R, D> {
 
     /// Runs a place for each link, the first in this thread. Where none is left though users were still to come, and no fault
     /// was said, that is one.
-    fn run_links(&self, options: LocalOptions) {
-        let (PeerAddress::Connect(peer) | PeerAddress::Listen(peer)) = options.peer;
-        let fault = Fault::CannotReach(peer);
+    fn run_links(&self, count: Option<u32>, links: u32) {
+        let fault = Fault::CannotReach(self.plan.terms().peer);
         thread::scope(thread::scope_env(), self.context.rt, move |scope| {
-            for number in 2..=options.links {
+            for number in 2..=links {
                 if scope
                     .spawn(move || self.run_place(Some(number), None))
                     .is_err()
@@ -191,7 +168,7 @@ impl<'a, R: Host + Threads + Sync, D: Outlet + Send> End<'a, R, D> {
             }
             self.run_place(Some(1), None);
         });
-        let is_short = options.count.is_some() && !self.common.is_over();
+        let is_short = count.is_some() && !self.common.is_over();
         if is_short && !self.has_failed.load(Ordering::SeqCst) {
             self.fail(None, fault);
         }

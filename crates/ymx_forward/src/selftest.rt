@@ -5,7 +5,7 @@
 //! Then whoever waits there is told at once. Who could still wait for a connection that nobody makes is released at the
 //! end.
 
-ghost use Rattle.std.specs.Prelude.{◌≡◌, IfOk, IfSome, IsSome, OnOk};
+ghost use Rattle.std.specs.Prelude.{◌≡◌, true, false, IfOk, IfSome, OnOk};
 ghost use Rattle.std.specs.Io.KnownBytes.{Appends, Keeps};
 ghost use Rattle.ymx_forward.specs.Echoes.{echo_lines, line_of};
 
@@ -13,12 +13,13 @@ use crate::Host;
 use crate::drain::Drain;
 use crate::echoing::{Echoed, line_of, size_of};
 use crate::peer::Peer;
-use crate::places::{context_of, new_sink};
+use crate::places::new_sink;
 use crate::session::{Side, run_session};
 use crate::system::{
     Poll, StartFault, TcpConnection, accept, address_of, connect, echo, finish, listen, send,
 };
 use crate::users::{Common, Users};
+use crate::voice::context_of;
 use arrayvec::ArrayString;
 use crossbeam_channel::{Receiver, Sender, bounded};
 use std::alloc::{AllocError, Global};
@@ -28,7 +29,7 @@ use std::sync::{Arc, Wait};
 use std::thread::{Threads, join_mut};
 use std::{io, thread};
 use ymx_model::{Outlet, WriterOutlet, push_all};
-use ymx_policy::{Fault, Session, Side as Role, Users as Comers, fault_text};
+use ymx_policy::{Endpoint, Fault, Session, SessionOptions, Users as Comers, fault_text};
 
 /// How many connections there are.
 const CONNECTIONS: u8 = 3;
@@ -36,22 +37,18 @@ const CONNECTIONS: u8 = 3;
 /// The window of both sessions, in bytes.
 const WINDOW: u32 = 262_144;
 
-/// What all three connections sent has come back, and their lines are printed. Only [`print_all`] makes one, of what
-/// [`Echoed::read`] has compared.
+/// Where a server listens, and the address of that.
 #[derive(Drop)]
-pub struct AllEchoed {
-    first: Echoed,
-    second: Echoed,
-    third: Echoed,
+struct Server {
+    listener: TcpListener,
+    at: SocketAddr,
 }
 
-/// What the servers own: where two of them listen, with the addresses, and both ends of the connection that carries the session.
+/// What the servers own, and both ends of the connection that carries the session.
 #[derive(Drop)]
 struct Owned {
-    echo: TcpListener,
-    echo_at: SocketAddr,
-    local: TcpListener,
-    local_at: SocketAddr,
+    echo: Server,
+    local: Server,
     near: TcpStream,
     far: TcpStream,
 }
@@ -64,45 +61,42 @@ enum Stop {
     /// The writer failed.
     Writing,
     /// There was no memory.
-    Memory(AllocError),
+    Memory,
 }
 
 /// Sends three connections through both ends of a tunnel to an echo server, all on 127.0.0.1, and prints a line for
-/// each. None where it fails: then it says why.
+/// each. Whether all that they sent came back: else it says what failed.
 pub fn run_selftest<R: Host + Threads + Sync, W: Outlet + Send, E: Outlet>(
     rt: &R,
     alloc: Global,
     writer: &mut W,
     errors: &mut E,
-) -> Option<AllEchoed>
+) -> bool
     // At a good end the writer took all three lines, and nothing is said.
-    ensures good { IsSome result → Keeps (E.contents errors.old) (E.contents errors.new) }
-    ensures done { IsSome result → Appends (W.contents writer.old) (W.contents writer.new) echo_lines }
+    ensures good { result ≡ true → Keeps (E.contents errors.old) (E.contents errors.new) }
+    ensures done { result ≡ true → Appends (W.contents writer.old) (W.contents writer.new) echo_lines }
 {
     let Some(owned) = prepare(rt) else {
-        say(errors, fault_text(Fault::CannotListen(any_port())).as_str());
-        return None;
+        return fails(errors, fault_text(Fault::CannotListen(any_port())).as_str());
     };
     match run_all(rt, alloc, owned, writer) {
-        Ok(echoed) => Some(echoed),
-        Err(stop) => {
-            match stop {
-                Stop::Connection(number) => {
-                    let mut text = ArrayString::<64>::new();
-                    let _ = writeln!(text, "ymx: selftest failed: connection {number}");
-                    say(errors, text.as_str());
-                }
-                Stop::Writing => say(errors, "ymx: writing failed\n"),
-                Stop::Memory(_) => say(errors, fault_text(Fault::OutOfMemory).as_str()),
-            }
-            None
+        Ok(()) => true,
+        Err(Stop::Connection(number)) => {
+            let mut text = ArrayString::<64>::new();
+            let _ = writeln!(text, "ymx: selftest failed: connection {number}");
+            fails(errors, text.as_str())
         }
+        Err(Stop::Writing) => fails(errors, "ymx: writing failed\n"),
+        Err(Stop::Memory) => fails(errors, fault_text(Fault::OutOfMemory).as_str()),
     }
 }
 
-/// Says a fault. Where the error device fails too there is nobody left to tell.
-fn say<E: Outlet>(errors: &mut E, text: &str) {
+/// Says what failed. Where the error device fails too there is nobody left to tell.
+fn fails<E: Outlet>(errors: &mut E, text: &str) -> bool
+    ensures { result ≡ false }
+{
     let _ = push_all(errors, text.as_bytes());
+    false
 }
 
 /// Runs the three servers and the client, and prints a line for each connection as it ends. Where a thread can't be made the
@@ -112,12 +106,11 @@ fn run_all<R: Host + Threads + Sync, W: Outlet + Send>(
     alloc: Global,
     owned: Owned,
     writer: &mut W,
-) -> Result<AllEchoed, Stop>
+) -> Result<(), Stop>
     ensures { OnOk result (Appends (W.contents writer.old) (W.contents writer.new) echo_lines) }
 {
-    let (sender, receiver) = match bounded::<Echoed, Global>(alloc, CONNECTIONS as usize) {
-        Ok(ends) => ends,
-        Err(refused) => return Err(Stop::Memory(refused)),
+    let Ok((sender, receiver)) = bounded::<Echoed, Global>(alloc, CONNECTIONS as usize) else {
+        return Err(Stop::Memory);
     };
     let mut parts = Some((owned, sender));
     let (printed, ()) = join_mut(
@@ -143,19 +136,18 @@ fn run_servers<R: Host + Threads + Sync>(
 ) {
     let Owned {
         echo,
-        echo_at,
         local,
-        local_at,
         near,
         far,
     } = owned;
+    let (echo_at, local_at) = (echo.at, local.at);
     thread::scope(thread::scope_env(), rt, move |scope| {
-        let has_echo = scope.spawn(move || serve_echoes(echo)).is_ok();
+        let has_echo = scope.spawn(move || serve_echoes(echo.listener)).is_ok();
         let has_far = scope
             .spawn(move || run_remote_end(rt, alloc, far, echo_at))
             .is_ok();
         let has_near = scope
-            .spawn(move || run_local_end(rt, alloc, near, local))
+            .spawn(move || run_local_end(rt, alloc, near, local.listener))
             .is_ok();
         if has_echo && has_far && has_near {
             run_client(rt, alloc, local_at, sender);
@@ -170,21 +162,24 @@ fn any_port() -> SocketAddrV4 {
     SocketAddrV4::new(Ipv4Addr::LOCALHOST, 0)
 }
 
-/// Listens at two ports, that of the echo server and that of the client's end, and connects both ends of the session, so that
-/// neither has to wait for the other: the system makes that connection before it is accepted.
+/// Listens at a port that the system chooses.
+fn begin_server<R: Host>(rt: &R) -> io::Result<Server> {
+    let listener = listen(rt, SocketAddr::V4(any_port()))?;
+    let at = address_of(&listener)?;
+    Ok(Server { listener, at })
+}
+
+/// Begins the echo server and that of the client's end, and connects both ends of the session, so that neither has to wait for
+/// the other: the system makes that connection before it is accepted.
 fn prepare<R: Host>(rt: &R) -> Option<Owned> {
-    let echo = listen(rt, SocketAddr::V4(any_port())).ok()?;
-    let local = listen(rt, SocketAddr::V4(any_port())).ok()?;
-    let meeting = listen(rt, SocketAddr::V4(any_port())).ok()?;
-    let near = connect(rt, address_of(&meeting).ok()?).ok()?;
-    let far = accept(&meeting).ok()?;
+    let echo = begin_server(rt).ok()?;
+    let local = begin_server(rt).ok()?;
+    let meeting = begin_server(rt).ok()?;
     Some(Owned {
-        echo_at: address_of(&echo).ok()?,
         echo,
-        local_at: address_of(&local).ok()?,
         local,
-        near,
-        far,
+        near: connect(rt, meeting.at).ok()?,
+        far: accept(&meeting.listener).ok()?,
     })
 }
 
@@ -196,19 +191,12 @@ fn print_all<R: Wait, W: Outlet>(
     rt: &R,
     receiver: &Receiver<Echoed, Global>,
     writer: &mut W,
-) -> Result<AllEchoed, Stop>
-    ensures done { OnOk result (Appends (W.contents writer.old) (W.contents writer.new) echo_lines) }
-    // Each line is that of a connection whose bytes came back.
-    ensures echoed { IfOk result (λ all. (all.first.number ≡ 1) × (all.second.number ≡ 2) × (all.third.number ≡ 3)) }
+) -> Result<(), Stop>
+    ensures { OnOk result (Appends (W.contents writer.old) (W.contents writer.new) echo_lines) }
 {
-    let first = print_next(rt, receiver, 1, writer)?;
-    let second = print_next(rt, receiver, 2, writer)?;
-    let third = print_next(rt, receiver, 3, writer)?;
-    Ok(AllEchoed {
-        first,
-        second,
-        third,
-    })
+    print_next(rt, receiver, 1, writer)?;
+    print_next(rt, receiver, 2, writer)?;
+    print_next(rt, receiver, 3, writer)
 }
 
 /// Waits for what the connection of this number sent to come back, and prints its line.
@@ -217,15 +205,13 @@ fn print_next<R: Wait, W: Outlet>(
     receiver: &Receiver<Echoed, Global>,
     number: u8,
     writer: &mut W,
-) -> Result<Echoed, Stop>
-    ensures number { IfOk result (λ echoed. echoed.number ≡ number) }
-    ensures printed { OnOk result (Appends (W.contents writer.old) (W.contents writer.new) (line_of number)) }
+) -> Result<(), Stop>
+    ensures { OnOk result (Appends (W.contents writer.old) (W.contents writer.new) (line_of number)) }
 {
     match receiver.recv(rt) {
-        Ok(echoed) if echoed.number() == number => match push_all(writer, line_of(number)) {
-            Ok(()) => Ok(echoed),
-            Err(_) => Err(Stop::Writing),
-        },
+        Ok(echoed) if echoed.number() == number => push_all(writer, line_of(number)).map_err(
+            |_| Stop::Writing,
+        ),
         _ => Err(Stop::Connection(number)),
     }
 }
@@ -253,24 +239,25 @@ fn serve_echoes(listener: TcpListener) {
 fn run_remote_end<R: Host>(rt: &R, alloc: Global, connection: TcpStream, target: SocketAddr) {
     let drain = Arc::new(alloc, Drain::new(alloc));
     if let (Ok(poll), Ok(drain), SocketAddr::V4(target)) = (Poll::new(rt, alloc), drain, target) {
-        let role = Role::Server {
+        let endpoint = Endpoint::Remote {
             target,
             workers: CONNECTIONS as u32,
+            peers: None,
         };
-        run_one(rt, alloc, connection, poll, (Side::Remote(drain), role));
+        run_one(rt, alloc, connection, (poll, Side::Remote(drain)), endpoint);
     }
 }
 
 /// The end of the tunnel at the client.
 fn run_local_end<R: Host>(rt: &R, alloc: Global, connection: TcpStream, listener: TcpListener) {
-    if let Ok((poll, users)) = new_users(rt, alloc, listener) {
-        run_one(
-            rt,
-            alloc,
-            connection,
-            poll,
-            (Side::Local(users), Role::Client),
-        );
+    if let Ok(users) = new_users(rt, alloc, listener) {
+        let endpoint = Endpoint::Local {
+            listen: any_port(),
+            count: Some(CONNECTIONS as u32),
+            links: 1,
+            names_users: false,
+        };
+        run_one(rt, alloc, connection, users, endpoint);
     }
 }
 
@@ -279,7 +266,7 @@ fn new_users<R: Host>(
     rt: &R,
     alloc: Global,
     listener: TcpListener,
-) -> Result<(Poll, Users), StartFault> {
+) -> Result<(Poll, Side), StartFault> {
     let poll = Poll::new(rt, alloc)?;
     let wanted = Comers {
         address: any_port(),
@@ -288,11 +275,17 @@ fn new_users<R: Host>(
     };
     let common = Common::new(alloc, wanted.count, 1)?;
     let users = Users::new(listener, wanted, common, &poll)?;
-    Ok((poll, users))
+    Ok((poll, Side::Local(users)))
 }
 
-/// Runs the only session of this side over this connection. Of what is told nothing is heard.
-fn run_one<R: Host>(rt: &R, alloc: Global, connection: TcpStream, poll: Poll, of: (Side, Role)) {
+/// Runs the only session of this endpoint over this connection. Of what is told nothing is heard.
+fn run_one<R: Host>(
+    rt: &R,
+    alloc: Global,
+    connection: TcpStream,
+    (mut poll, mut side): (Poll, Side),
+    endpoint: Endpoint,
+) {
     let Ok(connection) = TcpConnection::of(connection) else {
         return;
     };
@@ -302,18 +295,17 @@ fn run_one<R: Host>(rt: &R, alloc: Global, connection: TcpStream, poll: Poll, of
     };
     let (mut nobody, mut nowhere) = (silent(), silent());
     let sink = new_sink(alloc, false, &mut nobody, &mut nowhere);
-    let (side, role) = of;
     let session = Session {
-        side: role,
-        window: WINDOW,
-        ping: None,
-        keepalive: None,
-        idle: None,
-        names_users: false,
+        endpoint,
+        options: SessionOptions {
+            window: WINDOW,
+            ping: None,
+            keepalive: 0,
+            idle: None,
+        },
         is_sounded: false,
         is_followed: false,
     };
-    let (mut poll, mut side) = (poll, side);
     let context = context_of(rt, alloc, &sink);
     let _ = run_session(context, &mut poll, &mut side, Peer::of(connection), session);
 }
@@ -345,7 +337,7 @@ fn exchange<R: Net<Stream = TcpStream>>(
     let socket = connect(rt, place).ok()?;
     send(&socket, sent.as_slice()).ok()?;
     finish(&socket).ok()?;
-    Echoed::read(&mut &socket, alloc, number, sent).ok()?
+    Echoed::read(&mut &socket, alloc, number, sent.as_slice()).ok()?
 }
 
 /// So many bytes, each by its place.

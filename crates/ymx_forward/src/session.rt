@@ -32,7 +32,7 @@ use ymx_engine::{Device, NotJoined, Readiness, Registry, Tunnel};
 use ymx_header::{FIRST_EXHAUSTED, MOST_RECORDS};
 use ymx_model::{CallFault, Config, Outlet, Role, Status};
 use ymx_page::{Declined, EndedConnection, Ending, Event, Origin};
-use ymx_policy::{Notice, Reason, Session as Asked, SessionEnd, Side as Wanted};
+use ymx_policy::{Endpoint, Notice, Reason, Session as Asked, SessionEnd, keepalive_of};
 use ymx_session::{NewFault, Session};
 
 /// The wire's token.
@@ -62,13 +62,6 @@ const PATIENCE: u64 = 10;
 
 /// How many seconds it waits for events there, and where connections may be idle for too long.
 const GLANCE: u64 = 1;
-
-/// All that an event can say.
-const READY: Readiness = Readiness {
-    can_pull: true,
-    can_push: true,
-    is_closing: true,
-};
 
 /// How many seconds a session lasts at least after which the peer is called again at once.
 const LASTING: u64 = 1;
@@ -133,7 +126,7 @@ enum Outcome {
 /// server ends with the session. Both end only once all connections have. Where another session follows, connections
 /// that have taken nothing for ten seconds since the loss are closed.
 pub(crate) fn run_session<R: Host, D: Outlet>(
-    context: Context<'_, R, D>,
+    context: Context<'_, '_, R, D>,
     poll: &mut Poll,
     side: &mut Side,
     peer: Peer,
@@ -159,14 +152,14 @@ fn unwatched() -> SessionEnd {
 
 /// Runs such a session over this wire, with the peer at this address, if it is known, and closes the wire.
 fn run_over<R: Host, D: Outlet>(
-    context: Context<'_, R, D>,
+    context: Context<'_, '_, R, D>,
     poll: &mut Poll,
     side: &mut Side,
     wire: Socket,
     asked: (Asked, Option<SocketAddrV4>),
 ) -> SessionEnd {
     let (session, peer) = asked;
-    let tunnel = match new_tunnel(context.alloc, wire, side.role(), session.window) {
+    let tunnel = match new_tunnel(context.alloc, wire, side.role(), session.options.window) {
         Ok(tunnel) => tunnel,
         Err(NewFault::OutOfMemory(_)) => {
             let mut how = SessionEnd::clean();
@@ -192,7 +185,7 @@ fn run_over<R: Host, D: Outlet>(
         is_heard: !session.is_sounded,
         is_leaving: false,
         still_since: None,
-        silence: Silence::new(time_of(context.rt), session.ping),
+        silence: Silence::new(time_of(context.rt), session.options.ping),
         pending: None,
     };
     let outcome = session_loop.run(poll);
@@ -209,8 +202,8 @@ fn run_over<R: Host, D: Outlet>(
 
 /// One session of a tunnel's end.
 #[derive(Drop)]
-struct SessionLoop<'a, R, D> {
-    context: Context<'a, R, D>,
+struct SessionLoop<'a, 's, R, D> {
+    context: Context<'a, 's, R, D>,
     tunnel: Tunnel<Socket, Socket>,
     side: &'a mut Side,
     session: Asked,
@@ -241,7 +234,7 @@ struct SessionLoop<'a, R, D> {
     pending: Option<u32>,
 }
 
-impl<R: Host, D: Outlet> SessionLoop<'_, R, D> {
+impl<R: Host, D: Outlet> SessionLoop<'_, '_, R, D> {
     /// Runs until this side and all its connections have ended, and the wire has taken all that is due or has failed. Where
     /// another session follows, it is also left once the session is lost and nothing has moved for too long.
     fn run(&mut self, poll: &mut Poll) -> Outcome
@@ -374,10 +367,10 @@ impl<R: Host, D: Outlet> SessionLoop<'_, R, D> {
 
     /// How long it waits for events. None if for as long as none comes.
     fn timeout(&self) -> Option<Duration> {
-        let may_idle = self.session.idle.is_some() && !self.tunnel.is_empty();
-        let glance = may_idle.then_some(Duration::from_secs(GLANCE));
+        let may_idle = self.session.options.idle.is_some() && !self.tunnel.is_empty();
+        let is_left = self.session.is_followed && self.is_lost();
+        let glance = (may_idle || is_left).then_some(Duration::from_secs(GLANCE));
         match &*self.side {
-            _ if self.session.is_followed && self.is_lost() => Some(Duration::from_secs(GLANCE)),
             Side::Local(users) => shorter(users.limit(), glance),
             Side::Remote(_) => glance,
         }
@@ -443,16 +436,16 @@ impl<R: Host, D: Outlet> SessionLoop<'_, R, D> {
 
     /// How many connections it may have at once.
     fn places(&self) -> usize {
-        match self.session.side {
-            Wanted::Client => MOST_RECORDS,
-            Wanted::Server { workers, .. } => workers as usize,
+        match self.session.endpoint {
+            Endpoint::Local { .. } => MOST_RECORDS,
+            Endpoint::Remote { workers, .. } => workers as usize,
         }
     }
 
     /// Where a stream goes to that is accepted now. None where it has to wait, or none is accepted at all.
     fn free_target(&self) -> Option<SocketAddrV4> {
-        match self.session.side {
-            Wanted::Server { target, .. } if self.tunnel.len() < self.places() => Some(target),
+        match self.session.endpoint {
+            Endpoint::Remote { target, .. } if self.tunnel.len() < self.places() => Some(target),
             _ => None,
         }
     }
@@ -581,9 +574,12 @@ impl<R: Host, D: Outlet> SessionLoop<'_, R, D> {
         let context = self.context;
         let origin = context.begin(socket.peer());
         self.prepare(&socket);
-        let line = match self.session.names_users {
-            true => socket.proxy_line(),
-            false => Head::new(),
+        let line = match self.session.endpoint {
+            Endpoint::Local {
+                names_users: true,
+                ..
+            } => socket.proxy_line(),
+            _ => Head::new(),
         };
         let device = Socket::connected(socket, origin, line);
         if let Err(why) = self.tunnel.open(device, &mut Tokens { poll }) {
@@ -595,7 +591,7 @@ impl<R: Host, D: Outlet> SessionLoop<'_, R, D> {
     /// is to.
     fn prepare(&self, socket: &TcpConnection) {
         socket.send_at_once();
-        if let Some(keepalive) = self.session.keepalive {
+        if let Some(keepalive) = keepalive_of(self.session.options.keepalive) {
             socket.keep_alive(keepalive);
         }
     }
@@ -745,11 +741,11 @@ impl<R: Host, D: Outlet> SessionLoop<'_, R, D> {
         );
     }
 
-    /// Has each connection fail, once a second, on which no byte has moved for too long: at its turn it does.
+    /// Aborts each connection, looking once a second, on which no byte has moved for too long.
     fn abort_idle(&mut self)
-        ensures { Runs self.old.tunnel self.new.tunnel }
+        ensures { self.new.tunnel ≡ self.old.tunnel }
     {
-        let Some(seconds) = self.session.idle else {
+        let Some(seconds) = self.session.options.idle else {
             return;
         };
         let now = time_of(self.context.rt);
@@ -757,14 +753,10 @@ impl<R: Host, D: Outlet> SessionLoop<'_, R, D> {
             return;
         }
         self.watched_at = now;
-        let limit = Duration::from_secs(seconds as u64);
         'line: for place in 0..self.tunnel.len() {
-            let Some(id) = self.tunnel.id_at(place) else {
-                return;
-            };
-            match self.tunnel.device(id) {
-                Some(socket) if socket.is_idle(now, limit) => self.tunnel.note_line(id, READY),
-                _ => {}
+            let id = self.tunnel.id_at(place);
+            if let Some(socket) = id.and_then(|id| self.tunnel.device(id)) {
+                socket.abort_if_idle(now, Duration::from_secs(seconds as u64));
             }
         }
     }
@@ -792,9 +784,9 @@ impl<R: Host, D: Outlet> SessionLoop<'_, R, D> {
             self.add_passed(socket.take_passed());
             let ended = socket.ended(ways, is_lost);
             self.how.lacked_memory |= ended.lacked_memory();
-            if let (Some(why), Wanted::Server { target, .. }) = (
+            if let (Some(why), Endpoint::Remote { target, .. }) = (
                 socket.unreached(),
-                self.session.side,
+                self.session.endpoint,
             ) {
                 context.tell(Event::Unreached(target, why));
             }
@@ -921,7 +913,7 @@ impl<R: Host, D: Outlet> SessionLoop<'_, R, D> {
     /// After how long a silence the connection is closed at the end, though the peer hasn't closed it. Where others wait for
     /// that, or no more streams were to be taken, the peer isn't waited for without end.
     fn close_limit(&self) -> Option<Duration> {
-        match self.session.ping {
+        match self.session.options.ping {
             Some(seconds) if !self.session.is_followed => Some(Duration::from_secs(seconds as u64)),
             None if !self.session.is_followed && !self.side.is_drained() => None,
             _ => Some(Duration::from_secs(PATIENCE)),

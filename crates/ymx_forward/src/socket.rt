@@ -212,17 +212,16 @@ impl<S: Stream + Drop> Socket<S> {
         )
     }
 
-    /// Whether no byte has moved for so long by this time. Then its next call fails.
-    pub(crate) fn is_idle(&self, now: Option<Duration>, limit: Duration) -> bool {
+    /// Aborts it where no byte has moved for so long by this time: each call of it fails then, and an event tells of that.
+    pub(crate) fn abort_if_idle(&self, now: Option<Duration>, limit: Duration) {
         let moved = self.pulled.saturating_add(self.pushed);
         let (before, since) = self.still.get();
-        let since = if before == moved { since.or(now) } else { now };
-        self.still.set((moved, since));
-        if !has_passed(since, now, limit) {
-            return false;
+        if before != moved || since.is_none() {
+            self.still.set((moved, now));
+        } else if has_passed(since, now, limit) && self.state.get() != ConnectState::Idle {
+            self.state.set(ConnectState::Idle);
+            self.socket.abort();
         }
-        self.state.set(ConnectState::Idle);
-        true
     }
 
     /// How its connection ended, whose ways stand so, in a session that was lost or wasn't.

@@ -71,7 +71,7 @@ impl Page {
     /// Answers until the end has ended, and those who are there then.
     pub(crate) fn run<R: Host, D: Outlet>(
         &mut self,
-        context: Context<'_, R, D>,
+        context: Context<'_, '_, R, D>,
         drain: &Drain,
         ended: &Drain,
     ) {
@@ -128,7 +128,7 @@ impl Page {
     }
 
     /// Goes on with each who is there.
-    fn serve_all<R: Host, D: Outlet>(&mut self, context: Context<'_, R, D>, drain: &Drain) {
+    fn serve_all<R: Host, D: Outlet>(&mut self, context: Context<'_, '_, R, D>, drain: &Drain) {
         for _ in 0..self.callers.len() {
             let Some(caller) = self.callers.pop_front() else {
                 return;
@@ -169,7 +169,7 @@ enum Step {
 impl Caller {
     /// Goes on as far as it can now. What still comes behind its answer is forgotten: else the answer could be lost with the
     /// connection.
-    fn go_on<R: Host, D: Outlet>(&mut self, context: Context<'_, R, D>, drain: &Drain) -> Step {
+    fn go_on<R: Host, D: Outlet>(&mut self, context: Context<'_, '_, R, D>, drain: &Drain) -> Step {
         match self.since.elapsed(context.rt) {
             Ok(passed) if passed < Duration::from_secs(PATIENCE) => {}
             _ => return Step::Gone,
@@ -205,7 +205,7 @@ impl Caller {
     }
 
     /// Decides on the answer, and does what is asked for.
-    fn decide<R: Host, D: Outlet>(&mut self, context: Context<'_, R, D>, drain: &Drain) {
+    fn decide<R: Host, D: Outlet>(&mut self, context: Context<'_, '_, R, D>, drain: &Drain) {
         let rt = context.rt;
         let (answer, wants_body) = answer_to(self.line.bytes());
         if answer == Answer::Drain {

@@ -52,8 +52,7 @@ pub(crate) trait Stream {
         ensures { (left self.new ≡ left self.old) × (had self.new ≡ had self.old) };
 
     /// Aborts it: the other end sees a reset, and no end. What was written may be lost.
-    fn abort(&mut self)
-        ensures { (left self.new ≡ left self.old) × (had self.new ≡ had self.old) };
+    fn abort(&self);
 
     /// Who is at its other end. None while nobody is.
     fn peer(&self) -> Option<SocketAddr>;

@@ -236,10 +236,8 @@ impl Stream for TcpConnection {
         let _ = self.inner.shutdown(Shutdown::Both);
     }
 
-    fn abort(&mut self) {
+    fn abort(&self) {
         abort(&self.inner);
-        self.gives = false;
-        self.takes = false;
     }
 }
 

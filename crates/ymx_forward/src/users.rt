@@ -253,7 +253,7 @@ impl Users {
     /// wasn't told.
     pub(crate) fn note_open<R: Host, D: Outlet>(
         &mut self,
-        context: Context<'_, R, D>,
+        context: Context<'_, '_, R, D>,
         open: usize,
     ) {
         self.rounds = self.rounds.saturating_add(1);

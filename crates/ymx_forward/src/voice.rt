@@ -5,20 +5,20 @@ use std::alloc::{AllocError, Global};
 use std::net::SocketAddr;
 use std::sync::Mutex;
 use std::time::Instant;
-use ymx_model::{DeviceFault, Outlet, push_all};
+use ymx_model::{Outlet, push_all};
 use ymx_page::{Counts, Event, Origin};
 use ymx_policy::{Fault, Notice};
 
 /// Where it goes, and what was counted.
 #[derive(Drop)]
-pub(crate) struct Sink<D> {
-    pub(crate) errors: D,
-    pub(crate) lines: D,
+pub(crate) struct Sink<'a, D> {
+    pub(crate) errors: &'a mut D,
+    pub(crate) lines: &'a mut D,
     pub(crate) is_verbose: bool,
     pub(crate) counts: Counts,
 }
 
-impl<D: Outlet> Sink<D> {
+impl<D: Outlet> Sink<'_, D> {
     /// Counts this, and tells it at this time, if it is to be told. Where a device fails there is nobody left to tell.
     fn take(&mut self, event: &Event, now: Option<Instant>) {
         self.counts.count(event);
@@ -27,31 +27,46 @@ impl<D: Outlet> Sink<D> {
         };
         let text = line.as_str().as_bytes();
         let _ = if event.is_fault() {
-            push_all(&mut self.errors, text)
+            push_all(self.errors, text)
         } else {
-            push_all(&mut self.lines, text)
+            push_all(self.lines, text)
         };
     }
 }
 
 /// What goes along through all that a place does, and who tells of it.
-pub(crate) struct Context<'a, R, D> {
+pub(crate) struct Context<'a, 's, R, D> {
     pub(crate) rt: &'a R,
     pub(crate) alloc: Global,
-    pub(crate) sink: &'a Mutex<Sink<D>>,
+    pub(crate) sink: &'a Mutex<Sink<'s, D>>,
     /// The number of the link that it is of, if there are several.
     pub(crate) link: Option<u32>,
 }
 
-impl<R, D> Clone for Context<'_, R, D> {
+impl<R, D> Clone for Context<'_, '_, R, D> {
     fn clone(&self) -> Result<Self, AllocError> {
         Ok(*self)
     }
 }
 
-impl<R, D> Copy for Context<'_, R, D> {}
+impl<R, D> Copy for Context<'_, '_, R, D> {}
 
-impl<R: Host, D: Outlet> Context<'_, R, D> {
+/// What goes along, where all is told there.
+pub(crate) fn context_of<'a, 's, R, D>(
+    rt: &'a R,
+    alloc: Global,
+    sink: &'a Mutex<Sink<'s, D>>,
+) -> Context<'a, 's, R, D> {
+    let link = None;
+    Context {
+        rt,
+        alloc,
+        sink,
+        link,
+    }
+}
+
+impl<R: Host, D: Outlet> Context<'_, '_, R, D> {
     /// Tells this, and counts it.
     pub(crate) fn tell(&self, event: Event) {
         let now = Instant::now(self.rt).ok();
@@ -81,27 +96,5 @@ impl<R: Host, D: Outlet> Context<'_, R, D> {
             link: self.link,
             began,
         }
-    }
-}
-
-/// An outlet that is another's.
-#[derive(Drop)]
-pub(crate) struct Lent<'a, O> {
-    pub(crate) outlet: &'a mut O,
-}
-
-impl<O: Outlet> Outlet for Lent<'_, O> {
-    ghost contents = { λ l. O.contents l.outlet.now };
-
-    ghost failures = { λ l. O.failures l.outlet.now };
-
-    ghost is_ended = { λ l. O.is_ended l.outlet.now };
-
-    fn push(&mut self, bytes: &[u8]) -> Result<usize, DeviceFault> {
-        self.outlet.push(bytes)
-    }
-
-    fn end(&mut self) -> Result<(), DeviceFault> {
-        self.outlet.end()
     }
 }

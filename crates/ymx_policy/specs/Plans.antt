@@ -1,14 +1,13 @@
 -- What an end is told to do, and what follows of it (this project's own).
-use Rattle.std.specs.Prelude.{◌||◌, ◌==◌, ◌/◌, ℕ, Bool, true, false, nat_lt, max, if◌then◌else◌, Option, None, Some, is_some}
+use Rattle.std.specs.Prelude.{◌||◌, ◌==◌, ◌/◌, ℕ, Bool, true, false, nat_lt, max, if◌then◌else◌, Option, None, Some, is_some, unwrap_or}
 use Rattle.std.specs.declared.net.socket_addr.SocketAddrV4.{SocketAddrV4}
 use Rattle.ymx_policy.specs.declared.options.PeerAddress.{PeerAddress}
 use Rattle.ymx_policy.specs.declared.options.PeerAddress.TheVariants.{Connect, Listen}
-use Rattle.ymx_policy.specs.declared.options.LocalOptions.{LocalOptions}
-use Rattle.ymx_policy.specs.declared.options.RemoteOptions.{RemoteOptions}
+use Rattle.ymx_policy.specs.declared.options.Endpoint.{Endpoint}
+use Rattle.ymx_policy.specs.declared.options.Endpoint.TheVariants.{Local, Remote}
+use Rattle.ymx_policy.specs.declared.options.Plan.{Plan}
 use Rattle.ymx_policy.specs.declared.asks.Keepalive.{Keepalive}
-use Rattle.ymx_policy.specs.declared.asks.Side.TheVariants.{Client, Server}
-use Rattle.ymx_policy.specs.declared.plan.Plan.{Plan}
-use Rattle.ymx_policy.specs.declared.plan.Plan.TheVariants.{Local, Remote}
+use Rattle.ymx_policy.specs.declared.asks.Users.{Users}
 use Rattle.ymx_policy.specs.declared.plan.Role.{Role}
 use Rattle.ymx_policy.specs.declared.plan.Role.TheVariants.{LocalCalls, LocalAwaits, RemoteCalls, RemoteAwaits}
 use Rattle.ymx_policy.specs.declared.plan.Terms.{Terms}
@@ -18,26 +17,40 @@ abbrev pub address_of : PeerAddress → SocketAddrV4
 address_of (Connect address) = address
 address_of (Listen address) = address
 
--- which end a `local` is that meets its peer so
-abbrev pub local_role : PeerAddress → Role
-local_role (Connect address) = LocalCalls
-local_role (Listen address) = LocalAwaits
+-- which end it is that meets its peer so
+abbrev pub role_of : Endpoint → PeerAddress → Role
+role_of (Local listen count links names) (Connect address) = LocalCalls
+role_of (Local listen count links names) (Listen address) = LocalAwaits
+role_of (Remote target workers peers) (Connect address) = RemoteCalls
+role_of (Remote target workers peers) (Listen address) = RemoteAwaits
 
--- which end a `remote` is that meets its peer so
-abbrev pub remote_role : PeerAddress → Role
-remote_role (Connect address) = RemoteCalls
-remote_role (Listen address) = RemoteAwaits
+-- How many places it has that meets its peer so: a `local` its links, where it calls, and a `remote` that is called as many as --peers
+-- says, and else 16 with --keep.
+abbrev pub places_of : Endpoint → PeerAddress → (kept : Bool) → ℕ
+places_of (Local listen count links names) (Connect address) kept = links
+places_of (Local listen count links names) (Listen address) kept = 1
+places_of (Remote target workers peers) (Connect address) kept = 1
+places_of (Remote target workers peers) (Listen address) kept = unwrap_or peers (if kept then 16 else 1)
 
--- how many places a `local` has that meets its peer so: its links, where it calls
-abbrev pub local_places : PeerAddress → (links : ℕ) → ℕ
-local_places (Connect address) links = links
-local_places (Listen address) links = 1
+-- it has several links
+abbrev pub has_links : Endpoint → Bool
+has_links (Local listen count links names) = nat_lt 1 links
+has_links (Remote target workers peers) = false
 
--- how many places a `remote` has that meets its peer so: as many as --peers says where it is called, and else 16 with --keep
-abbrev pub remote_places : PeerAddress → (peers : Option ℕ) → (kept : Bool) → ℕ
-remote_places (Listen address) (Some peers) kept = peers
-remote_places (Listen address) None true = 16
-remote_places address peers kept = 1
+-- its users wait for the first sign of the peer: with --keep or several links
+abbrev pub asks_first : Endpoint → (kept : Bool) → Bool
+asks_first (Local listen count links names) kept = kept || nat_lt 1 links
+asks_first (Remote target workers peers) kept = false
+
+-- others follow a session: with --keep, and at a `remote` with --peers
+abbrev pub goes_on_of : Endpoint → (kept : Bool) → Bool
+goes_on_of (Local listen count links names) kept = kept
+goes_on_of (Remote target workers peers) kept = kept || is_some peers
+
+-- users come to --listen, --count of them; to a `remote` none do
+abbrev pub users_of : Endpoint → (peer : SocketAddrV4) → (kept : Bool) → Users
+users_of (Local listen count links names) peer kept = record { address = listen; count = count; is_patient = kept }
+users_of (Remote target workers peers) peer kept = record { address = peer; count = None; is_patient = kept }
 
 -- After so many seconds of silence the system asks for a sign, and then after each quarter of them, but not before a second. Behind four
 -- in vain the connection fails. With 0 it never asks.
@@ -50,53 +63,20 @@ call_limit is_awaited (Some seconds) = Some seconds
 call_limit true None = Some 10
 call_limit false None = None
 
--- of `local`: users come to --listen, --count of them; the session has --window, --ping, --keepalive, --idle and --proxy-protocol; with
--- --keep it goes on; with it or
--- several --links users wait for the end of a call and, as with --ping, for the first sign of the peer
-abbrev pub local_terms : LocalOptions → Terms
-local_terms o = record {
-  role = local_role o.peer;
-  goes_on = o.is_kept;
-  peer = address_of o.peer;
-  from = o.from;
-  limit = call_limit (o.is_kept || nat_lt 1 o.links) o.timeout;
-  users = record { address = o.listen; count = o.count; is_patient = o.is_kept };
-  session = record {
-    side = Client;
-    window = o.window;
-    ping = o.ping;
-    keepalive = keepalive_of o.keepalive;
-    idle = o.idle;
-    names_users = o.names_users;
-    is_sounded = is_some o.ping || nat_lt 1 o.links || o.is_kept;
-    is_followed = o.is_kept;
-  };
-  places = local_places o.peer o.links;
-}
-
--- of `remote`: streams go to --target, --workers of them at once; with --keep or --peers it goes on; users don't come to it
-abbrev pub remote_terms : RemoteOptions → Terms
-remote_terms o = record {
-  role = remote_role o.peer;
-  goes_on = o.is_kept || is_some o.peers;
-  peer = address_of o.peer;
-  from = o.from;
-  limit = call_limit o.is_kept o.timeout;
-  users = record { address = address_of o.peer; count = None; is_patient = o.is_kept };
-  session = record {
-    side = Server o.target o.workers;
-    window = o.window;
-    ping = o.ping;
-    keepalive = keepalive_of o.keepalive;
-    idle = o.idle;
-    names_users = false;
-    is_sounded = is_some o.ping;
-    is_followed = o.is_kept || is_some o.peers;
-  };
-  places = remote_places o.peer o.peers o.is_kept;
-}
-
 -- what follows of a plan
 abbrev pub terms_of : Plan → Terms
-terms_of (Local o) = local_terms o
-terms_of (Remote o) = remote_terms o
+terms_of p = record {
+  role = role_of p.endpoint p.peer;
+  goes_on = goes_on_of p.endpoint p.is_kept;
+  peer = address_of p.peer;
+  from = p.from;
+  limit = call_limit (p.is_kept || has_links p.endpoint) p.timeout;
+  users = users_of p.endpoint (address_of p.peer) p.is_kept;
+  session = record {
+    endpoint = p.endpoint;
+    options = p.session;
+    is_sounded = is_some p.session.ping || asks_first p.endpoint p.is_kept;
+    is_followed = goes_on_of p.endpoint p.is_kept;
+  };
+  places = places_of p.endpoint p.peer p.is_kept;
+}

@@ -3,7 +3,7 @@
 ghost use Rattle.std.specs.Prelude.{◌≡◌};
 ghost use Rattle.ymx_policy.specs.Machine.{clean, why_of};
 
-use crate::options::Networks;
+use crate::options::{Endpoint, Networks, SessionOptions};
 use crate::reason::Reason;
 use std::net::SocketAddrV4;
 
@@ -16,20 +16,6 @@ pub struct Users {
     pub count: Option<u32>,
     /// A want of descriptors or of memory doesn't end it.
     pub is_patient: bool,
-}
-
-/// Which side of a session an end is.
-#[derive(Clone, Copy)]
-pub enum Side {
-    /// The yamux client: each user becomes a stream.
-    Client,
-    /// The yamux server: each stream becomes a connection to the target.
-    Server {
-        /// Where connections go to.
-        target: SocketAddrV4,
-        /// How many streams are served at once. Others wait.
-        workers: u32,
-    },
 }
 
 /// How the system sees whether the other side of a connection in which nothing comes is still there.
@@ -46,17 +32,9 @@ pub struct Keepalive {
 /// What a session is to be like.
 #[derive(Clone, Copy)]
 pub struct Session {
-    pub side: Side,
-    /// How many bytes of a stream may be unread here.
-    pub window: u32,
-    /// After how many seconds without a sign of the peer it is asked for one. None if never.
-    pub ping: Option<u32>,
-    /// How it is seen whether the other sides of its connections, the peer's among them, are still there. None if it isn't.
-    pub keepalive: Option<Keepalive>,
-    /// After how many seconds in which no byte moved a connection is aborted. None if never.
-    pub idle: Option<u32>,
-    /// Each stream begins with a line that says who its user is.
-    pub names_users: bool,
+    /// Whose it is: of a `local`, the yamux client, or of a `remote`, the server.
+    pub endpoint: Endpoint,
+    pub options: SessionOptions,
     /// The peer is asked for a sign of life at first, before which no user is given to it.
     pub is_sounded: bool,
     /// Others wait for its end: what lingers behind it is cut off after a while. Once its peer gives a sign of life, that is

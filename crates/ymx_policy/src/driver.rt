@@ -8,7 +8,7 @@ ghost use Rattle.ymx_policy.specs.declared.asks.Happened.{Happened as Heard};
 
 use crate::asks::{Ask, Deed, Happened};
 use crate::machine::State;
-use crate::plan::Plan;
+use crate::options::Plan;
 use std::sync::Wait;
 
 /// Who says and does what an end asks for.

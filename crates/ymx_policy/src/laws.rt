@@ -1,13 +1,12 @@
 //! What holds of each end at each moment, whatever happens: in the words of a user.
 
-ghost use Rattle.std.specs.Prelude.{◌≡◌, ◌≢◌, ◌⊎◌, ◌<◌, ◌≤◌, ◌||◌, ℕ, List, [], ◌∷◌, Bool, true, false, Some, None, is_some, length, map};
+ghost use Rattle.std.specs.Prelude.{◌≡◌, ◌≢◌, ◌⊎◌, ◌<◌, ◌≤◌, ◌||◌, ℕ, List, [], ◌∷◌, Bool, true, false, Option, Some, None, is_some, length, map};
 ghost use Rattle.std.specs.declared.net.socket_addr.SocketAddrV4.{SocketAddrV4 as Address};
 ghost use Rattle.ymx_policy.specs.Machine.{silence};
 ghost use Rattle.ymx_policy.specs.Past.{IsPast, asks, faults, reasons, with};
-ghost use Rattle.ymx_policy.specs.Plans.{terms_of, address_of, keepalive_of};
+ghost use Rattle.ymx_policy.specs.Plans.{address_of, asks_first, has_links, keepalive_of, places_of, terms_of};
 ghost use Rattle.ymx_policy.specs.Laws.{GoneFrom, NamesPlace, all_came_last, ends_well, failed_tries, has_opened, has_peer, is_clean, is_explained, is_local, is_port_last, is_told_there, last_deed, last_peer, pause_of, peers_of, spared_calls, status_of, tells_gone, told_by};
-ghost use Rattle.ymx_policy.specs.declared.options.LocalOptions.{LocalOptions as LocalGiven};
-ghost use Rattle.ymx_policy.specs.declared.options.RemoteOptions.{RemoteOptions as RemoteGiven};
+ghost use Rattle.ymx_policy.specs.declared.options.Plan.{Plan as Given};
 ghost use Rattle.ymx_policy.specs.declared.plan.Terms.{Terms as Told};
 ghost use Rattle.ymx_policy.specs.declared.asks.Ask.{Ask as Asked};
 ghost use Rattle.ymx_policy.specs.declared.asks.Happened.{Happened as Heard};
@@ -18,9 +17,9 @@ ghost use Rattle.ymx_policy.specs.declared.asks.Peers.{Peers as Awaiting};
 ghost use Rattle.ymx_policy.specs.declared.asks.SessionEnd.{SessionEnd as Ended};
 ghost use Rattle.ymx_policy.specs.declared.reason.Reason.{Reason as System};
 
-use crate::asks::{Deed, Fault, Happened, Named, Notice, Side};
-use crate::options::PeerAddress;
-use crate::plan::{Plan, Role};
+use crate::asks::{Deed, Fault, Happened, Named, Notice};
+use crate::options::{Endpoint, PeerAddress};
+use crate::plan::Role;
 
 /// The exit status is 0 exactly where no fault was said, and else 1. It is 0 only behind a session in which nothing went
 /// wrong, or where all users have come that were to.
@@ -122,48 +121,21 @@ pub fn does_as_told()
     ensures awaits { (t : Told) (past : List (Asked × Heard)) (peers : Awaiting) → IsPast t past → (asks t past).deed ≡ Deed.ListenForPeer peers → (peers.address ≡ t.peer) × (peers.from ≡ t.from) }
 {}
 
-/// Each option of `local` does what it says.
-pub fn local_options()
-    ensures listen { (o : LocalGiven) → (terms_of (Plan.Local o)).users.address ≡ o.listen }
-    ensures count { (o : LocalGiven) → (terms_of (Plan.Local o)).users.count ≡ o.count }
-    ensures peer { (o : LocalGiven) → (terms_of (Plan.Local o)).peer ≡ address_of o.peer }
-    ensures window { (o : LocalGiven) → (terms_of (Plan.Local o)).session.window ≡ o.window }
-    ensures ping { (o : LocalGiven) → (terms_of (Plan.Local o)).session.ping ≡ o.ping }
-    ensures keepalive { (o : LocalGiven) → (terms_of (Plan.Local o)).session.keepalive ≡ keepalive_of o.keepalive }
-    ensures idle { (o : LocalGiven) → (terms_of (Plan.Local o)).session.idle ≡ o.idle }
-    ensures named { (o : LocalGiven) → (terms_of (Plan.Local o)).session.names_users ≡ o.names_users }
-    ensures timeout { (o : LocalGiven) (n : ℕ) → o.timeout ≡ Some n → (terms_of (Plan.Local o)).limit ≡ Some n }
-    ensures awaited { (o : LocalGiven) → o.timeout ≡ None → (o.is_kept ≡ true) ⊎ (1 < o.links) → (terms_of (Plan.Local o)).limit ≡ Some 10 }
-    ensures unlimited { (o : LocalGiven) → o.timeout ≡ None → o.is_kept ≡ false → o.links ≤ 1 → (terms_of (Plan.Local o)).limit ≡ None }
-    ensures from { (o : LocalGiven) → (terms_of (Plan.Local o)).from ≡ o.from }
-    ensures sounded { (o : LocalGiven) → (is_some o.ping ≡ true) ⊎ (1 < o.links) ⊎ (o.is_kept ≡ true) → (terms_of (Plan.Local o)).session.is_sounded ≡ true }
-    ensures unsounded { (o : LocalGiven) → o.ping ≡ None → o.links ≤ 1 → o.is_kept ≡ false → (terms_of (Plan.Local o)).session.is_sounded ≡ false }
-    ensures side { (o : LocalGiven) → (terms_of (Plan.Local o)).session.side ≡ Side.Client }
-    ensures followed { (o : LocalGiven) → (terms_of (Plan.Local o)).session.is_followed ≡ (terms_of (Plan.Local o)).goes_on }
-    ensures keep { (o : LocalGiven) → (terms_of (Plan.Local o)).goes_on ≡ o.is_kept }
-    ensures links { (o : LocalGiven) (address : Address) → o.peer ≡ PeerAddress.Connect address → (terms_of (Plan.Local o)).places ≡ o.links }
-    ensures bound { (o : LocalGiven) (address : Address) → o.peer ≡ PeerAddress.Listen address → (terms_of (Plan.Local o)).places ≡ 1 }
-{}
-
-/// Each option of `remote` does what it says.
-pub fn remote_options()
-    ensures peer { (o : RemoteGiven) → (terms_of (Plan.Remote o)).peer ≡ address_of o.peer }
-    ensures side { (o : RemoteGiven) → (terms_of (Plan.Remote o)).session.side ≡ Side.Server o.target o.workers }
-    ensures window { (o : RemoteGiven) → (terms_of (Plan.Remote o)).session.window ≡ o.window }
-    ensures ping { (o : RemoteGiven) → (terms_of (Plan.Remote o)).session.ping ≡ o.ping }
-    ensures keepalive { (o : RemoteGiven) → (terms_of (Plan.Remote o)).session.keepalive ≡ keepalive_of o.keepalive }
-    ensures idle { (o : RemoteGiven) → (terms_of (Plan.Remote o)).session.idle ≡ o.idle }
-    ensures timeout { (o : RemoteGiven) (n : ℕ) → o.timeout ≡ Some n → (terms_of (Plan.Remote o)).limit ≡ Some n }
-    ensures awaited { (o : RemoteGiven) → o.timeout ≡ None → o.is_kept ≡ true → (terms_of (Plan.Remote o)).limit ≡ Some 10 }
-    ensures unlimited { (o : RemoteGiven) → o.timeout ≡ None → o.is_kept ≡ false → (terms_of (Plan.Remote o)).limit ≡ None }
-    ensures from { (o : RemoteGiven) → (terms_of (Plan.Remote o)).from ≡ o.from }
-    ensures sounded { (o : RemoteGiven) → (terms_of (Plan.Remote o)).session.is_sounded ≡ is_some o.ping }
-    ensures followed { (o : RemoteGiven) → (terms_of (Plan.Remote o)).session.is_followed ≡ (terms_of (Plan.Remote o)).goes_on }
-    ensures keep { (o : RemoteGiven) → (terms_of (Plan.Remote o)).goes_on ≡ (o.is_kept || is_some o.peers) }
-    ensures peers { (o : RemoteGiven) (address : Address) (n : ℕ) → o.peer ≡ PeerAddress.Listen address → o.peers ≡ Some n → (terms_of (Plan.Remote o)).places ≡ n }
-    ensures kept { (o : RemoteGiven) (address : Address) → o.peer ≡ PeerAddress.Listen address → o.peers ≡ None → o.is_kept ≡ true → (terms_of (Plan.Remote o)).places ≡ 16 }
-    ensures one { (o : RemoteGiven) → o.peers ≡ None → o.is_kept ≡ false → (terms_of (Plan.Remote o)).places ≡ 1 }
-    ensures called { (o : RemoteGiven) (address : Address) → o.peer ≡ PeerAddress.Connect address → (terms_of (Plan.Remote o)).places ≡ 1 }
+/// Each option does what it says.
+pub fn options_arrive()
+    ensures peer { (p : Given) → (terms_of p).peer ≡ address_of p.peer }
+    ensures session { (p : Given) → (terms_of p).session.options ≡ p.session }
+    ensures from { (p : Given) → (terms_of p).from ≡ p.from }
+    ensures followed { (p : Given) → (terms_of p).session.is_followed ≡ (terms_of p).goes_on }
+    ensures timeout { (p : Given) (n : ℕ) → p.timeout ≡ Some n → (terms_of p).limit ≡ Some n }
+    ensures awaited { (p : Given) → p.timeout ≡ None → (p.is_kept ≡ true) ⊎ (has_links p.endpoint ≡ true) → (terms_of p).limit ≡ Some 10 }
+    ensures unlimited { (p : Given) → p.timeout ≡ None → p.is_kept ≡ false → has_links p.endpoint ≡ false → (terms_of p).limit ≡ None }
+    ensures sounded { (p : Given) → (terms_of p).session.is_sounded ≡ (is_some p.session.ping || asks_first p.endpoint p.is_kept) }
+    ensures endpoint { (p : Given) → (terms_of p).session.endpoint ≡ p.endpoint }
+    ensures local { (p : Given) (listen : Address) (count : Option ℕ) (links : ℕ) (names : Bool) → p.endpoint ≡ Endpoint.Local listen count links names →
+        ((terms_of p).users ≡ record { address = listen; count = count; is_patient = p.is_kept }) × ((terms_of p).goes_on ≡ p.is_kept) }
+    ensures remote { (p : Given) (target : Address) (workers : ℕ) (peers : Option ℕ) → p.endpoint ≡ Endpoint.Remote target workers peers → (terms_of p).goes_on ≡ (p.is_kept || is_some peers) }
+    ensures places { (p : Given) → (terms_of p).places ≡ places_of p.endpoint p.peer p.is_kept }
 {}
 
 /// With `--keepalive 60` the system asks after 60 seconds of silence, and then every 15 seconds. It asks four times, and

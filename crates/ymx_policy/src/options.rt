@@ -82,32 +82,18 @@ fn any_is_all(networks: &[Network]) -> bool
     networks.iter().any(|network| network.bits == 0)
 }
 
-/// The options of `ymx local`.
+/// What an endpoint of a tunnel is told to do, as the words of a command line gave it.
 #[derive(Clone, Copy)]
-pub struct LocalOptions {
-    /// Where connections come from.
-    pub listen: SocketAddrV4,
+pub struct Plan {
+    pub endpoint: Endpoint,
     /// Where it meets the peer of its session.
     pub peer: PeerAddress,
-    /// How many connections are forwarded, or as many as come.
-    pub count: Option<u32>,
-    /// How many bytes of a stream may be unread here, 262,144 to 16,777,216.
-    pub window: u32,
-    /// Whether it meets its peer again once a session was lost: it connects at the next connection, or listens.
+    /// What each of its sessions is like.
+    pub session: SessionOptions,
+    /// Whether it meets a peer again once one has gone: a `local` that calls does at the next connection.
     pub is_kept: bool,
-    /// How many connections to its peer it keeps, 1 to 64: one where it listens for its peer.
-    pub links: u32,
-    /// After how many seconds without a sign of the peer it asks for one, 1 to 3,600. None if it never does.
-    pub ping: Option<u32>,
-    /// After how many seconds of silence the system asks the other side of each connection for a sign, 1 to 3,600. 0 if it
-    /// never does.
-    pub keepalive: u32,
     /// How many seconds a call to the peer may take, 1 to 3,600. None if the command line doesn't say.
     pub timeout: Option<u32>,
-    /// After how many seconds in which no byte moved a connection is aborted, 1 to 86,400. None if never.
-    pub idle: Option<u32>,
-    /// Whether each stream begins with the line of PROXY protocol, version 1, that says who its user is.
-    pub names_users: bool,
     /// From where its peer may call, where it listens for it.
     pub from: Networks,
     /// Where it answers requests for what it counts. None if nowhere.
@@ -118,36 +104,41 @@ pub struct LocalOptions {
     pub has_times: bool,
 }
 
-/// The options of `ymx remote`.
+/// Which endpoint it is, and what only that one is told.
 #[derive(Clone, Copy)]
-pub struct RemoteOptions {
-    /// Where it meets the peer of its session.
-    pub peer: PeerAddress,
-    /// Where connections go to.
-    pub target: SocketAddrV4,
+pub enum Endpoint {
+    /// `ymx local`: each connection becomes a stream.
+    Local {
+        /// Where connections come from.
+        listen: SocketAddrV4,
+        /// How many connections are forwarded, or as many as come.
+        count: Option<u32>,
+        /// How many connections to its peer it keeps, 1 to 64: one where it listens for its peer.
+        links: u32,
+        /// Whether each stream begins with the line of PROXY protocol, version 1, that says who its user is.
+        names_users: bool,
+    },
+    /// `ymx remote`: each stream becomes a connection to the target.
+    Remote {
+        /// Where connections go to.
+        target: SocketAddrV4,
+        /// How many streams are served at once, 1 to 1,024.
+        workers: u32,
+        /// How many peers it serves at once, 1 to 256. None if the command line doesn't say.
+        peers: Option<u32>,
+    },
+}
+
+/// What a session is like.
+#[derive(Clone, Copy)]
+pub struct SessionOptions {
     /// How many bytes of a stream may be unread here, 262,144 to 16,777,216.
     pub window: u32,
-    /// How many streams are served at once, 1 to 1,024.
-    pub workers: u32,
-    /// Whether it meets the next peer once one has gone.
-    pub is_kept: bool,
-    /// How many peers it serves at once, 1 to 256. None if the command line doesn't say.
-    pub peers: Option<u32>,
-    /// After how many seconds without a sign of the peer it asks for one, 1 to 3,600. None if it never does.
+    /// After how many seconds without a sign of the peer it is asked for one, 1 to 3,600. None if it never is.
     pub ping: Option<u32>,
     /// After how many seconds of silence the system asks the other side of each connection for a sign, 1 to 3,600. 0 if it
     /// never does.
     pub keepalive: u32,
-    /// How many seconds a call to the peer may take, 1 to 3,600. None if the command line doesn't say.
-    pub timeout: Option<u32>,
     /// After how many seconds in which no byte moved a connection is aborted, 1 to 86,400. None if never.
     pub idle: Option<u32>,
-    /// From where its peer may call, where it listens for it.
-    pub from: Networks,
-    /// Where it answers requests for what it counts. None if nowhere.
-    pub status: Option<SocketAddrV4>,
-    /// Whether it says that it is ready, and how each connection ended.
-    pub is_verbose: bool,
-    /// Whether each line on standard error begins with the time.
-    pub has_times: bool,
 }

@@ -1,10 +1,10 @@
 //! What an end is told to do, and what follows of it.
 
 ghost use Rattle.std.specs.Prelude.{◌≡◌};
-ghost use Rattle.ymx_policy.specs.Plans.{address_of, call_limit, keepalive_of, local_places, local_role, local_terms, remote_places, remote_role, remote_terms, terms_of};
+ghost use Rattle.ymx_policy.specs.Plans.{address_of, call_limit, keepalive_of, places_of, role_of, terms_of};
 
-use crate::asks::{Keepalive, Session, Side, Users};
-use crate::options::{LocalOptions, Networks, PeerAddress, RemoteOptions};
+use crate::asks::{Keepalive, Session, Users};
+use crate::options::{Endpoint, Networks, PeerAddress, Plan};
 use std::net::SocketAddrV4;
 
 /// How many peers a `remote` with `--keep` serves at once where the command line says nothing.
@@ -15,13 +15,6 @@ const TIMEOUT: u32 = 10;
 
 /// How often the system asks for a sign before a connection fails.
 const PROBES: u32 = 4;
-
-/// What an end is told to do: its options as they were read.
-#[derive(Clone, Copy)]
-pub enum Plan {
-    Local(LocalOptions),
-    Remote(RemoteOptions),
-}
 
 /// Which end of a tunnel it is, and whether it calls its peer or awaits it.
 #[derive(Clone, Copy)]
@@ -67,20 +60,8 @@ impl PeerAddress {
     }
 }
 
-impl Plan {
-    /// What follows of it.
-    pub fn terms(self) -> Terms
-        ensures { result ≡ terms_of self }
-    {
-        match self {
-            Plan::Local(options) => local_terms(options),
-            Plan::Remote(options) => remote_terms(options),
-        }
-    }
-}
-
 /// How the system asks for signs after so many seconds of silence, and then after each quarter of them. None for 0.
-fn keepalive_of(seconds: u32) -> Option<Keepalive>
+pub fn keepalive_of(seconds: u32) -> Option<Keepalive>
     ensures { result ≡ keepalive_of seconds }
 {
     if seconds == 0 {
@@ -100,75 +81,56 @@ fn call_limit(is_awaited: bool, timeout: Option<u32>) -> Option<u32>
     timeout.or(is_awaited.then_some(TIMEOUT))
 }
 
-/// What follows of the options of `local`.
-fn local_terms(options: LocalOptions) -> Terms
-    ensures { result ≡ local_terms options }
-{
-    let has_links = options.links > 1;
-    let (role, places) = match options.peer {
-        PeerAddress::Connect(_) => (Role::LocalCalls, options.links),
-        PeerAddress::Listen(_) => (Role::LocalAwaits, 1),
-    };
-    Terms {
-        role,
-        goes_on: options.is_kept,
-        peer: options.peer.address(),
-        from: options.from,
-        limit: call_limit(options.is_kept || has_links, options.timeout),
-        users: Users {
-            address: options.listen,
-            count: options.count,
-            is_patient: options.is_kept,
-        },
-        session: Session {
-            side: Side::Client,
-            window: options.window,
-            ping: options.ping,
-            keepalive: keepalive_of(options.keepalive),
-            idle: options.idle,
-            names_users: options.names_users,
-            is_sounded: options.ping.is_some() || has_links || options.is_kept,
-            is_followed: options.is_kept,
-        },
-        places,
-    }
-}
-
-/// What follows of the options of `remote`.
-fn remote_terms(options: RemoteOptions) -> Terms
-    ensures { result ≡ remote_terms options }
-{
-    let goes_on = options.is_kept || options.peers.is_some();
-    let (role, places) = match (options.peer, options.peers) {
-        (PeerAddress::Connect(_), _) => (Role::RemoteCalls, 1),
-        (PeerAddress::Listen(_), Some(peers)) => (Role::RemoteAwaits, peers),
-        (PeerAddress::Listen(_), None) if options.is_kept => (Role::RemoteAwaits, PEERS),
-        (PeerAddress::Listen(_), None) => (Role::RemoteAwaits, 1),
-    };
-    Terms {
-        role,
-        goes_on,
-        peer: options.peer.address(),
-        from: options.from,
-        limit: call_limit(options.is_kept, options.timeout),
-        users: Users {
-            address: options.peer.address(),
-            count: None,
-            is_patient: options.is_kept,
-        },
-        session: Session {
-            side: Side::Server {
-                target: options.target,
-                workers: options.workers,
+impl Plan {
+    /// What follows of it.
+    pub fn terms(self) -> Terms
+        ensures { result ≡ terms_of self }
+    {
+        let (is_kept, peer) = (self.is_kept, self.peer.address());
+        let (role, places) = self.role_and_places();
+        let has_users = matches!(self.endpoint, Endpoint::Local { .. });
+        let (count, has_links) = match self.endpoint {
+            Endpoint::Local { count, links, .. } => (count, links > 1),
+            Endpoint::Remote { .. } => (None, false),
+        };
+        let (address, goes_on) = match self.endpoint {
+            Endpoint::Local { listen, .. } => (listen, is_kept),
+            Endpoint::Remote { peers, .. } => (peer, is_kept || peers.is_some()),
+        };
+        let is_awaited = is_kept || has_links;
+        Terms {
+            role,
+            goes_on,
+            peer,
+            from: self.from,
+            limit: call_limit(is_awaited, self.timeout),
+            users: Users {
+                address,
+                count,
+                is_patient: is_kept,
             },
-            window: options.window,
-            ping: options.ping,
-            keepalive: keepalive_of(options.keepalive),
-            idle: options.idle,
-            names_users: false,
-            is_sounded: options.ping.is_some(),
-            is_followed: goes_on,
-        },
-        places,
+            session: Session {
+                endpoint: self.endpoint,
+                options: self.session,
+                is_sounded: self.session.ping.is_some() || has_users && is_awaited,
+                is_followed: goes_on,
+            },
+            places,
+        }
+    }
+
+    /// Which end it is, and how many sessions it may have at once.
+    fn role_and_places(self) -> (Role, u32)
+        ensures { result ≡ (role_of self.endpoint self.peer, places_of self.endpoint self.peer self.is_kept) }
+    {
+        match (self.endpoint, self.peer) {
+            (Endpoint::Local { links, .. }, PeerAddress::Connect(_)) => (Role::LocalCalls, links),
+            (Endpoint::Local { .. }, PeerAddress::Listen(_)) => (Role::LocalAwaits, 1),
+            (Endpoint::Remote { .. }, PeerAddress::Connect(_)) => (Role::RemoteCalls, 1),
+            (Endpoint::Remote { peers, .. }, PeerAddress::Listen(_)) => {
+                let usual = if self.is_kept { PEERS } else { 1 };
+                (Role::RemoteAwaits, peers.unwrap_or(usual))
+            }
+        }
     }
 }
