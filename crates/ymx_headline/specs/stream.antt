@@ -8,5 +8,3 @@ pub mod OneStream
 pub mod Faults
 pub mod StreamLaws
 pub mod Worlds
-pub mod WorldLaws
-pub mod Example

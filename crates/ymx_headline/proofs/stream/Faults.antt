@@ -78,12 +78,3 @@ pub related-breaks : (f : Part) (wx wy : ℕ) (x y : End) (xy yx : List Part) (s
 related-breaks f wx wy x y xy yx s (inl c) = alive-breaks f wx wy x y xy yx s c
 related-breaks f wx wy x y xy yx s (inr (inl c)) = absurd (no_list c.gone)
 related-breaks f wx wy x y xy yx s (inr (inr c)) = said-breaks f wx wy x y xy yx s c
-
--- an end never has more credit than the peer's window, and never holds more than its own
-alive-within : (wx wy : ℕ) (x y : End) (xy yx : List Part) (s : Stream) → takes x.phase ≡ true → Alive wx wy x y xy yx s → (x.writer.credit ≤ wy) × (length x.reader.unread ≤ wx)
-alive-within wx wy x y xy yx s t c = let o = c.outbound.holds in let i = c.inbound.holds in grind (arith, lists)
-
-pub related-within : (wx wy : ℕ) (x y : End) (xy yx : List Part) (s : Stream) → takes x.phase ≡ true → Related wx wy x y xy yx s → (x.writer.credit ≤ wy) × (length x.reader.unread ≤ wx)
-related-within wx wy x y xy yx s t (inl c) = alive-within wx wy x y xy yx s t c
-related-within wx wy x y xy yx s t (inr (inl c)) = absurd ((down-takes x.phase c.spent_x.down).1 t)
-related-within wx wy x y xy yx s t (inr (inr c)) = absurd ((down-takes x.phase c.spent_y.down).1 t)

@@ -197,34 +197,6 @@ abbrev pub CanHappen : Happening → StreamWorld → Type 0
 CanHappen (AtA act) w = Can act w
 CanHappen (AtB act) w = Can act (stream_mirror w)
 
--- whether the oldest part under way is of the stream i
-abbrev pub is_first_of : ℕ → List (ℕ × Part) → Bool
-is_first_of i [] = false
-is_first_of i (p ∷ ps) = i == p.0
-
--- whether an act at side a is one on the stream i
-abbrev pub touches : ℕ → Act → StreamWorld → Bool
-touches i (Opens j with_data bytes) w = i == j
-touches i (Calls j call reply next) w = i == j
-touches i (Accepts j) w = i == j
-touches i (Sends j k limit) w = i == j
-touches i (Comes refuse) w = is_first_of i w.ba
-touches i (ComesIn n) w = is_first_of i w.ba
-touches i (Releases j) w = i == j
-touches i Ends w = false
-touches i Stops w = false
-
-abbrev pub touches_at : ℕ → Happening → StreamWorld → Bool
-touches_at i (AtA act) w = touches i act w
-touches_at i (AtB act) w = touches i act (stream_mirror w)
-
--- the ends of the stream i, and what is under way of it, are the same in both worlds
-pub record SameStream (i : ℕ) (w v : StreamWorld) : Type 0 where
-  pub a : v.a.ends i ≡ w.a.ends i
-  pub b : v.b.ends i ≡ w.b.ends i
-  pub ab : parts_of_stream i v.ab ≡ parts_of_stream i w.ab
-  pub ba : parts_of_stream i v.ba ≡ parts_of_stream i w.ba
-
 -- ---- the machine's streams beside it
 
 -- the machine's moves where the oldest part comes, which breaks no rule
@@ -267,10 +239,3 @@ StillIf wx wy (Some s) = IsStill wx wy s
 -- every stream is still
 abbrev pub AllStill : StreamWorld → Streams → Type 0
 AllStill w m = (i : ℕ) → StillIf w.a.window w.b.window (m i)
-
--- A run of the machine's streams beside the two sides: each happening that can take place is a step of
--- theirs, and they are still whenever the sides are quiet.
-abbrev pub RunsBeside : List Happening → StreamWorld → Streams → Type 0
-RunsBeside [] w m = Unit {0}
-RunsBeside (e ∷ es) w m = CanHappen e w →
-    (n : Streams) × StreamStepsAt e w m n × (IsQuietWorld (happens e w) → AllStill (happens e w) n) × RunsBeside es (happens e w) n
