@@ -2,3 +2,4 @@
 pub mod Calls
 pub mod Frames
 pub mod Comes
+pub mod Ends

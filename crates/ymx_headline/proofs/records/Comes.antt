@@ -9,7 +9,8 @@ use Rattle.ymx_model.specs.session.Parts.Part.{Syn, Ack, Data, Credit, Fin}
 use Rattle.ymx_model.specs.session.Arrivals.{is_data, payload, delta, acknowledges, take_head}
 use Rattle.ymx_machine.proofs.Tests.{agrees, both_of}
 use Rattle.ymx_headline.specs.stream.Arrivals.{comes_to}
-use Rattle.ymx_headline.specs.records.Sides.{opening, all_come}
+use Rattle.ymx_headline.specs.records.Sides.{opening}
+use Rattle.ymx_headline.proofs.records.Ends.{all_come}
 
 -- ---- parts one after the other
 

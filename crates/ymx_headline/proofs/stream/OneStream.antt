@@ -24,7 +24,7 @@ use Rattle.ymx_headline.proofs.stream.Rules.{forgets_lost, shows, law-call, law-
 use Rattle.ymx_headline.proofs.stream.Calls.{none-done, related-accepts, related-goes, related-releases}
 use Rattle.ymx_headline.proofs.stream.Sends.{related-sends}
 use Rattle.ymx_headline.proofs.stream.Faults.{related-breaks}
-use Rattle.ymx_headline.specs.stream.Faults.{BreaksNothing}
+use Rattle.ymx_headline.proofs.stream.Faults.{BreaksNothing}
 use Rattle.ymx_machine.specs.shared.Limits.{first_credit}
 use Rattle.ymx_headline.proofs.stream.Still.{related-still}
 use Rattle.ymx_headline.proofs.stream.Comes.{part-comes, piece-comes, payload-over}

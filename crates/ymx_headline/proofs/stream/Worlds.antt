@@ -15,16 +15,18 @@ use Rattle.ymx_model.specs.declared.types.FrameKind.{FrameKind}
 use Rattle.ymx_model.specs.session.FramesDue.{next_kind, begin_frame}
 use Rattle.ymx_model.specs.session.Parts.{Part, parts_of}
 use Rattle.ymx_model.specs.session.Parts.Part.{Syn, Ack, Data, Credit, Fin, Rst}
-use Rattle.ymx_headline.specs.stream.Flight.{load, part_is_data}
+use Rattle.ymx_headline.specs.stream.Flight.{load}
+use Rattle.ymx_headline.proofs.stream.Happenings.{part_is_data}
 use Rattle.ymx_headline.specs.stream.Links.{Related}
 use Rattle.ymx_headline.specs.stream.Arrivals.{comes_to, Goes}
-use Rattle.ymx_headline.specs.stream.Faults.{BreaksNothing}
+use Rattle.ymx_headline.proofs.stream.Faults.{BreaksNothing}
 use Rattle.ymx_headline.proofs.stream.Flight.{no_list}
 use Rattle.ymx_headline.specs.stream.Answers.{end_released}
 use Rattle.ymx_headline.specs.stream.OneStream.{IsOneStream, IsQuiet}
-use Rattle.ymx_headline.specs.stream.Worlds.{parts_of_stream, tagged, put, put_end, StreamWorld, stream_mirror, new_streams, Streams, no_streams, flip_some, mirrored, Changes, Same, IsFresh, AreOne, Refines, Act, Happening, rest_of, came, came_in, acts, happens, is_payload, Can, CanHappen, Delivers, StreamSteps, StreamStepsAt, IsQuietWorld, StillIf, AllStill}
-use Rattle.ymx_headline.specs.stream.Worlds.Act.{Opens, Calls, Accepts, Sends, Comes, ComesIn, Releases, Ends, Stops}
-use Rattle.ymx_headline.specs.stream.Worlds.Happening.{AtA, AtB}
+use Rattle.ymx_headline.specs.stream.Worlds.{parts_of_stream, tagged, StreamWorld, Streams, IsFresh, AreOne, Refines}
+use Rattle.ymx_headline.proofs.stream.Happenings.{put, put_end, stream_mirror, new_streams, no_streams, flip_some, mirrored, Changes, Same, Act, Happening, rest_of, came, came_in, acts, happens, is_payload, Can, CanHappen, Delivers, StreamSteps, StreamStepsAt, IsQuietWorld, StillIf, AllStill}
+use Rattle.ymx_headline.proofs.stream.Happenings.Act.{Opens, Calls, Accepts, Sends, Comes, ComesIn, Releases, Ends, Stops}
+use Rattle.ymx_headline.proofs.stream.Happenings.Happening.{AtA, AtB}
 use Rattle.ymx_headline.proofs.stream.Links.{not_not}
 use Rattle.ymx_headline.proofs.stream.Nothing.{absent-only}
 use Rattle.ymx_headline.proofs.stream.OneStream.{one-begins, one-flip, one-calls, one-accepts, one-shows, one-sends, one-comes, one-pieces, one-releases, one-loses, one-still, one-breaks}
