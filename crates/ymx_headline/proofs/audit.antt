@@ -3,4 +3,3 @@ pub mod Over
 pub mod Events
 pub mod Orders
 pub mod OneRun
-pub mod Worked

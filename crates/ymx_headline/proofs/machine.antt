@@ -4,4 +4,3 @@ pub mod faces
 pub mod lanes
 pub mod order
 pub mod RunStates
-pub mod WorkedRuns

@@ -1,5 +1,5 @@
 -- What a session does to each of its streams.
 pub mod Calls
 pub mod Frames
-pub mod Starts
 pub mod Comes
+pub mod Ends

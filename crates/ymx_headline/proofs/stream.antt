@@ -14,4 +14,5 @@ pub mod Rules
 pub mod Still
 pub mod OneStream
 pub mod Faults
+pub mod Happenings
 pub mod Worlds

@@ -5,4 +5,3 @@ pub mod Faces
 pub mod Arrivals
 pub mod Numbers
 pub mod Others
-pub mod Examples

@@ -5,8 +5,5 @@ pub mod Links
 pub mod Arrivals
 pub mod Answers
 pub mod OneStream
-pub mod Faults
 pub mod StreamLaws
 pub mod Worlds
-pub mod WorldLaws
-pub mod Example

@@ -1,25 +1,21 @@
 //! Laws of the queue machine by itself, over all runs. Its calls do nothing: each contract is a theorem.
-ghost use Rattle.std.specs.Prelude.{◌%◌, ◌≡◌, ◌≢◌, ◌⊎◌, ◌≤◌, ℕ, List, Bool, None, Some, true};
+ghost use Rattle.std.specs.Prelude.{◌%◌, ◌≡◌, ◌≢◌, ◌⊎◌, ◌≤◌, ℕ, List, None, Some, true};
 ghost use Rattle.ymx_machine.specs.shared.Evidence.{evidence};
 ghost use Rattle.ymx_machine.specs.declared.types.Answer.{Answer};
 ghost use Rattle.ymx_machine.specs.shared.Events.{Call};
 ghost use Rattle.ymx_machine.specs.declared.types.CallFault.TheVariants.{OutOfMemory};
 ghost use Rattle.ymx_machine.specs.declared.types.Reply.TheVariants.{Refused};
 ghost use Rattle.ymx_machine.specs.shared.Events.{Reply};
-ghost use Rattle.ymx_machine.specs.declared.types.Side.TheVariants.{A, B};
 ghost use Rattle.ymx_machine.specs.declared.types.Step.{Step};
 ghost use Rattle.ymx_machine.specs.machine.FreeMoves.{FreeMove, moved_by};
 ghost use Rattle.ymx_machine.specs.shared.Limits.{first_credit};
 ghost use Rattle.ymx_machine.specs.machine.CallRules.{Rule};
-ghost use Rattle.ymx_machine.specs.machine.Runs.{IsStillMachine, MachineRun, MachineStep};
+ghost use Rattle.ymx_machine.specs.machine.Runs.{MachineRun, MachineStep};
 ghost use Rattle.ymx_machine.specs.machine.Machines.{Machine, new_machine};
 ghost use Rattle.ymx_machine.specs.shared.Lists.{look};
-ghost use Rattle.ymx_headline.specs.machine.Examples.{HasCome, crossing_answers, crossing_steps, forgotten_answers, forgotten_steps, first_machine, vanishing_answers, vanishing_steps};
 ghost use Rattle.ymx_headline.specs.machine.Numbers.{HasBothParities, HasOrder};
 ghost use Rattle.ymx_headline.specs.machine.Others.{needs_memory, touched, touched_by};
-ghost use Rattle.ymx_headline.specs.machine.Runs.{ObeysAt, StillRun};
-ghost use Rattle.ymx_headline.specs.machine.Arrivals.{AllArrive, AllAreGiven, AllAreOffered, AllTakeEnough};
-ghost use Rattle.ymx_headline.specs.machine.Faces.{DeliversWithin};
+ghost use Rattle.ymx_headline.specs.machine.Runs.{ObeysAt};
 
 /// The law of a lane (flow control): in every run from a new machine, the bytes on their way, the
 /// bytes unread, the credit and what is owed of it are never more than the reader's window.
@@ -28,39 +24,6 @@ pub fn lane_law()
         first_credit ≤ window_a → first_credit ≤ window_b →
         MachineRun steps answers (new_machine window_a first_a window_b first_b) m →
         ObeysAt window_a window_b (look id m.streams) }
-{}
-
-/// The face: in every run of a side with odd stream numbers and one with even ones, what one side got
-/// of a stream is a beginning of what the other wrote to it, and all of it once a read was answered
-/// with the end. What was written and not got is never more than the reader's window.
-pub fn face()
-    ensures both_directions { (window_a first_a window_b first_b : ℕ) (steps : List Step) (answers : List Answer) (m : Machine) (id : ℕ) →
-        first_credit ≤ window_a → first_credit ≤ window_b → first_a % 2 ≡ 1 → first_b % 2 ≡ 0 →
-        MachineRun steps answers (new_machine window_a first_a window_b first_b) m →
-        DeliversWithin window_b A B id steps answers × DeliversWithin window_a B A id steps answers }
-{}
-
-/// Bytes arrive. The machine is at rest where it is still and open, and after the reads and accepts that follow. There a
-/// read gives the first of all that was written and not yet got; where nothing is left, the end if the writer finished,
-/// and else that there is nothing yet. It is refused only where one of the sides hasn't the stream (clause `reads`).
-///
-/// Where an accept finds no stream there, its side was given each stream that the other has, if it had no cause to refuse
-/// one (clause `accepts`), and else each one of which the other side's read isn't refused (clause `offers`). Where the
-/// machine is still, a write takes all its bytes, or so many that more than half of the reader's window is unread (clause
-/// `writes`).
-pub fn arrival()
-    ensures reads { (window_a first_a window_b first_b : ℕ) (steps : List Step) (answers : List Answer) (quiet : List Bool) (m : Machine) →
-        first_credit ≤ window_a → first_credit ≤ window_b → first_a % 2 ≡ 1 → first_b % 2 ≡ 0 →
-        StillRun steps answers quiet (new_machine window_a first_a window_b first_b) m → AllArrive steps answers quiet }
-    ensures accepts { (window_a first_a window_b first_b : ℕ) (steps : List Step) (answers : List Answer) (quiet : List Bool) (m : Machine) →
-        first_credit ≤ window_a → first_credit ≤ window_b → first_a % 2 ≡ 1 → first_b % 2 ≡ 0 →
-        StillRun steps answers quiet (new_machine window_a first_a window_b first_b) m → AllAreGiven steps answers quiet }
-    ensures offers { (window_a first_a window_b first_b : ℕ) (steps : List Step) (answers : List Answer) (quiet : List Bool) (m : Machine) →
-        first_credit ≤ window_a → first_credit ≤ window_b → first_a % 2 ≡ 1 → first_b % 2 ≡ 0 →
-        StillRun steps answers quiet (new_machine window_a first_a window_b first_b) m → AllAreOffered steps answers quiet }
-    ensures writes { (window_a first_a window_b first_b : ℕ) (steps : List Step) (answers : List Answer) (quiet : List Bool) (m : Machine) →
-        first_credit ≤ window_a → first_credit ≤ window_b → first_a % 2 ≡ 1 → first_b % 2 ≡ 0 →
-        StillRun steps answers quiet (new_machine window_a first_a window_b first_b) m → AllTakeEnough window_a window_b steps answers quiet }
 {}
 
 /// Stream identifiers: in every run each number stands once, below its opener's next number and odd or
@@ -91,12 +54,4 @@ pub fn one_answer()
     ensures { (c : Call) (m n k : Machine) (r other : Reply) → Rule c m r n → Rule c m other k →
         r ≢ Refused (OutOfMemory evidence) →
         (other ≡ r) ⊎ ((other ≡ Refused (OutOfMemory evidence)) × (needs_memory r ≡ true)) }
-{}
-
-/// Worked examples: these steps may have these answers. How many bytes an emission gives and a delivery
-/// takes is free in the machine, which knows no frames, so those counts say nothing here.
-pub fn worked_examples()
-    ensures refused_with_its_bytes { (n : Machine) × MachineRun vanishing_steps vanishing_answers first_machine n × HasCome 1 n }
-    ensures given_up_at_once { (n : Machine) × MachineRun forgotten_steps forgotten_answers first_machine n }
-    ensures resets_cross { (n : Machine) × MachineRun crossing_steps crossing_answers first_machine n × IsStillMachine n }
 {}

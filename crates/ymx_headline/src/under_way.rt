@@ -1,6 +1,5 @@
-//! Laws of two sessions joined by pipes, over the definitions of `ymx_model`: what is under way from one
-//! to the other is whole frames. Each public function is a law: it does nothing, and its contract is the
-//! theorem.
+//! Bytes to frames: what is under way between two sessions joined by pipes is whole frames. The function does
+//! nothing: its contract is the theorem.
 ghost use Rattle.std.specs.Prelude.{◌≡◌, ◌^◌, ◌<◌, ◌≤◌, [], ℕ, List, Bool, true, false, take, None};
 ghost use Rattle.ymx_header.specs.Headers.{header_of};
 ghost use Rattle.ymx_machine.specs.declared.types.Answer.{Answer};

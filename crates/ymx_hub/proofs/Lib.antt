@@ -1,6 +1,7 @@
 pub mod History
 pub mod Journals
 pub mod Extends
+pub mod Entered
 pub mod Books
 pub mod Spares
 pub mod Given

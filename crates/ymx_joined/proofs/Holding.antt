@@ -1,6 +1,8 @@
 -- Which streams a side was given and left, and which finishes were done, in a joint order of two histories.
 use Rattle.std.proofs.Common.{◌≡◌, ℕ, List, [], ◌∷◌, Bool, true, false, ◌||◌, ◌&&◌, ◌==◌, None, Some, refl, ap, ◌∙◌}
 use Rattle.ymx_machine.specs.declared.types.Side.{Side}
+use Rattle.ymx_machine.specs.declared.types.Direction.{Direction}
+use Rattle.ymx_machine.specs.declared.types.Step.{Step}
 use Rattle.ymx_machine.specs.declared.types.Step.TheVariants as step
 use Rattle.ymx_machine.specs.declared.types.Answer.{Answer}
 use Rattle.ymx_machine.specs.declared.types.Answer.TheVariants as answer
@@ -43,41 +45,32 @@ far_left near far apart id (call.Reset to) answer.Done = rw apart refl
 far_left near far apart id (call.Forget to) answer.Done = rw apart refl
 far_left near far apart id c g = refl
 
-abbrev pub given_of : (near far : Side) → is_same_side near far ≡ false → ℕ → Gathers near far Bool
-given_of near far apart id = record {
+-- whether any step is such a one of the near side
+abbrev any_of : (near far : Side) (by : Step → Answer → Bool) → ((c : Call) (g : Answer) → by (step.At far c) g ≡ false) →
+    ((side : Side) (n : ℕ) (g : Answer) → by (step.Emit side n) g ≡ false) → ((d : Direction) (n : ℕ) (g : Answer) → by (step.Deliver d n) g ≡ false) →
+    ((d : Direction) (g : Answer) → by (step.Stop d) g ≡ false) → ((d : Direction) (g : Answer) → by (step.End d) g ≡ false) → Gathers near far Bool
+any_of near far by far_call emits delivers stops ends = record {
   unit = false;
   op = λ x y. x || y;
   unit_left = λ x. refl;
-  all = any_step (began_by near id);
-  one = began_by near id;
+  all = any_step by;
+  one = by;
   none = refl;
   next = λ st sts g gs. refl;
-  at = λ c told. began_by near id (step.At near c) (answer_of told);
+  at = λ c told. by (step.At near c) (answer_of told);
   own = λ c told p. refl;
-  far_call = far_given near far apart id;
-  emits = λ side n g. refl;
-  delivers = λ d n g. refl;
-  stops = λ d g. refl;
-  ends = λ d g. refl;
+  far_call = far_call;
+  emits = emits;
+  delivers = delivers;
+  stops = stops;
+  ends = ends;
 }
 
+abbrev pub given_of : (near far : Side) → is_same_side near far ≡ false → ℕ → Gathers near far Bool
+given_of near far apart id = any_of near far (began_by near id) (far_given near far apart id) (λ side n g. refl) (λ d n g. refl) (λ d g. refl) (λ d g. refl)
+
 abbrev pub left_of : (near far : Side) → is_same_side near far ≡ false → ℕ → Gathers near far Bool
-left_of near far apart id = record {
-  unit = false;
-  op = λ x y. x || y;
-  unit_left = λ x. refl;
-  all = any_step (left_by near id);
-  one = left_by near id;
-  none = refl;
-  next = λ st sts g gs. refl;
-  at = λ c told. left_by near id (step.At near c) (answer_of told);
-  own = λ c told p. refl;
-  far_call = far_left near far apart id;
-  emits = λ side n g. refl;
-  delivers = λ d n g. refl;
-  stops = λ d g. refl;
-  ends = λ d g. refl;
-}
+left_of near far apart id = any_of near far (left_by near id) (far_left near far apart id) (λ side n g. refl) (λ d n g. refl) (λ d g. refl) (λ d g. refl)
 
 own_given : (near : Side) (id : ℕ) (c : Call) (told : Reply) → opens_at id (event.Call c) told ≡ true → began_by near id (step.At near c) (answer_of told) ≡ true
 own_given near id call.Open (reply.Opened to) h = ap (λ (b : Bool). b && (to == id)) (same_side near) ∙ h

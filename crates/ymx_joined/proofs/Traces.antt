@@ -72,14 +72,14 @@ turn_calls side at p en e told steps rest gs behind begins h same =
 -- ---- over a joint order
 
 -- one entry of a side: what is left of its pipe then, and of the order
-record Turned (side : Side) (x : Entry) (pipe : Pipe) (steps : List Step) (Joint : Pipe → List Step → Type 0) : Type 0 where
-  left : Pipe
-  rest : List Step
-  gets : Gets x.event x.reply pipe left
-  begins : steps ≡ world_steps side pipe x.event ++ rest
-  joint : Joint left rest
+pub record Turned (side : Side) (x : Entry) (pipe : Pipe) (steps : List Step) (Joint : Pipe → List Step → Type 0) : Type 0 where
+  pub left : Pipe
+  pub rest : List Step
+  pub gets : Gets x.event x.reply pipe left
+  pub begins : steps ≡ world_steps side pipe x.event ++ rest
+  pub joint : Joint left rest
 
-turn_a : (turns : List Bool) (ab ba : Pipe) (x : Entry) (xs ys : List Entry) (steps : List Step) → IsJoint (true ∷ turns) ab ba (x ∷ xs) ys steps →
+pub turn_a : (turns : List Bool) (ab ba : Pipe) (x : Entry) (xs ys : List Entry) (steps : List Step) → IsJoint (true ∷ turns) ab ba (x ∷ xs) ys steps →
     Turned A x ba steps (λ left rest. IsJoint turns (sent_into x.event x.reply ab) left xs ys rest)
 turn_a turns ab ba x xs ys steps (y, more, r, rest, is, g, st, k) =
     let same : y ≡ x = cc in
@@ -92,7 +92,7 @@ turn_a turns ab ba x xs ys steps (y, more, r, rest, is, g, st, k) =
       joint = subst (λ (v : List Entry). IsJoint turns (sent_into x.event x.reply ab) r v ys rest) behind (subst (λ (v : Entry). IsJoint turns (sent_into v.event v.reply ab) r more ys rest) same k);
     }
 
-turn_b : (turns : List Bool) (ab ba : Pipe) (y : Entry) (xs ys : List Entry) (steps : List Step) → IsJoint (false ∷ turns) ab ba xs (y ∷ ys) steps →
+pub turn_b : (turns : List Bool) (ab ba : Pipe) (y : Entry) (xs ys : List Entry) (steps : List Step) → IsJoint (false ∷ turns) ab ba xs (y ∷ ys) steps →
     Turned B y ab steps (λ left rest. IsJoint turns left (sent_into y.event y.reply ba) xs ys rest)
 turn_b turns ab ba y xs ys steps (x, more, r, rest, is, g, st, k) =
     let same : x ≡ y = cc in
@@ -106,7 +106,7 @@ turn_b turns ab ba y xs ys steps (x, more, r, rest, is, g, st, k) =
     }
 
 -- whether its pipe has ended then
-ended_behind : (en : Bool) (x : Entry) (pipe left : Pipe) → Gets x.event x.reply pipe left → pipe.ended ≡ en → left.ended ≡ is_ended_behind en x.event
+pub ended_behind : (en : Bool) (x : Entry) (pipe left : Pipe) → Gets x.event x.reply pipe left → pipe.ended ≡ en → left.ended ≡ is_ended_behind en x.event
 ended_behind en x pipe left g h = gets-ended x.event x.reply pipe left g ∙ ap (λ (b : Bool). is_ended_behind b x.event) h
 
 -- The calls of each side in a run are those of its history.

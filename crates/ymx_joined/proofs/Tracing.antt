@@ -1,5 +1,5 @@
 -- What a side writes, reads, finishes and sees the end of, in a joint order of two histories.
-use Rattle.std.proofs.Common.{◌≡◌, ℕ, ◌+◌, ◌==◌, List, [], ◌∷◌, ◌++◌, length, take, Bool, true, false, ◌||◌, ◌&&◌, if◌then◌else◌, refl, sym, ap, subst, ◌∙◌}
+use Rattle.std.proofs.Common.{◌≡◌, ℕ, ◌+◌, ◌==◌, List, [], ◌∷◌, ◌++◌, length, take, Bool, true, false, ◌||◌, ◌&&◌, if◌then◌else◌, refl, sym, ap, ◌∙◌}
 use Rattle.ymx_machine.specs.declared.types.Side.{Side}
 use Rattle.ymx_machine.specs.declared.types.Side.TheVariants.{A, B}
 use Rattle.ymx_machine.specs.declared.types.Direction.{Direction}
@@ -17,13 +17,14 @@ use Rattle.ymx_model.specs.session.Events.{Event}
 use Rattle.ymx_model.specs.declared.types.Event.TheVariants as event
 use Rattle.ymx_model.specs.declared.types.Entry.{Entry}
 use Rattle.ymx_model.specs.world.Worlds.{Pipe}
-use Rattle.ymx_headline.specs.audit.Joints.{world_steps, Gets, sent_into, IsJoint}
+use Rattle.ymx_headline.specs.audit.Joints.{world_steps, sent_into, IsJoint}
 use Rattle.ymx_headline.specs.audit.Told.{answers_of, is_ended_behind, told_from}
-use Rattle.ymx_headline.proofs.audit.Events.{gets-ended, put-ended}
+use Rattle.ymx_headline.proofs.audit.Events.{put-ended}
 use Rattle.ymx_engine.specs.Events.{taken_at, taken, given_at, given, ends_at, has_end, finishes_at, has_finish, opens_with, has_open_with}
 use Rattle.ymx_engine.proofs.Quiet.{or_neither}
 use Rattle.ymx_engine.proofs.Exchanging.{or_second}
 use Rattle.ymx_joined.specs.Tunnels.{entries_from}
+use Rattle.ymx_joined.proofs.Traces.{turn_a, turn_b, ended_behind}
 
 -- What is gathered over a run, step by step, of the calls of one side alone: `near`.
 pub record Gathers (near far : Side) (M : Type 0) : Type 0 where
@@ -81,40 +82,6 @@ far_event t p en event.FeedEnd told sts gs h = idle t _ _ _ _ (t.stops _ _) ∙ 
 abbrev entry_of : ℕ → Event × Reply → Entry
 entry_of i e = record { position = i; seat = 0; event = e.0; reply = e.1 }
 
--- one event of a side: what is left of its pipe then, and of the order
-record Turned (side : Side) (e : Event × Reply) (pipe : Pipe) (steps : List Step) (Joint : Pipe → List Step → Type 0) : Type 0 where
-  left : Pipe
-  rest : List Step
-  gets : Gets e.0 e.1 pipe left
-  begins : steps ≡ world_steps side pipe e.0 ++ rest
-  joint : Joint left rest
-
-turn_a : (turns : List Bool) (ab ba : Pipe) (i j : ℕ) (e : Event × Reply) (es fs : List (Event × Reply)) (steps : List Step) → IsJoint (true ∷ turns) ab ba (entries_from i (e ∷ es)) (entries_from j fs) steps →
-    Turned A e ba steps (λ left rest. IsJoint turns (sent_into e.0 e.1 ab) left (entries_from (i + 1) es) (entries_from j fs) rest)
-turn_a turns ab ba i j e es fs steps (x, more, r, rest, xs, g, st, k) =
-    let same : x ≡ entry_of i e = cc in
-    let behind : more ≡ entries_from (i + 1) es = cc in
-    record {
-      left = r;
-      rest = rest;
-      gets = subst (λ (v : Entry). Gets v.event v.reply ba r) same g;
-      begins = subst (λ (v : Entry). steps ≡ world_steps A ba v.event ++ rest) same st;
-      joint = subst (λ (v : List Entry). IsJoint turns (sent_into e.0 e.1 ab) r v (entries_from j fs) rest) behind (subst (λ (v : Entry). IsJoint turns (sent_into v.event v.reply ab) r more (entries_from j fs) rest) same k);
-    }
-
-turn_b : (turns : List Bool) (ab ba : Pipe) (i j : ℕ) (f : Event × Reply) (es fs : List (Event × Reply)) (steps : List Step) → IsJoint (false ∷ turns) ab ba (entries_from i es) (entries_from j (f ∷ fs)) steps →
-    Turned B f ab steps (λ left rest. IsJoint turns left (sent_into f.0 f.1 ba) (entries_from i es) (entries_from (j + 1) fs) rest)
-turn_b turns ab ba i j f es fs steps (x, more, r, rest, ys, g, st, k) =
-    let same : x ≡ entry_of j f = cc in
-    let behind : more ≡ entries_from (j + 1) fs = cc in
-    record {
-      left = r;
-      rest = rest;
-      gets = subst (λ (v : Entry). Gets v.event v.reply ab r) same g;
-      begins = subst (λ (v : Entry). steps ≡ world_steps B ab v.event ++ rest) same st;
-      joint = subst (λ (v : List Entry). IsJoint turns r (sent_into f.0 f.1 ba) (entries_from i es) v rest) behind (subst (λ (v : Entry). IsJoint turns r (sent_into v.event v.reply ba) (entries_from i es) more rest) same k);
-    }
-
 -- it is of the near side, or of the far one
 near_turn : {near far : Side} {M : Type 0} (t : Gathers near far M) (p : Pipe) (en : Bool) (e : Event × Reply) (steps rest : List Step) (gs : List Answer) (behind : M) → steps ≡ world_steps near p e.0 ++ rest → p.ended ≡ en → opens_with e.0 ≡ false →
     t.all rest gs ≡ behind → t.all steps (answers_of en e.0 e.1 ++ gs) ≡ t.op (at_event t e.0 e.1) behind
@@ -124,10 +91,6 @@ far_turn : {near far : Side} {M : Type 0} (t : Gathers near far M) (p : Pipe) (e
     t.all rest gs ≡ behind → t.all steps (answers_of en e.0 e.1 ++ gs) ≡ behind
 far_turn t p en e steps rest gs behind begins h same = ap (λ (v : List Step). t.all v (answers_of en e.0 e.1 ++ gs)) begins ∙ far_event t p en e.0 e.1 rest gs h ∙ same
 
--- whether its pipe has ended then
-ended_behind : (en : Bool) (e : Event × Reply) (pipe left : Pipe) → Gets e.0 e.1 pipe left → pipe.ended ≡ en → left.ended ≡ is_ended_behind en e.0
-ended_behind en e pipe left g h = gets-ended e.0 e.1 pipe left g ∙ ap (λ (b : Bool). is_ended_behind b e.0) h
-
 pub gathers_a : {M : Type 0} (t : Gathers A B M) (turns : List Bool) (ab ba : Pipe) (ea eb : Bool) (i j : ℕ) (es fs : List (Event × Reply)) (steps : List Step) →
     IsJoint turns ab ba (entries_from i es) (entries_from j fs) steps → ba.ended ≡ ea → ab.ended ≡ eb → has_open_with es ≡ false →
     t.all steps (told_from turns ea eb (entries_from i es) (entries_from j fs)) ≡ total t es
@@ -136,14 +99,14 @@ gathers_a t [] ab ba ea eb i j (e ∷ es) fs steps h p q plain = let no : ⊥ = 
 gathers_a t (true ∷ turns) ab ba ea eb i j [] fs steps (x, more, r, rest, xs, g, st, k) p q plain = let no : ⊥ = cc in absurd no
 gathers_a t (true ∷ turns) ab ba ea eb i j (e ∷ es) fs steps h p q plain =
     let two = or_neither (opens_with e.0) (has_open_with es) plain in
-    let o = turn_a turns ab ba i j e es fs steps h in
+    let o = turn_a turns ab ba (entry_of i e) (entries_from (i + 1) es) (entries_from j fs) steps h in
     near_turn t ba ea e steps o.rest _ _ o.begins p two.0
-    (gathers_a t turns (sent_into e.0 e.1 ab) o.left (is_ended_behind ea e.0) eb (i + 1) j es fs o.rest o.joint (ended_behind ea e ba o.left o.gets p) (put-ended e.0 e.1 ab ∙ q) two.1)
+    (gathers_a t turns (sent_into e.0 e.1 ab) o.left (is_ended_behind ea e.0) eb (i + 1) j es fs o.rest o.joint (ended_behind ea (entry_of i e) ba o.left o.gets p) (put-ended e.0 e.1 ab ∙ q) two.1)
 gathers_a t (false ∷ turns) ab ba ea eb i j es [] steps (x, more, r, rest, ys, g, st, k) p q plain = let no : ⊥ = cc in absurd no
 gathers_a t (false ∷ turns) ab ba ea eb i j es (f ∷ fs) steps h p q plain =
-    let o = turn_b turns ab ba i j f es fs steps h in
+    let o = turn_b turns ab ba (entry_of j f) (entries_from i es) (entries_from (j + 1) fs) steps h in
     far_turn t ab eb f steps o.rest _ _ o.begins q
-    (gathers_a t turns o.left (sent_into f.0 f.1 ba) ea (is_ended_behind eb f.0) i (j + 1) es fs o.rest o.joint (put-ended f.0 f.1 ba ∙ p) (ended_behind eb f ab o.left o.gets q) plain)
+    (gathers_a t turns o.left (sent_into f.0 f.1 ba) ea (is_ended_behind eb f.0) i (j + 1) es fs o.rest o.joint (put-ended f.0 f.1 ba ∙ p) (ended_behind eb (entry_of j f) ab o.left o.gets q) plain)
 
 pub gathers_b : {M : Type 0} (t : Gathers B A M) (turns : List Bool) (ab ba : Pipe) (ea eb : Bool) (i j : ℕ) (es fs : List (Event × Reply)) (steps : List Step) →
     IsJoint turns ab ba (entries_from i es) (entries_from j fs) steps → ba.ended ≡ ea → ab.ended ≡ eb → has_open_with fs ≡ false →
@@ -153,14 +116,14 @@ gathers_b t [] ab ba ea eb i j es (f ∷ fs) steps h p q plain = let no : ⊥ = 
 gathers_b t (false ∷ turns) ab ba ea eb i j es [] steps (x, more, r, rest, ys, g, st, k) p q plain = let no : ⊥ = cc in absurd no
 gathers_b t (false ∷ turns) ab ba ea eb i j es (f ∷ fs) steps h p q plain =
     let two = or_neither (opens_with f.0) (has_open_with fs) plain in
-    let o = turn_b turns ab ba i j f es fs steps h in
+    let o = turn_b turns ab ba (entry_of j f) (entries_from i es) (entries_from (j + 1) fs) steps h in
     near_turn t ab eb f steps o.rest _ _ o.begins q two.0
-    (gathers_b t turns o.left (sent_into f.0 f.1 ba) ea (is_ended_behind eb f.0) i (j + 1) es fs o.rest o.joint (put-ended f.0 f.1 ba ∙ p) (ended_behind eb f ab o.left o.gets q) two.1)
+    (gathers_b t turns o.left (sent_into f.0 f.1 ba) ea (is_ended_behind eb f.0) i (j + 1) es fs o.rest o.joint (put-ended f.0 f.1 ba ∙ p) (ended_behind eb (entry_of j f) ab o.left o.gets q) two.1)
 gathers_b t (true ∷ turns) ab ba ea eb i j [] fs steps (x, more, r, rest, xs, g, st, k) p q plain = let no : ⊥ = cc in absurd no
 gathers_b t (true ∷ turns) ab ba ea eb i j (e ∷ es) fs steps h p q plain =
-    let o = turn_a turns ab ba i j e es fs steps h in
+    let o = turn_a turns ab ba (entry_of i e) (entries_from (i + 1) es) (entries_from j fs) steps h in
     far_turn t ba ea e steps o.rest _ _ o.begins p
-    (gathers_b t turns (sent_into e.0 e.1 ab) o.left (is_ended_behind ea e.0) eb (i + 1) j es fs o.rest o.joint (ended_behind ea e ba o.left o.gets p) (put-ended e.0 e.1 ab ∙ q) plain)
+    (gathers_b t turns (sent_into e.0 e.1 ab) o.left (is_ended_behind ea e.0) eb (i + 1) j es fs o.rest o.joint (ended_behind ea (entry_of i e) ba o.left o.gets p) (put-ended e.0 e.1 ab ∙ q) plain)
 
 -- ---- what is written, read, ended and finished
 

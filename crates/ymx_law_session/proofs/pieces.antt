@@ -3,5 +3,4 @@
 pub mod Chunks
 pub mod Pieces
 pub mod Frames
-pub mod Only
 pub mod Ample

@@ -1,6 +1,5 @@
 pub mod Chunks
 pub mod Limits
-pub mod Frames
 pub mod Refusals
 pub mod Settled
 pub mod Offers

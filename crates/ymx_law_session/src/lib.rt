@@ -3,8 +3,8 @@
 //! public function is a law: it does nothing, and its contract is the theorem.
 #![tactic(auto)]
 
-ghost use Rattle.std.specs.Prelude.{◌≡◌, ◌+◌, ◌^◌, ◌<◌, ◌≤◌, ◌++◌, ◌∷◌, [], ℕ, List, Bool, length, take, drop, true, false, is_some, Some, All};
-ghost use Rattle.ymx_header.specs.Headers.{spelling, header_of, IsInRange, has_rst};
+ghost use Rattle.std.specs.Prelude.{◌≡◌, ◌+◌, ◌^◌, ◌<◌, ◌≤◌, ◌++◌, ◌∷◌, [], ℕ, List, Bool, length, drop, true, false, is_some, Some, All};
+ghost use Rattle.ymx_header.specs.Headers.{has_rst};
 ghost use Rattle.ymx_header.specs.declared.header.Header.{Header};
 ghost use Rattle.ymx_machine.specs.shared.Events.{Call};
 ghost use Rattle.ymx_machine.specs.declared.types.Call.TheVariants as call;
@@ -14,23 +14,20 @@ ghost use Rattle.ymx_machine.specs.declared.types.Fed.{Fed};
 ghost use Rattle.ymx_machine.specs.shared.Events.{Reply};
 ghost use Rattle.ymx_machine.specs.declared.types.Reply.TheVariants.{Accepted};
 ghost use Rattle.ymx_model.specs.declared.types.Role.{Role};
-ghost use Rattle.ymx_model.specs.declared.types.Status.TheVariants.{Running};
 ghost use Rattle.ymx_model.specs.declared.types.GoAwayMark.TheVariants.{Unsaid};
 ghost use Rattle.ymx_machine.specs.shared.Lists.{look};
 ghost use Rattle.ymx_machine.specs.shared.Limits.{most_records, first_credit, most_offered, widest_window};
 ghost use Rattle.ymx_model.specs.session.Records.{End};
 ghost use Rattle.ymx_model.specs.session.FramesDue.{is_due, next_kind};
-ghost use Rattle.ymx_model.specs.session.Sessions.{Session, new_session, is_own, is_deaf, is_running};
-ghost use Rattle.ymx_model.specs.session.Sessions.Incoming.{Head, Payload};
+ghost use Rattle.ymx_model.specs.session.Sessions.{Session, new_session, is_own, is_running};
 ghost use Rattle.ymx_model.specs.session.Calls.{outcome};
-ghost use Rattle.ymx_model.specs.session.Arrivals.{head_comes, piece_comes, payload};
-ghost use Rattle.ymx_model.specs.session.Feeds.{Takes, Feeds, feed, is_stuck};
-ghost use Rattle.ymx_model.specs.session.Emissions.{Choice, begin, Ready, Flows, Emits, moves_on, is_ready, freely, in_turn};
+ghost use Rattle.ymx_model.specs.session.Arrivals.{head_comes, piece_comes};
+ghost use Rattle.ymx_model.specs.session.Feeds.{Takes, Feeds, feed};
+ghost use Rattle.ymx_model.specs.session.Emissions.{Choice, begin, Emits, moves_on, is_ready, freely, in_turn};
 ghost use Rattle.ymx_model.specs.session.Emissions.Choice.{AStream};
 ghost use Rattle.ymx_model.specs.session.Histories.{Gives, ReplaysFrom};
 ghost use Rattle.ymx_law_session.specs.Fields.{Fits, NumbersFit, HalvesFit, FeedsBytes};
 ghost use Rattle.ymx_law_session.specs.Chunks.{joined_fed, FedInTwo};
-ghost use Rattle.ymx_law_session.specs.Frames.{frame_comes, starved_by};
 ghost use Rattle.ymx_law_session.specs.Limits.{IsWithin};
 ghost use Rattle.ymx_law_session.specs.Offers.{IsGoodSyn, HasCause, IsOffered, IsRejected, LeavesNoTrace};
 ghost use Rattle.ymx_law_session.specs.Settled.{IsSettled, NoneLingers};
@@ -46,19 +43,6 @@ pub fn fed_in_pieces()
     ensures with_memory { (input : List ℕ) (s t : Session) (fed : Fed) → Feeds s input fed t → fed.no_memory ≡ 0 → feed input s ≡ record { state = t; rest = drop fed.taken input } }
     ensures feed_stops_inside { (a b : List ℕ) (s u : Session) (fed : Fed) → fed.taken < length a → Feeds s (a ++ b) fed u → Feeds s a fed u }
     ensures feed_stops_before { (a b : List ℕ) (s u : Session) (fed : Fed) → fed.taken < length a → Feeds s a fed u → Feeds s (a ++ b) fed u }
-{}
-
-/// The bytes of a frame do what the frame does, and nothing else (framing), for a session that runs and
-/// takes bytes; whether a SYN finds memory for its record is open at each.
-pub fn frames_by_their_bytes()
-    ensures header { (no_memory : Bool) (h : Header) (s : Session) → IsInRange h → s.status ≡ Running → s.incoming ≡ Head [] → is_stuck s ≡ false → Takes (spelling h) s (head_comes no_memory h s) (starved_by no_memory h s) }
-    ensures frame { (no_memory : Bool) (h : Header) (bytes : List ℕ) (s : Session) → IsInRange h → s.status ≡ Running → s.incoming ≡ Head [] → is_stuck s ≡ false → length bytes ≡ payload h → (head_comes no_memory h s).status ≡ Running → Takes (spelling h ++ bytes) s (frame_comes no_memory h bytes s) (starved_by no_memory h s) }
-    ensures only_head { (h : Header) (s t : Session) (n : ℕ) → IsInRange h → s.status ≡ Running → s.incoming ≡ Head [] → Takes (spelling h) s t n → (no_memory : Bool) × (t ≡ head_comes no_memory h s) × (n ≡ starved_by no_memory h s) }
-    ensures only { (h : Header) (bytes : List ℕ) (s t : Session) (n : ℕ) → IsInRange h → s.status ≡ Running → s.incoming ≡ Head [] → length bytes ≡ payload h → Takes (spelling h ++ bytes) s t n → (no_memory : Bool) × ((head_comes no_memory h s).status ≡ Running → (t ≡ frame_comes no_memory h bytes s) × (n ≡ starved_by no_memory h s)) }
-    ensures piece { (bytes : List ℕ) (id n : ℕ) (fin stray : Bool) (s : Session) → s.status ≡ Running → s.incoming ≡ Payload id n fin stray → 0 < length bytes → length bytes ≤ n → Takes bytes s (piece_comes bytes id n fin stray s) 0 }
-    ensures header_begins { (bytes seen : List ℕ) (s : Session) → s.status ≡ Running → s.incoming ≡ Head seen → is_stuck s ≡ false → length seen + length bytes < 12 → Takes bytes s (record s { incoming = Head (seen ++ bytes) }) 0 }
-    ensures header_ends { (no_memory : Bool) (bytes seen : List ℕ) (b : ℕ) (s : Session) → s.status ≡ Running → s.incoming ≡ Head seen → is_stuck s ≡ false → length seen + length (b ∷ bytes) ≡ 12 → Takes (b ∷ bytes) s (head_comes no_memory (header_of (seen ++ (b ∷ bytes))) (record s { incoming = Head [] })) (starved_by no_memory (header_of (seen ++ (b ∷ bytes))) s) }
-    ensures dropped { (bytes : List ℕ) (s : Session) → is_deaf s.status ≡ true → Takes bytes s s 0 }
 {}
 
 /// The limits of a session hold always, whatever its callers do and whatever bytes a peer sends
@@ -102,13 +86,6 @@ pub fn turns_leave_no_choice()
     ensures unique { (room : ℕ) (s t u : Session) (out other : List ℕ) → Emits in_turn s room out t → Emits in_turn s room other u → (out ≡ other) × (t ≡ u) }
     ensures frame_limit { (id limit : ℕ) (s t : Session) → begin (AStream id limit) s ≡ Some t → length t.outgoing.bytes ≤ 12 + limit }
     ensures data_limit { (id limit : ℕ) (s : Session) → in_turn (AStream id limit) s ≡ true → limit ≡ 16384 }
-{}
-
-/// What goes out in two pieces is what goes out at once, and a block of a frame is its bytes.
-pub fn emitted_in_pieces()
-    ensures join { (may : Choice → Session → Bool) (a b : List ℕ) (s t u : Session) → Flows may a s t → Flows may b t u → Flows may (a ++ b) s u }
-    ensures cut { (may : Choice → Session → Bool) (a b : List ℕ) (s u : Session) → Flows may (a ++ b) s u → (t : Session) × Flows may a s t × Flows may b t u }
-    ensures block { (may : Choice → Session → Bool) (n : ℕ) (s t : Session) → Ready may s t → 0 < n → n ≤ length t.outgoing.bytes → Flows may (take n t.outgoing.bytes) s (moves_on n t) }
 {}
 
 /// A refusal changes nothing; a call on a stream, a frame of it, and a piece of its payload leave
@@ -156,9 +133,4 @@ pub fn given_up_goes()
     ensures kept { (may : Choice → Session → Bool) (s t : Session) (event : Event) (reply : Reply) → Gives may s event reply t → IsWithin s → IsSettled s → IsSettled t }
     ensures always { (may : Choice → Session → Bool) (at : ℕ) (entries : List Entry) (s t : Session) → ReplaysFrom may at entries s t → IsWithin s → IsSettled s → IsSettled t }
     ensures none_lingers { (s : Session) → IsSettled s → is_running s.status ≡ true → is_ready s ≡ false → NoneLingers s }
-{}
-
-/// A history goes on by one entry at its end.
-pub fn histories_go_on()
-    ensures { (may : Choice → Session → Bool) (at : ℕ) (entries : List Entry) (entry : Entry) (s t u : Session) → ReplaysFrom may at entries s t → entry.position ≡ at + length entries → Gives may t entry.event entry.reply u → ReplaysFrom may at (entries ++ entry ∷ []) s u }
 {}

@@ -1,6 +1,5 @@
 -- Bytes that go through keep what holds of every session.
-use Rattle.std.proofs.Common.{◌≡◌, ℕ, List, length, take, Option, None, Some, sym, subst}
-use Rattle.std.specs.Prelude.{IfSome, IfNone}
+use Rattle.std.proofs.Common.{ℕ, List, length}
 use Rattle.ymx_machine.specs.declared.types.Call.TheVariants as call
 use Rattle.ymx_machine.specs.declared.types.Reply.TheVariants as reply
 use Rattle.ymx_machine.specs.declared.types.Wrote.TheVariants.{Took}
@@ -14,8 +13,3 @@ pub writes-sound : (id : ℕ) (bytes : List ℕ) (size : ℕ) (filled : List ℕ
 writes-sound id bytes size filled s t w h =
     gives-sound w.mid t (event.Emit size) (reply.Emitted filled) w.emitted
     (gives-sound s w.mid (event.Call (call.Write id bytes)) (reply.Wrote (Took (length bytes))) w.wrote h)
-
--- whether or not they do
-pub maybe-sound : (id : ℕ) (bytes : List ℕ) (size : ℕ) (buffer : List ℕ) (s t : Session) (o : Option ℕ) → IfSome o (λ n. WritesThrough id bytes size (take n buffer) s t) → IfNone o (t ≡ s) → IsSound s → IsSound t
-maybe-sound id bytes size buffer s t None some none h = subst IsSound (sym none) h
-maybe-sound id bytes size buffer s t (Some n) some none h = writes-sound id bytes size (take n buffer) s t some h

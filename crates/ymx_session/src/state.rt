@@ -37,19 +37,7 @@ impl Model for State {
 
     ghost Value = { Session };
 
-    ghost view = { λ s. record {
-      role = s.role;
-      status = s.status;
-      next = s.next;
-      table = s.table;
-      offered = s.offered;
-      pings = s.pings;
-      away = s.away;
-      alarm = s.alarm;
-      answers = s.answers;
-      outgoing = s.outgoing;
-      incoming = s.arriving.incoming;
-    } };
+    ghost view = { λ s. record { role = s.role; status = s.status; next = s.next; table = s.table; offered = s.offered; pings = s.pings; away = s.away; alarm = s.alarm; answers = s.answers; outgoing = s.outgoing; incoming = s.arriving.incoming } };
 
     ghost invariant = { λ s. s.arriving.limit ≡ s.table.window };
 }

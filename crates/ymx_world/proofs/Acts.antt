@@ -28,27 +28,22 @@ appended_goes (Ok count) room s t before after at stopped ended p is runs within
       goes = grind (arith, common_steps);
     }
 
+-- a delivery in this direction, which is that one
+delivers : (d e : Direction) (n : ℕ) (fed : Fed) (w0 w v : World) → d ≡ e → w0 ≡ w → Steps in_turn (step.Deliver e n) (answer.Fed fed) w0 v → Steps in_turn (step.Deliver d n) (answer.Fed fed) w v
+delivers d e n fed w0 w v way world one =
+    subst (λ (z : World). Steps in_turn (step.Deliver d n) (answer.Fed fed) z v) world (subst (λ (k : Direction). Steps in_turn (step.Deliver k n) (answer.Fed fed) w0 v) (sym way) one)
+
 -- a delivery is a step of the world
 pub delivers_ab : (d : Direction) (n : ℕ) (fed : Fed) (a b t : Session) (ab q ba : Pipe) (w : World) →
     d ≡ AB → record { a = a; b = b; ab = ab; ba = ba } ≡ w → IsFed n fed b t ab q →
     Steps in_turn (step.Deliver d n) (answer.Fed fed) w (record { a = a; b = t; ab = q; ba = ba })
 delivers_ab d n fed a b t ab q ba w way world h =
-    let v : World = record { a = a; b = t; ab = q; ba = ba } in
-    let w0 : World = record { a = a; b = b; ab = ab; ba = ba } in
-    let one : Steps in_turn (step.Deliver AB n) (answer.Fed fed) w0 v =
-    (reply.Fed fed, t, h.gives, refl, ap (λ (z : Pipe). record { a = a; b = t; ab = z; ba = ba }) h.leaves) in
-    let at_d : Steps in_turn (step.Deliver d n) (answer.Fed fed) w0 v =
-    subst (λ (e : Direction). Steps in_turn (step.Deliver e n) (answer.Fed fed) w0 v) (sym way) one in
-    subst (λ (z : World). Steps in_turn (step.Deliver d n) (answer.Fed fed) z v) world at_d
+    delivers d AB n fed (record { a = a; b = b; ab = ab; ba = ba }) w (record { a = a; b = t; ab = q; ba = ba }) way world
+    (reply.Fed fed, t, h.gives, refl, ap (λ (z : Pipe). record { a = a; b = t; ab = z; ba = ba }) h.leaves)
 
 pub delivers_ba : (d : Direction) (n : ℕ) (fed : Fed) (a b t : Session) (ab q ba : Pipe) (w : World) →
     d ≡ BA → record { a = a; b = b; ab = ab; ba = ba } ≡ w → IsFed n fed a t ba q →
     Steps in_turn (step.Deliver d n) (answer.Fed fed) w (record { a = t; b = b; ab = ab; ba = q })
 delivers_ba d n fed a b t ab q ba w way world h =
-    let v : World = record { a = t; b = b; ab = ab; ba = q } in
-    let w0 : World = record { a = a; b = b; ab = ab; ba = ba } in
-    let one : Steps in_turn (step.Deliver BA n) (answer.Fed fed) w0 v =
-    (reply.Fed fed, t, h.gives, refl, ap (λ (z : Pipe). record { a = b; b = t; ab = z; ba = ab }) h.leaves) in
-    let at_d : Steps in_turn (step.Deliver d n) (answer.Fed fed) w0 v =
-    subst (λ (e : Direction). Steps in_turn (step.Deliver e n) (answer.Fed fed) w0 v) (sym way) one in
-    subst (λ (z : World). Steps in_turn (step.Deliver d n) (answer.Fed fed) z v) world at_d
+    delivers d BA n fed (record { a = a; b = b; ab = ab; ba = ba }) w (record { a = t; b = b; ab = ab; ba = q }) way world
+    (reply.Fed fed, t, h.gives, refl, ap (λ (z : Pipe). record { a = b; b = t; ab = z; ba = ab }) h.leaves)

@@ -17,22 +17,13 @@ run_more may [] (y ∷ ys) st given w x v run one = absurd run
 run_more may (z ∷ zs) [] st given w x v run one = absurd run
 run_more may (z ∷ zs) (y ∷ ys) st given w x v run one = (run.0, run.1, run_more may zs ys st given run.0 x v run.2 one)
 
--- one more step leads to a world that can be
-pub reached_on : (st : Step) (given : Answer) (w v : World) → IsReached w → Steps in_turn st given w v → IsReached v
-reached_on st given w v r one = record {
-  window_a = r.window_a;
-  first_a = r.first_a;
-  window_b = r.window_b;
-  first_b = r.first_b;
-  good = r.good;
-  steps = r.steps ++ st ∷ [];
-  answers = r.answers ++ given ∷ [];
-  runs = run_more in_turn r.steps r.answers st given _ w v r.runs one;
-}
-
 -- a run leads to a world that can be
 pub reached_along : (steps : List Step) (answers : List Answer) (w v : World) → IsReached w → Runs in_turn steps answers w v → IsReached v
 reached_along steps answers w v r run = record { window_a = r.window_a; first_a = r.first_a; window_b = r.window_b; first_b = r.first_b; good = r.good; steps = r.steps ++ steps; answers = r.answers ++ answers; runs = runs-on in_turn r.steps steps r.answers answers _ w v r.runs run }
+
+-- so does one more step
+pub reached_on : (st : Step) (given : Answer) (w v : World) → IsReached w → Steps in_turn st given w v → IsReached v
+reached_on st given w v r one = reached_along (st ∷ []) (given ∷ []) w v r (v, one, refl)
 
 -- a step that is made, or not, leads to a world that can be
 pub reached_if : {E : Type 0} (given : Result Answer E) (st : Step) (w v : World) → IsReached w →

@@ -3,9 +3,13 @@
 ghost use Rattle.std.specs.Prelude.{◌≡◌, ◌<◌, ◌+◌, ◌++◌, length, drop, List, true, false, IfOk, IfSome, IfNone};
 ghost use Rattle.ymx_machine.specs.declared.types.Step.{Step as TheStep};
 ghost use Rattle.ymx_model.specs.world.Worlds.{Pipe as PipeValue};
+ghost use Rattle.ymx_model.specs.session.Emissions.{in_turn};
 ghost use Rattle.ymx_headline.specs.audit.Joints.{into, sent_into, Gets, world_steps, Advances, IsStuck, IsJointOrder};
+ghost use Rattle.ymx_headline.specs.audit.Told.{AreAnswered, AreOneRun};
 
+use crate::calls::same_call;
 use crate::pipe::Pipe;
+use crate::world::World;
 use std::alloc::Global;
 use ymx_memory::RefusedAllocation;
 use ymx_model::{Bytes, Call, Direction, Entry, Event, Reply, Side, Step};
@@ -14,20 +18,7 @@ use ymx_model::{Bytes, Call, Direction, Entry, Event, Reply, Side, Step};
 fn copy_of(alloc: Global, call: &Call<Bytes>) -> Result<Call<Bytes>, RefusedAllocation>
     ensures { IfOk result (λ copy. copy ≡ call.now) }
 {
-    Ok(match call {
-        Call::Open => Call::Open,
-        Call::OpenWith(bytes) => Call::OpenWith(Bytes::from_slice(alloc, bytes.as_slice())?),
-        Call::Accept => Call::Accept,
-        Call::Write(id, bytes) => Call::Write(*id, Bytes::from_slice(alloc, bytes.as_slice())?),
-        Call::Read(id, size) => Call::Read(*id, *size),
-        Call::Finish(id) => Call::Finish(*id),
-        Call::Reset(id) => Call::Reset(*id),
-        Call::Forget(id) => Call::Forget(*id),
-        Call::Ping => Call::Ping,
-        Call::Ponged(number) => Call::Ponged(*number),
-        Call::GoAway => Call::GoAway,
-        Call::Close => Call::Close,
-    })
+    Ok(same_call!(call, bytes => Bytes::from_slice(alloc, bytes.as_slice())?))
 }
 
 /// The pipe that a side reads.
@@ -116,34 +107,44 @@ fn try_next(
     Ok(yes)
 }
 
-/// A joint order of two histories. `None` only if there is none.
-///
-/// It takes the next entry of A if that may come now, and else that of B. What may come now still may after
-/// entries of the other side, and leaves the same, so no order is missed.
-pub(crate) fn audit(
-    alloc: Global,
-    a: &[Entry],
-    b: &[Entry],
-) -> Result<Option<Vec<Step>>, RefusedAllocation>
-    ensures some { IfOk result (λ found. IfSome found (λ steps. IsJointOrder a.now b.now steps.items)) }
-    ensures none { IfOk result (λ found. IfNone found ((steps : List TheStep) → IsJointOrder a.now b.now steps → ⊥)) }
-{
-    let mut steps = Vec::new(alloc);
-    let mut ab = Pipe::new(alloc);
-    let mut ba = Pipe::new(alloc);
-    let mut i = 0;
-    let mut j = 0;
-    while i < a.len() || j < b.len() {
-        let first = try_next(alloc, Side::A, a, i, &mut ab, &mut ba, &mut steps)?;
-        if first {
-            i += 1;
-        } else {
-            let second = try_next(alloc, Side::B, b, j, &mut ba, &mut ab, &mut steps)?;
-            if !second {
-                return Ok(None);
+impl World {
+    /// Steps of the world in which the histories of its two sides, A's and B's, each keep their order: `None`
+    /// only if there are none. A call and an emission are steps; a feed is the delivery of its bytes, which
+    /// stand at the front of what the other side has emitted and no feed has taken; the end of the input is a
+    /// stop and an end, and a feed behind it has no step. `RefusedAllocation` where there is no memory for the steps.
+    pub fn audit(
+        alloc: Global,
+        a: &[Entry],
+        b: &[Entry],
+    ) -> Result<Option<Vec<Step>>, RefusedAllocation>
+        ensures some { IfOk result (λ found. IfSome found (λ steps. IsJointOrder a.now b.now steps.items)) }
+        ensures none { IfOk result (λ found. IfNone found ((steps : List TheStep) → IsJointOrder a.now b.now steps → ⊥)) }
+        // Where both histories replay from sessions, the replies of the entries that have a step are the answers
+        // of a run of these sessions' world over the steps, and of each queue machine that agrees with it.
+        ensures answered { IfOk result (λ found. IfSome found (λ steps. AreAnswered in_turn a.now b.now steps.items)) }
+        // Where both histories replay from new sessions, a client's and a server's, they are one run: of the new world
+        // of these sessions over the steps, and of the queue machine.
+        ensures one_run { IfOk result (λ found. IfSome found (λ steps. AreOneRun in_turn a.now b.now steps.items)) }
+    {
+        // It takes the next entry of A if that may come now, and else that of B. What may come now still may after
+        // entries of the other side, and leaves the same, so no order is missed.
+        let mut steps = Vec::new(alloc);
+        let mut ab = Pipe::new(alloc);
+        let mut ba = Pipe::new(alloc);
+        let mut i = 0;
+        let mut j = 0;
+        while i < a.len() || j < b.len() {
+            let first = try_next(alloc, Side::A, a, i, &mut ab, &mut ba, &mut steps)?;
+            if first {
+                i += 1;
+            } else {
+                let second = try_next(alloc, Side::B, b, j, &mut ba, &mut ab, &mut steps)?;
+                if !second {
+                    return Ok(None);
+                }
+                j += 1;
             }
-            j += 1;
         }
+        Ok(Some(steps))
     }
-    Ok(Some(steps))
 }

@@ -10,6 +10,28 @@ use ymx_memory::RefusedAllocation;
 use ymx_model::{Answer, Bytes, Call, Event, Lent, Reply};
 use ymx_session::Session;
 
+/// The same call, with its bytes made anew.
+macro_rules! same_call {
+    ($call:expr, $bytes:ident => $made:expr) => {
+        match $call {
+            Call::Open => Call::Open,
+            Call::OpenWith($bytes) => Call::OpenWith($made),
+            Call::Accept => Call::Accept,
+            Call::Write(id, $bytes) => Call::Write(*id, $made),
+            Call::Read(id, max) => Call::Read(*id, *max),
+            Call::Finish(id) => Call::Finish(*id),
+            Call::Reset(id) => Call::Reset(*id),
+            Call::Forget(id) => Call::Forget(*id),
+            Call::Ping => Call::Ping,
+            Call::Ponged(number) => Call::Ponged(*number),
+            Call::GoAway => Call::GoAway,
+            Call::Close => Call::Close,
+        }
+    };
+}
+
+pub(crate) use same_call;
+
 /// Makes a call. Where there is no memory for the bytes of a read, the call is not made.
 pub(crate) fn make_call(
     alloc: Global,
@@ -38,20 +60,7 @@ fn size_of(call: &Call<Bytes>) -> usize
 fn lent(call: &Call<Bytes>) -> Call<Lent<'_>>
     ensures { result ≡ call.now }
 {
-    match call {
-        Call::Open => Call::Open,
-        Call::OpenWith(bytes) => Call::OpenWith(Lent::new(bytes.as_slice())),
-        Call::Accept => Call::Accept,
-        Call::Write(id, bytes) => Call::Write(*id, Lent::new(bytes.as_slice())),
-        Call::Read(id, max) => Call::Read(*id, *max),
-        Call::Finish(id) => Call::Finish(*id),
-        Call::Reset(id) => Call::Reset(*id),
-        Call::Forget(id) => Call::Forget(*id),
-        Call::Ping => Call::Ping,
-        Call::Ponged(number) => Call::Ponged(*number),
-        Call::GoAway => Call::GoAway,
-        Call::Close => Call::Close,
-    }
+    same_call!(call, bytes => Lent::new(bytes.as_slice()))
 }
 
 /// What the world answers for a reply that counts its bytes, which stand at the front of this buffer.

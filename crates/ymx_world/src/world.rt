@@ -1,6 +1,6 @@
 //! The type `World`, and its calls.
 
-ghost use Rattle.std.specs.Prelude.{◌≡◌, ◌⊎◌, ◌<◌, ◌↔◌, ℕ, [], IsTrue, All, List, length, take, true, false, None, IfOk, IfErr, IfSome, IfNone, OnErr};
+ghost use Rattle.std.specs.Prelude.{◌≡◌, ◌⊎◌, ◌<◌, ◌↔◌, ℕ, [], IsTrue, All, length, take, true, false, None, IfOk, IfErr, IfSome, IfNone, OnErr};
 ghost use Rattle.ymx_model.specs.declared.types.Role.TheVariants.{Client, Server};
 ghost use Rattle.ymx_model.specs.session.Emissions.{in_turn, is_ready};
 ghost use Rattle.ymx_model.specs.world.Worlds.{World as TheWorld, Steps, Runs, new_world, is_quiet};
@@ -11,8 +11,6 @@ ghost use Rattle.ymx_headline.specs.Laws.{HasRun, IsOpenWorld, breaks_off, carri
 ghost use Rattle.ymx_session.specs.NewSessions.{first_id, new_fault, IsNewFault};
 ghost use Rattle.ymx_machine.specs.declared.types.Step.{Step as TheStep};
 ghost use Rattle.ymx_machine.specs.declared.types.Answer.{Answer as TheAnswer};
-ghost use Rattle.ymx_headline.specs.audit.Joints.{IsJointOrder};
-ghost use Rattle.ymx_headline.specs.audit.Told.{AreAnswered, AreOneRun};
 ghost use Rattle.ymx_world.specs.Bounds.{IsBoundedRun};
 ghost use Rattle.ymx_world.specs.Acts.{session_of, pipe_of};
 ghost use Rattle.ymx_world.specs.Progress.{GoesForward};
@@ -24,7 +22,6 @@ ghost use Rattle.ymx_headline.specs.machine.Runs.{StillRun};
 ghost use Rattle.ymx_headline.specs.QuietRuns.{QuietRuns};
 ghost use Rattle.ymx_machine.specs.Promise.{AllDeliverInOrder};
 
-use crate::audit::audit;
 use crate::pipes::SessionPipes;
 use crate::played::{PlayFault, Played};
 use crate::settled::{Settled, refused_by};
@@ -32,7 +29,7 @@ use crate::stopped::Stopped;
 use std::alloc::Global;
 use std::marker::Model;
 use ymx_memory::{RefusalCount, RefusedAllocation};
-use ymx_model::{Answer, Config, Direction, Entry, Role, Side, Step};
+use ymx_model::{Answer, Config, Direction, Role, Side, Step};
 use ymx_session::{NewFault, Session};
 
 /// The room of an emission that settles a world, in bytes: four of the longest frames that a session emits.
@@ -281,26 +278,5 @@ impl World {
         ensures { result.now ≡ (pipe_of direction self.now).bytes }
     {
         self.pipes.pipe(direction)
-    }
-
-    /// Steps of the world in which the histories of its two sides, A's and B's, each keep their order: `None`
-    /// only if there are none. A call and an emission are steps; a feed is the delivery of its bytes, which
-    /// stand at the front of what the other side has emitted and no feed has taken; the end of the input is a
-    /// stop and an end, and a feed behind it has no step. `RefusedAllocation` where there is no memory for the steps.
-    pub fn audit(
-        alloc: Global,
-        a: &[Entry],
-        b: &[Entry],
-    ) -> Result<Option<Vec<Step>>, RefusedAllocation>
-        ensures some { IfOk result (λ found. IfSome found (λ steps. IsJointOrder a.now b.now steps.items)) }
-        ensures none { IfOk result (λ found. IfNone found ((steps : List TheStep) → IsJointOrder a.now b.now steps → ⊥)) }
-        // Where both histories replay from sessions, the replies of the entries that have a step are the answers
-        // of a run of these sessions' world over the steps, and of each queue machine that agrees with it.
-        ensures answered { IfOk result (λ found. IfSome found (λ steps. AreAnswered in_turn a.now b.now steps.items)) }
-        // Where both histories replay from new sessions, a client's and a server's, they are one run: of the new world
-        // of these sessions over the steps, and of the queue machine.
-        ensures one_run { IfOk result (λ found. IfSome found (λ steps. AreOneRun in_turn a.now b.now steps.items)) }
-    {
-        audit(alloc, a, b)
     }
 }

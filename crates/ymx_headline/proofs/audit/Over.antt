@@ -8,8 +8,6 @@ use Rattle.ymx_machine.specs.shared.Events.{Call}
 use Rattle.ymx_machine.specs.declared.types.Call.TheVariants as call
 use Rattle.ymx_model.specs.session.Events.{Event}
 use Rattle.ymx_model.specs.declared.types.Event.TheVariants as event
-use Rattle.ymx_model.specs.declared.types.Response.{Response}
-use Rattle.ymx_model.specs.declared.types.FrameKind.{FrameKind}
 use Rattle.ymx_machine.specs.shared.Lists.{look}
 use Rattle.ymx_machine.specs.shared.Limits.{most_pings, most_records, most_unacknowledged}
 use Rattle.ymx_machine.specs.shared.Replies.{is_done, finish_reply, reset_reply, forget_reply, write_reply, read_reply, bytes_moved}
@@ -19,7 +17,7 @@ use Rattle.ymx_model.specs.session.GoAway.{away_due}
 use Rattle.ymx_model.specs.session.Sessions.{Session, is_running, is_lost, is_closed, is_deaf, is_broken, is_spent, settle}
 use Rattle.ymx_model.specs.session.Calls.{Outcome, outcome, open_or, accept_of, at_stream, at_record, is_unacknowledged, status_input_ends}
 use Rattle.ymx_model.specs.session.Feeds.{Takes, byte_comes}
-use Rattle.ymx_model.specs.session.Emissions.{Choice, Flows, Ready, begin, begin_answer, begin_kind, moves_on, settles}
+use Rattle.ymx_model.specs.session.Emissions.{Choice, Flows, Ready, begin, moves_on, settles}
 use Rattle.ymx_model.specs.session.Emissions.Choice.{TheAlarm, TheGoAway, TheAnswer, ThePing, AStream}
 use Rattle.ymx_model.specs.session.Histories.{Gives, CallGives}
 use Rattle.ymx_model.specs.session.Histories.CallGives.{Outcome as HasOutcome, NoMemory}
@@ -100,14 +98,6 @@ pub feed-over : (s t : Session) (bytes : List ℕ) (r : Reply) (may : Choice →
 feed-over s t bytes r may h g = takes-over (take (g.0).taken bytes) s t (g.2).took.0 h (g.2).took.1
 
 -- ---- an emission
-
-answer-over : (answers : List Response) (s t : Session) → IsOver s → begin_answer answers s ≡ Some t → IsOver t
-answer-over [] s t h e = absurd cc
-answer-over (response ∷ more) s t h e = subst IsOver (one_some _ t e) h
-
-kind-over : (id limit : ℕ) (e : End) (k : Option FrameKind) (s t : Session) → IsOver s → begin_kind id limit e k s ≡ Some t → IsOver t
-kind-over id limit e None s t h g = absurd cc
-kind-over id limit e (Some kind) s t h g = subst IsOver (one_some _ t g) h
 
 -- a frame that is begun where a test holds
 if-over : (b : Bool) (x s t : Session) → IsOver x → (if b then Some x else None) ≡ Some t → IsOver t

@@ -136,9 +136,6 @@ cause false b false false false true f k e = subst (Cause false false false fals
 cause false b false false false false true k e = subst (Cause false false false false false true) (kind-is Fin k e) refl
 cause false b false false false false false k e = absurd cc
 
-and-less : (b c : Bool) → one_if (b && c) ≤ 1
-and-less b c = one_if-most (b && c)
-
 -- nothing is owed any more
 none-owed : (window : ℕ) (live : Bool) (owed : ℕ) → 0 < window → (live && (false || nat_le window (2 * (owed - owed)))) ≡ false
 none-owed window true owed w = grind (arith, nat_tests)

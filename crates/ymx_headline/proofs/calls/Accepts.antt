@@ -21,8 +21,8 @@ use Rattle.ymx_model.specs.session.Histories.CallGives.{Outcome as HasOutcome, N
 use Rattle.ymx_model.specs.world.Worlds.{World}
 use Rattle.ymx_machine.specs.machine.Machines.{Machine}
 use Rattle.ymx_machine.specs.machine.CallRules.{Rule, AcceptRule}
-use Rattle.ymx_headline.specs.stream.Worlds.{Can, put}
-use Rattle.ymx_headline.specs.stream.Worlds.Act.{Accepts}
+use Rattle.ymx_headline.proofs.stream.Happenings.{Can, put}
+use Rattle.ymx_headline.proofs.stream.Happenings.Act.{Accepts}
 use Rattle.ymx_headline.proofs.stream.Worlds.{step}
 use Rattle.ymx_law_session.specs.Limits.{IsWithin, is_listed, is_offered_at}
 use Rattle.ymx_law_session.specs.Settled.{IsSettled}

@@ -19,7 +19,7 @@ use Rattle.ymx_law_session.specs.Refusals.{OthersSame, OnlyTable}
 use Rattle.ymx_machine.proofs.Tests.{split}
 use Rattle.ymx_law_session.proofs.nothing_else.Others.{write-others, read-others, finish-others, reset-others, forget-others}
 use Rattle.ymx_law_session.proofs.nothing_else.Alone.{write-alone, read-alone, finish-alone, reset-alone, forget-alone}
-use Rattle.ymx_headline.specs.records.Sides.{call_on}
+use Rattle.ymx_headline.proofs.records.Ends.{call_on}
 
 -- ---- the window stays
 

@@ -15,9 +15,10 @@ use Rattle.ymx_model.specs.session.Emissions.{Choice}
 use Rattle.ymx_model.specs.world.Worlds.{World, Pipe, StepOfA, stopped_now}
 use Rattle.ymx_machine.specs.machine.Machines.{Machine, SideState}
 use Rattle.ymx_machine.specs.machine.Runs.{MachineStepOfA, side_input_ends as side_ends}
-use Rattle.ymx_headline.specs.stream.Worlds.{StreamWorld as Streams, StreamSide as Ends, Streams as Found, flip_some, Refines, happens}
-use Rattle.ymx_headline.specs.stream.Worlds.Act.{Ends as ActEnds}
-use Rattle.ymx_headline.specs.stream.Worlds.Happening.{AtB}
+use Rattle.ymx_headline.specs.stream.Worlds.{StreamWorld as Streams, StreamSide as Ends, Streams as Found, Refines}
+use Rattle.ymx_headline.proofs.stream.Happenings.{flip_some, happens}
+use Rattle.ymx_headline.proofs.stream.Happenings.Act.{Ends as ActEnds}
+use Rattle.ymx_headline.proofs.stream.Happenings.Happening.{AtB}
 use Rattle.ymx_headline.proofs.stream.Worlds.{step_at, mirrored-back}
 use Rattle.ymx_machine.proofs.Tests.{split, when}
 use Rattle.ymx_law_session.proofs.limits.HistoriesKeep.{gives-keep}

@@ -26,8 +26,9 @@ use Rattle.ymx_model.specs.session.Histories.CallGives.{Outcome as HasOutcome, N
 use Rattle.ymx_model.specs.world.Worlds.{World}
 use Rattle.ymx_machine.specs.machine.Machines.{Machine, recorded, unacknowledged}
 use Rattle.ymx_machine.specs.machine.CallRules.{Rule, OpenSideRule, OpenRule, is_close, open_refusal, machine_opened as machine_opened}
-use Rattle.ymx_headline.specs.stream.Worlds.{StreamWorld as Streams, Adds, Can, put}
-use Rattle.ymx_headline.specs.stream.Worlds.Act.{Opens}
+use Rattle.ymx_headline.specs.stream.Worlds.{StreamWorld as Streams}
+use Rattle.ymx_headline.proofs.stream.Happenings.{Adds, Can, put}
+use Rattle.ymx_headline.proofs.stream.Happenings.Act.{Opens}
 use Rattle.ymx_headline.proofs.stream.Worlds.{step}
 use Rattle.ymx_law_session.specs.Limits.{IsWithin}
 use Rattle.ymx_law_session.specs.Settled.{IsSettled}

@@ -20,8 +20,9 @@ use Rattle.ymx_model.specs.session.Histories.CallGives.{Outcome as HasOutcome, N
 use Rattle.ymx_model.specs.world.Worlds.{World, Pipe}
 use Rattle.ymx_machine.specs.machine.Machines.{Machine}
 use Rattle.ymx_machine.specs.machine.CallRules.{Rule, OpenSideRule, said_once}
-use Rattle.ymx_headline.specs.stream.Worlds.{StreamWorld as Streams, Streams as Found, Refines, acts}
-use Rattle.ymx_headline.specs.stream.Worlds.Act.{Ends}
+use Rattle.ymx_headline.specs.stream.Worlds.{StreamWorld as Streams, Streams as Found, Refines}
+use Rattle.ymx_headline.proofs.stream.Happenings.{acts}
+use Rattle.ymx_headline.proofs.stream.Happenings.Act.{Ends}
 use Rattle.ymx_headline.proofs.stream.Worlds.{step}
 use Rattle.ymx_law_session.specs.Limits.{IsWithin}
 use Rattle.ymx_law_session.specs.Settled.{IsSettled}

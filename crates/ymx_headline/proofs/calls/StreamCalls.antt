@@ -23,8 +23,9 @@ use Rattle.ymx_machine.specs.machine.Machines.{Machine}
 use Rattle.ymx_machine.specs.machine.CallRules.{Rule, RefusedWith, OpenSideRule, OnStream, is_close}
 use Rattle.ymx_machine.specs.machine.FreeMoves.{Releases as ReleasesOf}
 use Rattle.ymx_headline.specs.stream.Answers.{EndRule, end_released}
-use Rattle.ymx_headline.specs.stream.Worlds.{StreamWorld as Streams, Can, acts, put}
-use Rattle.ymx_headline.specs.stream.Worlds.Act.{Calls, Releases}
+use Rattle.ymx_headline.specs.stream.Worlds.{StreamWorld as Streams}
+use Rattle.ymx_headline.proofs.stream.Happenings.{Can, acts, put}
+use Rattle.ymx_headline.proofs.stream.Happenings.Act.{Calls, Releases}
 use Rattle.ymx_headline.proofs.stream.Nothing.{absent-end}
 use Rattle.ymx_headline.proofs.stream.Worlds.{step, put-same, put-other}
 use Rattle.ymx_law_session.specs.Limits.{IsWithin}
@@ -32,7 +33,7 @@ use Rattle.ymx_law_session.specs.Settled.{IsSettled}
 use Rattle.ymx_machine.proofs.Tests.{split, when}
 use Rattle.ymx_law_session.proofs.limits.HistoriesKeep.{gives-keep}
 use Rattle.ymx_law_session.proofs.given_up.SettledFrames.{gives-settled}
-use Rattle.ymx_headline.specs.records.Sides.{call_on, Has}
+use Rattle.ymx_headline.proofs.records.Ends.{call_on, Has}
 use Rattle.ymx_headline.proofs.records.Calls.{calls}
 use Rattle.ymx_headline.specs.Agrees.{AgreesAs, Keeps, found, is_absent, is_rejected}
 use Rattle.ymx_headline.proofs.relation.Mirrors.{refines-same, order-call, parity}

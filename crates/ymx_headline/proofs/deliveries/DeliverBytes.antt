@@ -19,14 +19,15 @@ use Rattle.ymx_model.specs.world.Worlds.{World, Pipe}
 use Rattle.ymx_model.specs.world.UnderWay.{held_bytes, lacking}
 use Rattle.ymx_machine.specs.machine.Machines.{Machine, hears}
 use Rattle.ymx_machine.specs.machine.FreeMoves.{FreeMove, FreeMoves}
-use Rattle.ymx_headline.specs.stream.Worlds.{StreamWorld as Streams, put, put_end, tagged}
+use Rattle.ymx_headline.specs.stream.Worlds.{StreamWorld as Streams, tagged}
+use Rattle.ymx_headline.proofs.stream.Happenings.{put, put_end}
 use Rattle.ymx_law_session.specs.Limits.{IsWithin}
 use Rattle.ymx_law_session.specs.Settled.{IsSettled}
 use Rattle.ymx_machine.proofs.Tests.{split, not_lt}
 use Rattle.ymx_machine.proofs.Lists.{look-change_same, look-change_other}
 use Rattle.ymx_law_session.proofs.limits.FeedsKeep.{takes-keep}
 use Rattle.ymx_law_session.proofs.given_up.SettledFrames.{takes-settled}
-use Rattle.ymx_headline.specs.records.Sides.{all_come}
+use Rattle.ymx_headline.proofs.records.Ends.{all_come}
 use Rattle.ymx_headline.proofs.world.Fed.{no-tail}
 use Rattle.ymx_headline.specs.Agrees.{AgreesAs, Keeps, RejectsOnce, Text, Sender, Receiver, sending, hearing, is_absent, pongs, parts_left, all_parts}
 use Rattle.ymx_headline.proofs.relation.Mirrors.{order-moves, parity}

@@ -11,7 +11,8 @@ use Rattle.ymx_model.specs.session.Arrivals.{is_data, payload, delta, take_head}
 use Rattle.ymx_headline.specs.stream.Flight.{part_is_syn, part_is_rst}
 use Rattle.ymx_headline.specs.stream.Arrivals.{comes_to}
 use Rattle.ymx_headline.specs.stream.Worlds.{tagged}
-use Rattle.ymx_headline.specs.records.Sides.{opening, rest_parts, all_come}
+use Rattle.ymx_headline.specs.records.Sides.{opening, rest_parts}
+use Rattle.ymx_headline.proofs.records.Ends.{all_come}
 use Rattle.ymx_headline.proofs.records.Comes.{credited, come-append, opening-comes, rest-if, head-alone, head-before, no-payload, no-bytes, own-ack}
 use Rattle.ymx_machine.proofs.Tests.{split, agrees}
 use Rattle.ymx_headline.specs.Agrees.{parts_left, is_absent, OnlyRejects}

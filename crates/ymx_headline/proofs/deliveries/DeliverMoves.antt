@@ -15,15 +15,16 @@ use Rattle.ymx_machine.specs.machine.FreeMoves.{FreeMove, FreeMoves, moved_by, c
 use Rattle.ymx_machine.specs.machine.FreeMoves.FreeMove.{OfStream, SynArrives}
 use Rattle.ymx_headline.specs.stream.Flight.{load, part_is_syn, part_is_rst}
 use Rattle.ymx_headline.specs.stream.Arrivals.{comes_to, MovesOf}
-use Rattle.ymx_headline.specs.stream.Faults.{BreaksNothing}
-use Rattle.ymx_headline.specs.stream.Worlds.{StreamWorld as Streams, Streams as Found, AreOne, Changes, Same, Refines, Delivers, Can, came, came_in, parts_of_stream, tagged, put, put_end}
+use Rattle.ymx_headline.proofs.stream.Faults.{BreaksNothing}
+use Rattle.ymx_headline.specs.stream.Worlds.{StreamWorld as Streams, Streams as Found, AreOne, Refines, parts_of_stream, tagged}
+use Rattle.ymx_headline.proofs.stream.Happenings.{Changes, Same, Delivers, Can, came, came_in, put, put_end}
 use Rattle.ymx_headline.specs.stream.Answers.{end_released}
-use Rattle.ymx_headline.specs.stream.Worlds.Act.{Comes, ComesIn, Releases as ActReleases}
+use Rattle.ymx_headline.proofs.stream.Happenings.Act.{Comes, ComesIn, Releases as ActReleases}
 use Rattle.ymx_headline.proofs.stream.Worlds.{step, put-same, put-other}
 use Rattle.ymx_headline.proofs.stream.OneStream.{one-shows}
 use Rattle.ymx_law_session.specs.Limits.{is_listed}
 use Rattle.ymx_machine.proofs.Tests.{same_or_not}
-use Rattle.ymx_headline.specs.records.Sides.{all_come}
+use Rattle.ymx_headline.proofs.records.Ends.{all_come}
 use Rattle.ymx_headline.proofs.machine.order.Maps.{look-change, look-change_other}
 use Rattle.ymx_headline.specs.Agrees.{found}
 use Rattle.ymx_headline.proofs.relation.Mirrors.{refines-same}

@@ -19,7 +19,8 @@ use Rattle.ymx_model.specs.session.Feeds.{byte_comes, starves}
 use Rattle.ymx_model.specs.world.Worlds.{World}
 use Rattle.ymx_machine.specs.machine.Machines.{Machine}
 use Rattle.ymx_headline.specs.stream.Answers.{end_released}
-use Rattle.ymx_headline.specs.stream.Worlds.{StreamWorld as Streams, put, put_end, tagged}
+use Rattle.ymx_headline.specs.stream.Worlds.{StreamWorld as Streams, tagged}
+use Rattle.ymx_headline.proofs.stream.Happenings.{put, put_end}
 use Rattle.ymx_law_session.specs.Limits.{is_offered_at, is_listed}
 use Rattle.ymx_machine.proofs.Tests.{both_of, when}
 use Rattle.ymx_machine.proofs.Lists.{look-change_same, look-change_other, look-without_same, look-without_other, distinct-change}

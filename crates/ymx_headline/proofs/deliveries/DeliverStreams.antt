@@ -18,12 +18,14 @@ use Rattle.ymx_model.specs.session.Arrivals.{payload, expects, take_head, meets,
 use Rattle.ymx_model.specs.session.Feeds.{byte_comes, starves}
 use Rattle.ymx_model.specs.world.Worlds.{World}
 use Rattle.ymx_machine.specs.machine.Machines.{Machine}
-use Rattle.ymx_headline.specs.stream.Worlds.{put, put_end, tagged}
+use Rattle.ymx_headline.specs.stream.Worlds.{tagged}
+use Rattle.ymx_headline.proofs.stream.Happenings.{put, put_end}
 use Rattle.ymx_law_session.specs.Limits.{IsWithin}
 use Rattle.ymx_law_session.specs.Settled.{IsSettled}
 use Rattle.ymx_machine.proofs.Tests.{agrees}
 use Rattle.ymx_machine.proofs.Lists.{look-change_same, look-change_other}
-use Rattle.ymx_headline.specs.records.Sides.{opening, rest_parts, frame_says, all_come}
+use Rattle.ymx_headline.specs.records.Sides.{opening, rest_parts, frame_says}
+use Rattle.ymx_headline.proofs.records.Ends.{all_come}
 use Rattle.ymx_headline.specs.Agrees.{AgreesAs, Keeps, RejectsOnce, Text, sending, hearing, parts_in, all_parts, parts_left, pongs, is_rejected}
 use Rattle.ymx_headline.proofs.relation.Tables.{keeps-put}
 use Rattle.ymx_headline.proofs.relation.Counts.{own-at}

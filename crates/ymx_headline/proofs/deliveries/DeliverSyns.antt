@@ -26,13 +26,15 @@ use Rattle.ymx_machine.specs.machine.Machines.{Machine, hears}
 use Rattle.ymx_machine.specs.machine.FreeMoves.{FreeMoves, counted_by, machine_refuses as refuses_syn}
 use Rattle.ymx_machine.specs.machine.FreeMoves.FreeMove.{SynArrives}
 use Rattle.ymx_headline.specs.stream.Arrivals.{refused_end}
-use Rattle.ymx_headline.specs.stream.Worlds.{StreamWorld as Streams, put, put_end, tagged}
+use Rattle.ymx_headline.specs.stream.Worlds.{StreamWorld as Streams, tagged}
+use Rattle.ymx_headline.proofs.stream.Happenings.{put, put_end}
 use Rattle.ymx_headline.proofs.stream.Worlds.{put-same, put-other}
 use Rattle.ymx_law_session.specs.Offers.{IsGoodSyn}
 use Rattle.ymx_machine.proofs.Tests.{same_or_not, agrees, none_of, when}
 use Rattle.ymx_machine.proofs.Lists.{look-change_same, look-change_other, look-added_same, look-added_other}
 use Rattle.ymx_law_session.proofs.offers.SynCauses.{good-syn}
-use Rattle.ymx_headline.specs.records.Sides.{rest_parts, rest_parts as rest_of, frame_says, all_come}
+use Rattle.ymx_headline.specs.records.Sides.{rest_parts, rest_parts as rest_of, frame_says}
+use Rattle.ymx_headline.proofs.records.Ends.{all_come}
 use Rattle.ymx_headline.proofs.records.Comes.{syn-opens}
 use Rattle.ymx_headline.specs.Agrees.{AgreesAs, Keeps, OnlyRejects, RejectsOnce, IsPlain, all_parts, is_rejected, pongs}
 use Rattle.ymx_headline.proofs.relation.Tables.{keeps-put}

@@ -23,8 +23,9 @@ use Rattle.ymx_model.specs.session.Sessions.{Session, Outgoing, is_running, is_c
 use Rattle.ymx_model.specs.world.Worlds.{World, Pipe, pushed}
 use Rattle.ymx_model.specs.world.UnderWay.{IsOneFrame, held_bytes}
 use Rattle.ymx_machine.specs.machine.Machines.{Machine}
-use Rattle.ymx_headline.specs.stream.Worlds.{StreamWorld as Streams, Refines, Can, acts, tagged}
-use Rattle.ymx_headline.specs.stream.Worlds.Act.{Sends}
+use Rattle.ymx_headline.specs.stream.Worlds.{StreamWorld as Streams, Refines, tagged}
+use Rattle.ymx_headline.proofs.stream.Happenings.{Can, acts}
+use Rattle.ymx_headline.proofs.stream.Happenings.Act.{Sends}
 use Rattle.ymx_headline.proofs.stream.Worlds.{step}
 use Rattle.ymx_law_session.specs.Limits.{IsWithin}
 use Rattle.ymx_law_session.specs.Settled.{IsSettled}

@@ -19,8 +19,8 @@ use Rattle.ymx_machine.specs.machine.Machines.{Machine}
 use Rattle.ymx_machine.specs.machine.FreeMoves.{moved_by, Releases}
 use Rattle.ymx_machine.specs.machine.FreeMoves.FreeMove.{OfStream}
 use Rattle.ymx_headline.specs.stream.Answers.{end_released}
-use Rattle.ymx_headline.specs.stream.Worlds.{Can, put}
-use Rattle.ymx_headline.specs.stream.Worlds.Act.{Releases as ActReleases}
+use Rattle.ymx_headline.proofs.stream.Happenings.{Can, put}
+use Rattle.ymx_headline.proofs.stream.Happenings.Act.{Releases as ActReleases}
 use Rattle.ymx_headline.proofs.stream.Worlds.{step}
 use Rattle.ymx_law_session.specs.Limits.{IsWithin}
 use Rattle.ymx_law_session.specs.Settled.{IsSettled}

@@ -16,8 +16,9 @@ use Rattle.ymx_model.specs.session.Sessions.{is_running}
 use Rattle.ymx_model.specs.session.Emissions.{begins, answer_frame}
 use Rattle.ymx_model.specs.world.Worlds.{World}
 use Rattle.ymx_machine.specs.machine.Machines.{Machine}
-use Rattle.ymx_headline.specs.stream.Worlds.{StreamWorld as Streams, Refines, Can, acts, put}
-use Rattle.ymx_headline.specs.stream.Worlds.Act.{Sends}
+use Rattle.ymx_headline.specs.stream.Worlds.{StreamWorld as Streams, Refines}
+use Rattle.ymx_headline.proofs.stream.Happenings.{Can, acts, put}
+use Rattle.ymx_headline.proofs.stream.Happenings.Act.{Sends}
 use Rattle.ymx_headline.proofs.stream.Worlds.{step, put-same, put-other}
 use Rattle.ymx_law_session.specs.Limits.{IsWithin}
 use Rattle.ymx_law_session.specs.Settled.{IsSettled}

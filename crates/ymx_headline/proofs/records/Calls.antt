@@ -27,7 +27,7 @@ use Rattle.ymx_law_session.specs.Limits.{IsWithin}
 use Rattle.ymx_machine.proofs.Tests.{split, both_of}
 use Rattle.ymx_machine.proofs.Lists.{look-change_same, look-without_same, distinct-change}
 use Rattle.ymx_law_session.proofs.due.Ready.{due-kind}
-use Rattle.ymx_headline.specs.records.Sides.{call_on, Has}
+use Rattle.ymx_headline.proofs.records.Ends.{call_on, Has}
 
 -- ---- what is left of a record
 

@@ -10,7 +10,7 @@ use Rattle.ymx_model.specs.session.Sessions.{new_session, is_own}
 use Rattle.ymx_model.specs.world.UnderWay.{IsOneFrame}
 use Rattle.ymx_model.specs.world.Worlds.{new_world, new_pipe}
 use Rattle.ymx_machine.specs.machine.Machines.{new_side, new_machine}
-use Rattle.ymx_headline.specs.stream.Worlds.{new_streams as new_streams}
+use Rattle.ymx_headline.proofs.stream.Happenings.{new_streams as new_streams}
 use Rattle.ymx_headline.proofs.stream.Worlds.{new-refines}
 use Rattle.ymx_headline.specs.machine.Numbers.{HasOrder}
 use Rattle.ymx_law_session.proofs.limits.HistoriesKeep.{new-keeps, odd_some}

@@ -15,7 +15,8 @@ use Rattle.ymx_machine.specs.machine.Machines.{Machine, SideState, mirror_machin
 use Rattle.ymx_machine.specs.machine.CallRules.{Rule}
 use Rattle.ymx_machine.specs.machine.FreeMoves.{FreeMove, MayMove, moved_by, FreeMoves, Releases, is_reset_arriving, machine_refuses}
 use Rattle.ymx_machine.specs.machine.FreeMoves.FreeMove.{OfStream, SynArrives, AwayArrives, PingThere, PingBack}
-use Rattle.ymx_headline.specs.stream.Worlds.{StreamWorld as Streams, Streams as Found, stream_mirror as streams_mirror, mirrored, flip_some, AreOne, Refines, Same}
+use Rattle.ymx_headline.specs.stream.Worlds.{StreamWorld as Streams, Streams as Found, AreOne, Refines}
+use Rattle.ymx_headline.proofs.stream.Happenings.{stream_mirror as streams_mirror, mirrored, flip_some, Same}
 use Rattle.ymx_headline.proofs.stream.Worlds.{mirrors}
 use Rattle.ymx_headline.specs.machine.Numbers.{NumbersOnce, HasNumberAt, IsOfferedList, offered_here, offered_there}
 use Rattle.ymx_machine.proofs.Tests.{same_or_not, split}

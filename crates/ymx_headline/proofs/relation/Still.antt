@@ -25,7 +25,7 @@ use Rattle.ymx_model.specs.world.UnderWay.{IsOneFrame, held_bytes, lacking}
 use Rattle.ymx_machine.specs.machine.Machines.{Machine, PingPlace, mirror_machine}
 use Rattle.ymx_machine.specs.machine.Machines.PingPlace.{Asked, There, Back}
 use Rattle.ymx_machine.specs.machine.Runs.{IsStillMachine, place_is_back}
-use Rattle.ymx_headline.specs.stream.Worlds.{IsQuietWorld, StillIf}
+use Rattle.ymx_headline.proofs.stream.Happenings.{IsQuietWorld, StillIf}
 use Rattle.ymx_headline.specs.stream.OneStream.{IsQuiet}
 use Rattle.ymx_headline.proofs.stream.Worlds.{all-still}
 use Rattle.ymx_headline.specs.machine.Numbers.{NumbersOnce}

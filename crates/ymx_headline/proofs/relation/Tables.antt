@@ -15,8 +15,9 @@ use Rattle.ymx_model.specs.world.Worlds.{World}
 use Rattle.ymx_machine.specs.machine.Machines.{Machine}
 use Rattle.ymx_machine.specs.machine.CallRules.{OnStream}
 use Rattle.ymx_headline.specs.stream.Answers.{EndRule}
-use Rattle.ymx_headline.specs.stream.Worlds.{StreamWorld as Streams, Streams as Found, Changes, Adds, Same, Refines, acts, put}
-use Rattle.ymx_headline.specs.stream.Worlds.Act.{Calls}
+use Rattle.ymx_headline.specs.stream.Worlds.{StreamWorld as Streams, Streams as Found, Refines}
+use Rattle.ymx_headline.proofs.stream.Happenings.{Changes, Adds, Same, acts, put}
+use Rattle.ymx_headline.proofs.stream.Happenings.Act.{Calls}
 use Rattle.ymx_headline.proofs.stream.Worlds.{step, put-same, put-other}
 use Rattle.ymx_law_session.specs.Limits.{IsWithin}
 use Rattle.ymx_law_session.specs.Settled.{IsSettled}

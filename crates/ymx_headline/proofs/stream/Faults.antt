@@ -1,19 +1,40 @@
 -- What comes over a link breaks no rule of windows, ids or flags.
-use Rattle.std.proofs.Common.{◌≡◌, ℕ, ◌+◌, ◌≤◌, List, [], ◌∷◌, length, true, inl, inr, refl, append-nil, arith}
+use Rattle.std.proofs.Common.{◌≡◌, ℕ, ◌+◌, ◌≤◌, List, [], ◌∷◌, length, Bool, true, false, inl, inr, refl, append-nil, arith}
 use Rattle.ymx_machine.specs.shared.Limits.{first_credit}
 use Rattle.ymx_machine.specs.stream.Streams.{Stream, flip}
-use Rattle.ymx_machine.specs.shared.Phases.{takes}
+use Rattle.ymx_machine.specs.shared.Phases.{takes, is_unborn}
 use Rattle.ymx_machine.specs.shared.Phases.Phase.{Unborn}
 use Rattle.ymx_model.specs.session.Records.{End, takes_payload}
 use Rattle.ymx_model.specs.session.Parts.{Part}
 use Rattle.ymx_model.specs.session.Parts.Part.{Syn, Ack, Data, Credit, Fin, Rst}
 use Rattle.ymx_headline.specs.stream.Links.{Alive, Heard, Related}
-use Rattle.ymx_headline.specs.stream.Faults.{first_load, BreaksNothing}
 use Rattle.ymx_headline.proofs.stream.Flight.{no_list}
 use Rattle.ymx_headline.proofs.stream.Directions.{lists}
 use Rattle.ymx_headline.proofs.stream.Arrives.{syn-only, syn-finds}
 use Rattle.ymx_headline.proofs.stream.Comes.{ended-empty}
 use Rattle.ymx_headline.proofs.stream.Phases.{down-takes, born}
+
+-- the payload of the frame whose SYN stands before these parts
+abbrev pub first_load : List Part → List ℕ
+first_load (Data b ∷ fs) = b
+first_load _ = []
+
+-- A delta leaves the credit within the peer's window `theirs`, where the end uses it.
+abbrev pub DeltaFits : (theirs d : ℕ) → End → Type 0
+DeltaFits theirs d e = takes e.phase ≡ true → e.writer.credit + d ≤ theirs
+
+-- The part f, with `rest` behind it, breaks no rule at the end e, which opened the stream if `own`; the peer's
+-- window is `theirs`. A SYN finds no record and isn't on an own id, and its delta and payload fit a new
+-- record. An ACK is for an own stream. All but a SYN find an end that is born.
+-- Payload fits the granted window where it is taken, and none comes behind the end.
+abbrev pub BreaksNothing : (theirs : ℕ) → (own : Bool) → Part → (rest : List Part) → End → Type 0
+BreaksNothing theirs own (Syn d) rest e = (e.phase ≡ Unborn) × (own ≡ false) × (first_credit + d ≤ theirs) × (length (first_load rest) ≤ first_credit)
+BreaksNothing theirs own (Ack d) rest e = (is_unborn e.phase ≡ false) × (own ≡ true) × DeltaFits theirs d e
+BreaksNothing theirs own (Data b) rest e =
+    (is_unborn e.phase ≡ false) × (takes e.phase ≡ true → length b ≤ e.reader.granted) × (takes e.phase ≡ true → e.reader.ended ≡ true → b ≡ [])
+BreaksNothing theirs own (Credit d) rest e = (is_unborn e.phase ≡ false) × DeltaFits theirs d e
+BreaksNothing theirs own Fin rest e = (is_unborn e.phase ≡ false) × (takes e.phase ≡ true → takes_payload e ≡ true)
+BreaksNothing theirs own Rst rest e = is_unborn e.phase ≡ false
 
 data-granted : (b : List ℕ) (wx wy : ℕ) (x y : End) (xy yx : List Part) (s : Stream) →
     takes x.phase ≡ true → Alive wx wy x y xy (Data b ∷ yx) s → length b ≤ x.reader.granted
@@ -78,12 +99,3 @@ pub related-breaks : (f : Part) (wx wy : ℕ) (x y : End) (xy yx : List Part) (s
 related-breaks f wx wy x y xy yx s (inl c) = alive-breaks f wx wy x y xy yx s c
 related-breaks f wx wy x y xy yx s (inr (inl c)) = absurd (no_list c.gone)
 related-breaks f wx wy x y xy yx s (inr (inr c)) = said-breaks f wx wy x y xy yx s c
-
--- an end never has more credit than the peer's window, and never holds more than its own
-alive-within : (wx wy : ℕ) (x y : End) (xy yx : List Part) (s : Stream) → takes x.phase ≡ true → Alive wx wy x y xy yx s → (x.writer.credit ≤ wy) × (length x.reader.unread ≤ wx)
-alive-within wx wy x y xy yx s t c = let o = c.outbound.holds in let i = c.inbound.holds in grind (arith, lists)
-
-pub related-within : (wx wy : ℕ) (x y : End) (xy yx : List Part) (s : Stream) → takes x.phase ≡ true → Related wx wy x y xy yx s → (x.writer.credit ≤ wy) × (length x.reader.unread ≤ wx)
-related-within wx wy x y xy yx s t (inl c) = alive-within wx wy x y xy yx s t c
-related-within wx wy x y xy yx s t (inr (inl c)) = absurd ((down-takes x.phase c.spent_x.down).1 t)
-related-within wx wy x y xy yx s t (inr (inr c)) = absurd ((down-takes x.phase c.spent_y.down).1 t)

@@ -1,5 +1,5 @@
 -- Both sides see one stream, and a stream begins.
-use Rattle.std.proofs.Common.{◌≡◌, ℕ, ◌≤◌, List, [], length, Bool, true, false, not, ◌⊎◌, inl, inr, arith}
+use Rattle.std.proofs.Common.{◌≡◌, ℕ, ◌≤◌, List, [], length, Bool, true, false, not, inl, inr, arith}
 use Rattle.ymx_machine.specs.shared.Limits.{first_credit}
 use Rattle.ymx_machine.specs.stream.Streams.{Stream, flip, opened_stream, stream_write}
 use Rattle.ymx_machine.specs.shared.Phases.Phase.{Unborn, Live}
@@ -18,11 +18,6 @@ pub related-flip : (wx wy : ℕ) (x y : End) (xy yx : List Part) (s : Stream) �
 related-flip wx wy x y xy yx s (inl c) = inl (flips wx wy x y xy yx s c)
 related-flip wx wy x y xy yx s (inr (inl c)) = inr (inr (rw not_not c))
 related-flip wx wy x y xy yx s (inr (inr c)) = inr (inl c)
-
--- a stream begins
-pub begins : (with_data : Bool) (wx wy : ℕ) → first_credit ≤ wx → first_credit ≤ wy →
-    Alive wx wy (new_end wx Live true with_data) (new_end wy Unborn false false) [] [] (opened_stream wx wy)
-begins with_data wx wy a b = grind (arith, lists)
 
 -- a stream begins with data
 pub begins-with : (bytes : List ℕ) (with_data : Bool) (wx wy : ℕ) → first_credit ≤ wx → first_credit ≤ wy → length bytes ≤ first_credit →

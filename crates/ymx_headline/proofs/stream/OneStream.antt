@@ -23,8 +23,8 @@ use Rattle.ymx_headline.proofs.stream.Nothing.{absent-only, absent-rule}
 use Rattle.ymx_headline.proofs.stream.Rules.{forgets_lost, shows, law-call, law-forget_lost}
 use Rattle.ymx_headline.proofs.stream.Calls.{none-done, related-accepts, related-goes, related-releases}
 use Rattle.ymx_headline.proofs.stream.Sends.{related-sends}
-use Rattle.ymx_headline.proofs.stream.Faults.{related-breaks, related-within}
-use Rattle.ymx_headline.specs.stream.Faults.{BreaksNothing}
+use Rattle.ymx_headline.proofs.stream.Faults.{related-breaks}
+use Rattle.ymx_headline.proofs.stream.Faults.{BreaksNothing}
 use Rattle.ymx_machine.specs.shared.Limits.{first_credit}
 use Rattle.ymx_headline.proofs.stream.Still.{related-still}
 use Rattle.ymx_headline.proofs.stream.Comes.{part-comes, piece-comes, payload-over}
@@ -224,8 +224,3 @@ one-begins bytes with_data oy wx wy a b fits = record {
 pub one-breaks : (f : Part) (oy : Bool) (wx wy : ℕ) (x y : End) (xy yx : List Part) (s : Stream) → IsOneStream false oy wx wy x y xy (f ∷ yx) s → BreaksNothing wy s.own f yx x
 one-breaks f oy wx wy x y xy yx s c =
     let e = stands-itself x c.mine c.mine_stands in related-breaks f wx wy x c.yours xy yx s (related-mine wx wy c.mine x c.yours xy (f ∷ yx) s (sym e) c.related)
-
-pub one-within : (ox oy : Bool) (wx wy : ℕ) (x y : End) (xy yx : List Part) (s : Stream) → takes x.phase ≡ true → IsOneStream ox oy wx wy x y xy yx s →
-    (x.writer.credit ≤ wy) × (length x.reader.unread ≤ wx)
-one-within ox oy wx wy x y xy yx s t c =
-    let e = takes-itself ox x c.mine t c.mine_stands in related-within wx wy x c.yours xy yx s t (related-mine wx wy c.mine x c.yours xy yx s (sym e) c.related)

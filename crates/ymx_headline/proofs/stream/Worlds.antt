@@ -1,5 +1,5 @@
 -- What happens at a side touches one stream, and is a step of the machine's streams.
-use Rattle.std.proofs.Common.{◌≡◌, ◌≢◌, ℕ, ◌≤◌, List, [], ◌∷◌, ◌++◌, take, drop, Bool, true, false, not, ◌||◌, ◌==◌, ◌⊎◌, inl, inr, Option, None, Some, refl, sym, ap, subst, ◌∙◌, append-nil, arith}
+use Rattle.std.proofs.Common.{◌≡◌, ◌≢◌, ℕ, ◌≤◌, List, [], ◌∷◌, ◌++◌, take, drop, Bool, true, false, not, ◌||◌, ◌⊎◌, inl, inr, Option, None, Some, refl, sym, ap, subst, ◌∙◌, append-nil, arith}
 use Rattle.std.proofs.lemmas.Grind.{common_steps}
 use Rattle.std.proofs.lemmas.Bool.Decides.{nat_tests}
 use Rattle.ymx_machine.proofs.Tests.{same_or_not}
@@ -15,16 +15,18 @@ use Rattle.ymx_model.specs.declared.types.FrameKind.{FrameKind}
 use Rattle.ymx_model.specs.session.FramesDue.{next_kind, begin_frame}
 use Rattle.ymx_model.specs.session.Parts.{Part, parts_of}
 use Rattle.ymx_model.specs.session.Parts.Part.{Syn, Ack, Data, Credit, Fin, Rst}
-use Rattle.ymx_headline.specs.stream.Flight.{load, part_is_data}
+use Rattle.ymx_headline.specs.stream.Flight.{load}
+use Rattle.ymx_headline.proofs.stream.Happenings.{part_is_data}
 use Rattle.ymx_headline.specs.stream.Links.{Related}
 use Rattle.ymx_headline.specs.stream.Arrivals.{comes_to, Goes}
-use Rattle.ymx_headline.specs.stream.Faults.{BreaksNothing}
+use Rattle.ymx_headline.proofs.stream.Faults.{BreaksNothing}
 use Rattle.ymx_headline.proofs.stream.Flight.{no_list}
 use Rattle.ymx_headline.specs.stream.Answers.{end_released}
 use Rattle.ymx_headline.specs.stream.OneStream.{IsOneStream, IsQuiet}
-use Rattle.ymx_headline.specs.stream.Worlds.{parts_of_stream, tagged, put, put_end, StreamWorld, stream_mirror, new_streams, Streams, no_streams, flip_some, mirrored, Changes, Same, IsFresh, AreOne, Refines, Act, Happening, rest_of, came, came_in, acts, happens, is_payload, Can, CanHappen, Delivers, StreamSteps, StreamStepsAt, IsQuietWorld, StillIf, AllStill, RunsBeside, is_first_of, touches, touches_at, SameStream}
-use Rattle.ymx_headline.specs.stream.Worlds.Act.{Opens, Calls, Accepts, Sends, Comes, ComesIn, Releases, Ends, Stops}
-use Rattle.ymx_headline.specs.stream.Worlds.Happening.{AtA, AtB}
+use Rattle.ymx_headline.specs.stream.Worlds.{parts_of_stream, tagged, StreamWorld, Streams, IsFresh, AreOne, Refines}
+use Rattle.ymx_headline.proofs.stream.Happenings.{put, put_end, stream_mirror, new_streams, no_streams, flip_some, mirrored, Changes, Same, Act, Happening, rest_of, came, came_in, acts, happens, is_payload, Can, CanHappen, Delivers, StreamSteps, StreamStepsAt, IsQuietWorld, StillIf, AllStill}
+use Rattle.ymx_headline.proofs.stream.Happenings.Act.{Opens, Calls, Accepts, Sends, Comes, ComesIn, Releases, Ends, Stops}
+use Rattle.ymx_headline.proofs.stream.Happenings.Happening.{AtA, AtB}
 use Rattle.ymx_headline.proofs.stream.Links.{not_not}
 use Rattle.ymx_headline.proofs.stream.Nothing.{absent-only}
 use Rattle.ymx_headline.proofs.stream.OneStream.{one-begins, one-flip, one-calls, one-accepts, one-shows, one-sends, one-comes, one-pieces, one-releases, one-loses, one-still, one-breaks}
@@ -67,10 +69,6 @@ put-other i j v f n = grind (arith, nat_tests)
 are-is : (ox oy : Bool) (wx wy : ℕ) (x x' y y' : End) (xy xy' yx yx' : List Part) (s s' : Option Stream) →
     x' ≡ x → y' ≡ y → xy' ≡ xy → yx' ≡ yx → s' ≡ s → AreOne ox oy wx wy x y xy yx s → AreOne ox oy wx wy x' y' xy' yx' s'
 are-is ox oy wx wy x x' y y' xy xy' yx yx' s s' a b c d e h = rw (a, b, c, d, e) h
-
--- a stream that is there
-there : (ox oy : Bool) (wx wy : ℕ) (x y : End) (xy yx : List Part) (o : Option Stream) (s : Stream) → o ≡ Some s → AreOne ox oy wx wy x y xy yx o → IsOneStream ox oy wx wy x y xy yx s
-there ox oy wx wy x y xy yx o s e l = subst (AreOne ox oy wx wy x y xy yx) e l
 
 one : (j : ℕ) (w w' : StreamWorld) (m : Streams) (t : Stream) → (w'.a.window ≡ w.a.window) × (w'.b.window ≡ w.b.window) × (w'.a.over ≡ w.a.over) × (w'.b.over ≡ w.b.over) →
     ((i : ℕ) → i ≢ j → (w'.a.ends i ≡ w.a.ends i) × (w'.b.ends i ≡ w.b.ends i) × (parts_of_stream i w'.ab ≡ parts_of_stream i w.ab) × (parts_of_stream i w'.ba ≡ parts_of_stream i w.ba)) →
@@ -338,50 +336,7 @@ are-still ox oy wx wy x y xy yx (Some s) a b c d p q l = one-still wx wy x y s p
 pub all-still : (w : StreamWorld) (m : Streams) → IsQuietWorld w → Refines w m → AllStill w m
 all-still w m q r i = are-still w.a.over w.b.over w.a.window w.b.window (w.a.ends i) (w.b.ends i) (parts_of_stream i w.ab) (parts_of_stream i w.ba) (m i) q.a_runs q.b_runs (ap (parts_of_stream i) q.ab) (ap (parts_of_stream i) q.ba) (q.a i) (q.b i) (r.streams i)
 
--- ---- every list of happenings
-
-pub runs_beside : (es : List Happening) (w : StreamWorld) (m : Streams) → Refines w m → RunsBeside es w m
-runs_beside [] w m r = tt
-runs_beside (e ∷ es) w m r = λ can.
-    let s = step_at e w m can r in
-    (s.0, s.1, (λ q. all-still (happens e w) s.0 q s.2), runs_beside es (happens e w) s.0 s.2)
+-- ---- before any stream was opened
 
 pub new-refines : (mine yours : ℕ) → first_credit ≤ mine → first_credit ≤ yours → Refines (new_streams mine yours) no_streams
 new-refines mine yours a b = record { a_window = a; b_window = b; streams = λ i. record { mine = refl; yours = refl; none_outbound = refl; none_inbound = refl } }
-
--- ---- all other streams
-
-differs : (i j : ℕ) → (i == j) ≡ false → i ≢ j
-differs i j h = grind (arith, nat_tests)
-
-front-keeps : (i : ℕ) (left : List Part) (x' : End) (p : ℕ × Part) (ps : List (ℕ × Part)) (w : StreamWorld) → w.ba ≡ p ∷ ps → (i == p.0) ≡ false →
-    SameStream i w (record w { a = put_end p.0 x' w.a; ba = tagged p.0 left ++ ps })
-front-keeps i left x' p ps w e h = let d = differs i p.0 h in record {
-  a = put-other i p.0 x' w.a.ends d;
-  b = refl;
-  ab = refl;
-  ba = of-front_other i p.0 left ps d ∙ sym (ap (parts_of_stream i) e ∙ of-front_other i p.0 (p.1 ∷ []) ps d);
-}
-
-came-keeps : (i : ℕ) (refuse : Bool) (ps : List (ℕ × Part)) (w : StreamWorld) → w.ba ≡ ps → is_first_of i ps ≡ false → SameStream i w (came refuse ps w)
-came-keeps i refuse [] w e h = record { a = refl; b = refl; ab = refl; ba = refl }
-came-keeps i refuse (p ∷ ps) w e h = front-keeps i [] _ p ps w e h
-
-came_in-keeps : (i n : ℕ) (ps : List (ℕ × Part)) (w : StreamWorld) → w.ba ≡ ps → is_first_of i ps ≡ false → SameStream i w (came_in n ps w)
-came_in-keeps i n [] w e h = record { a = refl; b = refl; ab = refl; ba = refl }
-came_in-keeps i n (p ∷ ps) w e h = front-keeps i (rest_of n p.1 ∷ []) _ p ps w e h
-
-acts-keep : (i : ℕ) (act : Act) (w : StreamWorld) → touches i act w ≡ false → SameStream i w (acts act w)
-acts-keep i (Opens j with_data bytes) w h = record { a = put-other i j _ w.a.ends (differs i j h); b = refl; ab = refl; ba = refl }
-acts-keep i (Calls j call reply next) w h = record { a = put-other i j _ w.a.ends (differs i j h); b = refl; ab = refl; ba = refl }
-acts-keep i (Accepts j) w h = record { a = put-other i j _ w.a.ends (differs i j h); b = refl; ab = refl; ba = refl }
-acts-keep i (Sends j k limit) w h = let d = differs i j h in record { a = put-other i j _ w.a.ends d; b = refl; ab = of-push_other i j w.ab _ d; ba = refl }
-acts-keep i (Comes refuse) w h = came-keeps i refuse w.ba w refl h
-acts-keep i (ComesIn n) w h = came_in-keeps i n w.ba w refl h
-acts-keep i (Releases j) w h = record { a = put-other i j _ w.a.ends (differs i j h); b = refl; ab = refl; ba = refl }
-acts-keep i Ends w h = record { a = refl; b = refl; ab = refl; ba = refl }
-acts-keep i Stops w h = record { a = refl; b = refl; ab = refl; ba = refl }
-
-pub others-keep : (i : ℕ) (e : Happening) (w : StreamWorld) → touches_at i e w ≡ false → SameStream i w (happens e w)
-others-keep i (AtA act) w h = acts-keep i act w h
-others-keep i (AtB act) w h = let k = acts-keep i act (stream_mirror w) h in record { a = k.b; b = k.a; ab = k.ba; ba = k.ab }

@@ -13,7 +13,7 @@ use Rattle.ymx_model.specs.session.Feeds.{Takes, Feeds, is_stuck, starves, why_o
 use Rattle.ymx_law_session.specs.Limits.{IsWithin}
 use Rattle.ymx_machine.proofs.Tests.{split, agrees, none_of}
 use Rattle.ymx_law_session.proofs.pieces.Chunks.{takes-join}
-use Rattle.ymx_law_session.proofs.pieces.Pieces.{head-takes, head-whole, counted}
+use Rattle.ymx_law_session.proofs.pieces.Pieces.{head-takes, head-whole}
 use Rattle.ymx_law_session.proofs.pieces.Frames.{block-takes, takes-deaf}
 use Rattle.ymx_law_session.proofs.limits.FeedsKeep.{takes-keep, payload_some}
 use Rattle.ymx_headline.specs.worked.Plays.{Drunk, block, piece, whole_head, drink, drunk, play_feed}
@@ -41,10 +41,6 @@ drank_join a b c p q = record {
 
 take-drop : (n : ℕ) (xs : List ℕ) → xs ≡ take n xs ++ drop n xs
 take-drop n xs = grind (arith, common_steps)
-
--- memory is found
-none_starved : (bytes : List ℕ) (s : Session) → counted false bytes s ≡ 0
-none_starved bytes s = refl
 
 running : (st : Status) (s : Session) → s.status ≡ st → is_stuck s ≡ false → is_deaf st ≡ false → s.status ≡ Running
 running Running s e free d = e

@@ -2,11 +2,11 @@
 use Rattle.std.proofs.Common.{◌≡◌, [], ◌∷◌, ◌++◌, drop, replicate, true, false, Some, refl}
 use Rattle.ymx_machine.specs.declared.types.Side.TheVariants.{A, B}
 use Rattle.ymx_machine.specs.declared.types.Direction.TheVariants.{AB, BA}
-use Rattle.ymx_machine.specs.declared.types.Step.TheVariants.{Emit, Deliver, Stop, End}
-use Rattle.ymx_machine.specs.declared.types.Call.TheVariants.{Open, Accept, Write, Read, Finish, Reset, Ping, Ponged, GoAway}
-use Rattle.ymx_machine.specs.declared.types.Answer.TheVariants.{Opened, Accepted, Read as GaveBytes, ReadEnd, ReadWait, Done, Pinged, Ponged as Back, Refused, Emitted, NotStopped}
+use Rattle.ymx_machine.specs.declared.types.Step.TheVariants.{Emit, Deliver, End}
+use Rattle.ymx_machine.specs.declared.types.Call.TheVariants.{Open, Accept, Write, Read, Finish, Reset}
+use Rattle.ymx_machine.specs.declared.types.Answer.TheVariants.{Opened, Accepted, Read as GaveBytes, ReadEnd, Done, Refused, Emitted, NotStopped}
 use Rattle.ymx_machine.specs.declared.types.CallFault.TheVariants as fault
-use Rattle.ymx_model.specs.world.Worlds.{new_world, is_quiet}
+use Rattle.ymx_model.specs.world.Worlds.{is_quiet}
 use Rattle.ymx_headline.specs.worked.Plays.{Played, play}
 use Rattle.ymx_headline.specs.worked.Words.{start, a, b, x, took, fed, rounds, window_frame, hello}
 
@@ -73,34 +73,6 @@ one_reset_of_two_is : (drop 13 one_reset_of_two.answers ≡ Done ∷ Emitted 12 
     × (other_stream_goes_on.answers ≡ fed 12 ∷ GaveBytes (x 10) ∷ Refused fault.Reset ∷ [])
 one_reset_of_two_is = (refl, refl, refl)
 
--- the end of the input inside a header
-abbrev pub end_inside_a_header : Played
-end_inside_a_header = play (a Open ∷ a (Write 1 (0x68 ∷ 0x69 ∷ [])) ∷ Emit A 100 ∷ Deliver AB 100 ∷ b Accept ∷ a (Write 1 (0x6a ∷ [])) ∷ Emit A 11 ∷ Deliver AB 11 ∷ Stop AB ∷ End AB ∷ b (Read 1 10) ∷ b (Read 1 10) ∷ []) start
-
-end_inside_a_header_is : end_inside_a_header.answers ≡ Opened 1 ∷ took 2 ∷ Emitted 26 ∷ fed 26 ∷ Accepted (Some 1) ∷ took 1 ∷ Emitted 11 ∷ fed 11 ∷ Done ∷ Done ∷ GaveBytes (0x68 ∷ 0x69 ∷ []) ∷ Refused fault.Lost ∷ []
-end_inside_a_header_is = refl
-
--- the ids are used up
-abbrev pub ids_used_up : Played
-ids_used_up = play (a Open ∷ a Open ∷ []) (new_world 262144 4294967293 262144 2)
-
-ids_used_up_is : ids_used_up.answers ≡ Opened 4294967293 ∷ Refused fault.Exhausted ∷ []
-ids_used_up_is = refl
-
--- a stream refused behind a go away
-abbrev pub refused_behind_go_away : Played
-refused_behind_go_away = play (b GoAway ∷ a Open ∷ Emit A 100 ∷ Deliver AB 100 ∷ Emit B 100 ∷ Deliver BA 100 ∷ a (Read 1 5) ∷ a Open ∷ []) start
-
-refused_behind_go_away_is : refused_behind_go_away.answers ≡ Done ∷ Opened 1 ∷ Emitted 12 ∷ fed 12 ∷ Emitted 24 ∷ fed 24 ∷ Refused fault.Reset ∷ Refused fault.PeerAway ∷ []
-refused_behind_go_away_is = refl
-
--- nothing to read or write
-abbrev pub nothing_to_read : Played
-nothing_to_read = play (a Open ∷ a (Read 1 0) ∷ a (Write 1 []) ∷ a (Read 1 5) ∷ a (Read 3 5) ∷ []) start
-
-nothing_to_read_is : nothing_to_read.answers ≡ Opened 1 ∷ GaveBytes [] ∷ took 0 ∷ ReadWait ∷ Refused fault.NoStream ∷ []
-nothing_to_read_is = refl
-
 -- a pipe that was not stopped has no end
 abbrev pub not_stopped : Played
 not_stopped = play (End AB ∷ []) start
@@ -126,10 +98,3 @@ cut_open_is : (cut_open.answers ≡ Opened 1 ∷ Emitted 5 ∷ [])
     × (cut_fed.answers ≡ fed 12 ∷ [])
     × (is_quiet cut_fed.world ≡ true)
 cut_open_is = (refl, refl, refl, refl, refl, refl, refl)
-
--- a ping and its answer
-abbrev pub late_pong : Played
-late_pong = play (a Ping ∷ Emit A 100 ∷ Deliver AB 100 ∷ a (Ponged 0) ∷ Emit B 100 ∷ Deliver BA 100 ∷ a (Ponged 0) ∷ a (Ponged 0) ∷ []) start
-
-late_pong_is : late_pong.answers ≡ Pinged 0 ∷ Emitted 12 ∷ fed 12 ∷ Back false ∷ Emitted 12 ∷ fed 12 ∷ Back true ∷ Back false ∷ []
-late_pong_is = refl

@@ -26,10 +26,6 @@ abbrev pub part_is_syn : Part → Bool
 part_is_syn (Syn d) = true
 part_is_syn _ = false
 
-abbrev pub part_is_data : Part → Bool
-part_is_data (Data b) = true
-part_is_data _ = false
-
 abbrev pub part_is_ack : Part → Bool
 part_is_ack (Ack d) = true
 part_is_ack _ = false

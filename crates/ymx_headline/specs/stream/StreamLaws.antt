@@ -2,7 +2,6 @@
 use Rattle.std.specs.Prelude.{ℕ, ◌≤◌, ◌≡◌, ◌⊎◌, List, [], ◌∷◌, ◌++◌, length, Bool, true, false, None, Some}
 use Rattle.ymx_machine.specs.shared.Limits.{first_credit}
 use Rattle.ymx_machine.specs.stream.Streams.{Stream, flip, Allowed, after_move, IsStill, opened_stream, stream_write, stream_accept}
-use Rattle.ymx_machine.specs.shared.Phases.{takes}
 use Rattle.ymx_machine.specs.shared.Phases.Phase.{Unborn, Offered, Live, Lingering}
 use Rattle.ymx_machine.specs.stream.Streams.Move.{Released}
 use Rattle.ymx_machine.specs.stream.StreamRules.{StreamCall, StreamRule}
@@ -15,7 +14,6 @@ use Rattle.ymx_model.specs.session.Parts.Part.{Data}
 use Rattle.ymx_headline.specs.stream.Arrivals.{comes_to, Goes}
 use Rattle.ymx_headline.specs.stream.Answers.{EndRule, end_released}
 use Rattle.ymx_headline.specs.stream.OneStream.{IsOneStream, EndShows, IsQuiet}
-use Rattle.ymx_headline.specs.stream.Faults.{BreaksNothing}
 
 -- A stream that this side opens, with these first bytes (none, if it is opened without data).
 abbrev pub Begins : Type 0
@@ -80,13 +78,3 @@ Loses = (over_y : Bool) (wx wy : ℕ) (x y : End) (xy yx : List Part) (s : Strea
 -- Where nothing is due and nothing under way, the stream is still.
 abbrev pub QuietIsStill : Type 0
 QuietIsStill = (wx wy : ℕ) (x y : End) (s : Stream) → IsQuiet wx x → IsQuiet wy y → IsOneStream false false wx wy x y [] [] s → IsStill wx wy s
-
--- What comes breaks no rule of windows, ids or flags.
-abbrev pub NoFaultLaw : Type 0
-NoFaultLaw = (f : Part) (over_y : Bool) (wx wy : ℕ) (x y : End) (xy yx : List Part) (s : Stream) →
-    IsOneStream false over_y wx wy x y xy (f ∷ yx) s → BreaksNothing wy s.own f yx x
-
--- An end never has more credit than the peer's window, nor more unread bytes than its own.
-abbrev pub WithinWindows : Type 0
-WithinWindows = (over_x over_y : Bool) (wx wy : ℕ) (x y : End) (xy yx : List Part) (s : Stream) →
-    takes x.phase ≡ true → IsOneStream over_x over_y wx wy x y xy yx s → (x.writer.credit ≤ wy) × (length x.reader.unread ≤ wx)

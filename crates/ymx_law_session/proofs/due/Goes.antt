@@ -10,12 +10,6 @@ pub flows-join : (may : Choice → Session → Bool) (a b : List ℕ) (s t u : S
 flows-join may [] b s t u e q = let P : Session → Type 0 = λ x. Flows may b x u in subst P e q
 flows-join may (x ∷ a) b s t u (m, ready, next, p) q = (m, ready, next, flows-join may a b (moves_on 1 m) t u p q)
 
--- and what goes out at once goes out in two pieces
-pub flows-cut : (may : Choice → Session → Bool) (a b : List ℕ) (s u : Session) → Flows may (a ++ b) s u → (t : Session) × Flows may a s t × Flows may b t u
-flows-cut may [] b s u q = (s, refl, q)
-flows-cut may (x ∷ a) b s u (m, ready, next, p) =
-    let r = flows-cut may a b (moves_on 1 m) u p in (r.0, (m, ready, next, r.1), r.2)
-
 -- an order is one of all orders
 ready-freely : (may : Choice → Session → Bool) (s t : Session) → Ready may s t → Ready freely s t
 ready-freely may s t (inl h) = inl h

@@ -1,5 +1,5 @@
 -- Every event keeps the limits, and so does every history.
-use Rattle.std.proofs.Common.{◌≡◌, ℕ, zero, suc, ◌+◌, ◌^◌, ◌<◌, ◌≤◌, List, [], ◌∷◌, ◌++◌, length, Bool, true, refl, sym, subst, arith}
+use Rattle.std.proofs.Common.{◌≡◌, ℕ, zero, suc, ◌+◌, ◌^◌, ◌<◌, ◌≤◌, List, [], ◌∷◌, Bool, true, refl, sym, subst, arith}
 use Rattle.ymx_model.specs.declared.types.Role.{Role}
 use Rattle.ymx_model.specs.declared.types.Role.TheVariants.{Client}
 use Rattle.ymx_model.specs.session.Events.{Event}
@@ -48,12 +48,3 @@ pub replays-keep : (may : Choice → Session → Bool) (at : ℕ) (entries : Lis
 replays-keep may at [] s t e w = subst IsWithin (sym e) w
 replays-keep may at (entry ∷ entries) s t (position, (next, g, p)) w =
     replays-keep may (at + 1) entries next t p (gives-keep may s next entry.event entry.reply g w)
-
--- ---- one entry more
-
-pub replays-push : (may : Choice → Session → Bool) (at : ℕ) (entries : List Entry) (entry : Entry) (s t u : Session) → ReplaysFrom may at entries s t →
-    entry.position ≡ at + length entries → Gives may t entry.event entry.reply u → ReplaysFrom may at (entries ++ entry ∷ []) s u
-replays-push may at [] entry s t u e p g =
-    let P : Session → Type 0 = λ x. Gives may x entry.event entry.reply u in (omega arith, (u, subst P e g, refl))
-replays-push may at (first ∷ entries) entry s t u (position, (next, h, r)) p g =
-    (position, (next, h, replays-push may (at + 1) entries entry next t u r (omega arith) g))

@@ -1,10 +1,8 @@
 -- The spelling of a whole frame does what the frame does.
-use Rattle.std.proofs.Common.{◌≡◌, ◌⊎◌, inl, inr, ℕ, ◌<◌, ◌≤◌, List, [], ◌∷◌, ◌++◌, length, drop, Bool, true, false, ◌||◌, ◌==◌, nat_lt, Option, None, Some, refl, sym, ap, ◌∙◌, subst, arith}
-use Rattle.std.proofs.lemmas.Grind.{common_steps}
+use Rattle.std.proofs.Common.{◌≡◌, ◌⊎◌, inl, inr, ℕ, ◌<◌, ◌≤◌, List, [], ◌∷◌, ◌++◌, length, Bool, true, false, ◌||◌, ◌==◌, nat_lt, Option, None, Some, refl, sym, ◌∙◌, subst, arith}
 use Rattle.std.proofs.lemmas.Bool.Decides.{nat_tests}
 use Rattle.ymx_header.specs.declared.header.Header.{Header}
-use Rattle.ymx_header.specs.Headers.{spelling, IsInRange, has_syn, has_rst, has_fin}
-use Rattle.ymx_header.proofs.Spellings.{header_of-spelling}
+use Rattle.ymx_header.specs.Headers.{has_syn, has_rst, has_fin}
 use Rattle.ymx_model.specs.declared.types.Status.{Status}
 use Rattle.ymx_model.specs.declared.types.Status.TheVariants.{Running, Lost, Broken, Closed}
 use Rattle.ymx_model.specs.declared.types.Response.TheVariants.{Pong, Reject}
@@ -17,10 +15,8 @@ use Rattle.ymx_model.specs.session.Sessions.{Session, Incoming, is_own, is_spent
 use Rattle.ymx_model.specs.session.Sessions.Incoming.{Head, Payload}
 use Rattle.ymx_model.specs.session.Arrivals.{answers_with, ping_comes, go_away_comes, payload, expects, record_fault, reset_comes, acknowledges, take_head, meets, meets_some, offer, session_refuses, syn_fault, syn_comes, header_fault, head_comes, piece_comes}
 use Rattle.ymx_model.specs.session.Feeds.{Takes, is_stuck, byte_comes, starves}
-use Rattle.ymx_law_session.specs.Frames.{frame_comes, payload_comes, starved_by}
 use Rattle.ymx_machine.proofs.Tests.{split, agrees}
-use Rattle.ymx_law_session.proofs.pieces.Chunks.{takes-join}
-use Rattle.ymx_law_session.proofs.pieces.Pieces.{head-whole, piece-takes}
+use Rattle.ymx_law_session.proofs.pieces.Pieces.{piece-takes}
 use Rattle.ymx_law_session.proofs.limits.FramesKeep.{unless_fault-keeps}
 
 -- ---- what follows a head
@@ -74,52 +70,6 @@ head-awaits no_memory h s inc =
     of : (o : Option End) → AwaitsRunning h (meets_some h o s)
     of None = expects-awaits h true s inc
     of (Some e) = unless_fault-keeps (AwaitsRunning h) (record_fault h e) s (meets h e s) (λ f r. cc) (λ n0. meets-awaits h e s inc)
-
--- ---- a head
-
-pub same_incoming : (s : Session) → s.incoming ≡ Head [] → record s { incoming = Head [] } ≡ s
-same_incoming s inc = grind (arith, common_steps)
-
--- the spelling of a header, between two frames, is its head
-pub header-comes : (no_memory : Bool) (h : Header) (s : Session) → IsInRange h → s.status ≡ Running → s.incoming ≡ Head [] → is_stuck s ≡ false →
-    Takes (spelling h) s (head_comes no_memory h s) (starved_by no_memory h s)
-header-comes no_memory h s r st inc free =
-    let whole = head-whole no_memory (drop 1 (spelling h)) [] h.version s st inc free refl in
-    let P : Header → Type 0 = λ x. Takes (spelling h) s (head_comes no_memory x (record s { incoming = Head [] })) (starved_by no_memory x s) in
-    let Q : Session → Type 0 = λ x. Takes (spelling h) s (head_comes no_memory h x) (starved_by no_memory h s) in
-    subst Q (same_incoming s inc) (subst P (header_of-spelling h r) whole)
-
--- ---- a whole frame
-
-append_none : (xs : List ℕ) → xs ++ [] ≡ xs
-append_none xs = grind (arith, common_steps)
-
-no_bytes : (xs : List ℕ) → length xs ≡ 0 → xs ≡ []
-no_bytes [] e = refl
-no_bytes (x ∷ xs) e = absurd (omega arith)
-
-pub frame-whole : (no_memory : Bool) (h : Header) (bytes : List ℕ) (s : Session) → IsInRange h → s.status ≡ Running → s.incoming ≡ Head [] → is_stuck s ≡ false →
-    length bytes ≡ payload h → (head_comes no_memory h s).status ≡ Running → Takes (spelling h ++ bytes) s (frame_comes no_memory h bytes s) (starved_by no_memory h s)
-frame-whole no_memory h bytes s r st inc free l run = of (head_comes no_memory h s).incoming refl (head-awaits no_memory h s inc run)
-  where
-    first : Takes (spelling h) s (head_comes no_memory h s) (starved_by no_memory h s)
-    first = header-comes no_memory h s r st inc free
-
-    second : (xs : List ℕ) (id n : ℕ) (fin stray : Bool) → length xs ≡ n → 0 < n → (head_comes no_memory h s).incoming ≡ Payload id n fin stray →
-        Takes xs (head_comes no_memory h s) (piece_comes xs id n fin stray (head_comes no_memory h s)) 0
-    second [] id n fin stray e some more = absurd (omega arith)
-    second (b ∷ bs) id n fin stray e some more = piece-takes b bs id n fin stray (head_comes no_memory h s) run more (omega arith)
-
-    of : (i : Incoming) → (head_comes no_memory h s).incoming ≡ i → Awaits h (head_comes no_memory h s) → Takes (spelling h ++ bytes) s (frame_comes no_memory h bytes s) (starved_by no_memory h s)
-    of i e (inl (none, between)) =
-        let P : List ℕ → Type 0 = λ xs. Takes xs s (frame_comes no_memory h bytes s) (starved_by no_memory h s) in
-        let Q : Incoming → Type 0 = λ i. Takes (spelling h) s (payload_comes bytes (head_comes no_memory h s) i) (starved_by no_memory h s) in
-        let nothing = no_bytes bytes (l ∙ none) in
-        subst P (sym (ap (λ xs. spelling h ++ xs) nothing ∙ append_none (spelling h))) (subst Q (sym between) first)
-    of i e (inr (stray, some, more)) =
-        let Q : Incoming → Type 0 = λ i. Takes (spelling h ++ bytes) s (payload_comes bytes (head_comes no_memory h s) i) (starved_by no_memory h s) in
-        let N : ℕ → Type 0 = λ n. Takes (spelling h ++ bytes) s (piece_comes bytes h.id (payload h) (has_fin h) stray (head_comes no_memory h s)) n in
-        subst Q (sym more) (subst N (omega arith) (takes-join (spelling h) bytes s _ _ _ 0 first (second bytes h.id (payload h) (has_fin h) stray l some more)))
 
 -- ---- a session that is deaf takes all, and stays as it is
 

@@ -10,7 +10,6 @@ use Rattle.ymx_model.specs.session.Sessions.{Session}
 use Rattle.ymx_model.specs.session.Sessions.Incoming.{Head, Payload}
 use Rattle.ymx_model.specs.session.Arrivals.{head_comes, piece_comes, is_starved}
 use Rattle.ymx_model.specs.session.Feeds.{Takes, is_stuck, byte_comes, byte_in, starves, is_between}
-use Rattle.ymx_law_session.proofs.pieces.Chunks.{takes-join}
 
 -- what the payload does to a record
 pub gets-join : (a b : List ℕ) (e : End) → receive_data b (receive_data a e) ≡ receive_data (a ++ b) e
@@ -174,16 +173,3 @@ head-whole no_memory (c ∷ bs) seen b s st inc free l =
       rw (starves-head b seen s inc) (omega arith),
       subst Q (sym (byte-head false b seen s st inc short)) (subst P (append_assoc seen (b ∷ []) (c ∷ bs)) rest),
     )
-
--- ---- a whole frame
-
-pub frame-whole : (no_memory : Bool) (h0 : ℕ) (hs : List ℕ) (b : ℕ) (bs : List ℕ) (id : ℕ) (fin stray : Bool) (s : Session) →
-    s.status ≡ Running → s.incoming ≡ Head [] → is_stuck s ≡ false → length (h0 ∷ hs) ≡ 12 →
-    (head_comes no_memory (header_of (h0 ∷ hs)) s).status ≡ Running →
-    (head_comes no_memory (header_of (h0 ∷ hs)) s).incoming ≡ Payload id (length (b ∷ bs)) fin stray →
-    Takes ((h0 ∷ hs) ++ (b ∷ bs)) s (piece_comes (b ∷ bs) id (length (b ∷ bs)) fin stray (head_comes no_memory (header_of (h0 ∷ hs)) s)) (counted no_memory (h0 ∷ hs) s + 0)
-frame-whole no_memory h0 hs b bs id fin stray s st inc free l run more =
-    let same : record s { incoming = Head [] } ≡ s = grind (arith, common_steps) in
-    let first = head-whole no_memory hs [] h0 s st inc free (omega (arith, l)) in
-    let P : Session → Type 0 = λ x. Takes (h0 ∷ hs) s (head_comes no_memory (header_of (h0 ∷ hs)) x) (counted no_memory (h0 ∷ hs) s) in
-    takes-join (h0 ∷ hs) (b ∷ bs) s _ _ _ 0 (subst P same first) (piece-takes b bs id (length (b ∷ bs)) fin stray _ run more (omega arith))

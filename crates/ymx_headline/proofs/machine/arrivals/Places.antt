@@ -453,31 +453,30 @@ passes-flip : (test : Stream → Bool) (o : Option Stream) → passes test (flip
 passes-flip test None = refl
 passes-flip test (Some s) = refl
 
-flips : (op : ℕ) (unborn refused : Stream → Bool) (xs : List (ℕ × Stream)) (ids : List ℕ) (away : Mark) → HasPlaces op (λ s. unborn (flip s)) (λ s. refused (flip s)) xs ids away →
-    HasPlaces op unborn refused (map flip_entry xs) ids away
-flips op unborn refused xs ids away h =
-    let long = length-map xs flip_entry in
-    let k = many-flip unborn xs in
+-- the places of streams that pass these tests as those pass their own
+places-like : (op : ℕ) (u r u' r' : Stream → Bool) (xs ys : List (ℕ × Stream)) (ids : List ℕ) (away : Mark) → length ys ≡ length xs → many u' ys ≡ many u xs →
+    ((i : ℕ) → passes r' (look i ys) ≡ passes r (look i xs)) → HasPlaces op u r xs ids away → HasPlaces op u' r' ys ids away
+places-like op u r u' r' xs ys ids away long k same h =
     let room = h.room in
     let few = h.few in record {
       room = omega (arith, long, k, room);
       few = omega (arith, long, few);
       stays = h.stays;
-      none = λ i. ap (passes refused) (look-mirror i xs) ∙ (passes-flip refused (look i xs) ∙ h.none i);
+      none = λ i. same i ∙ h.none i;
     }
+
+flip-passes : (test : Stream → Bool) (xs : List (ℕ × Stream)) (i : ℕ) → passes test (look i (map flip_entry xs)) ≡ passes (λ s. test (flip s)) (look i xs)
+flip-passes test xs i = ap (passes test) (look-mirror i xs) ∙ passes-flip test (look i xs)
+
+flips : (op : ℕ) (unborn refused : Stream → Bool) (xs : List (ℕ × Stream)) (ids : List ℕ) (away : Mark) → HasPlaces op (λ s. unborn (flip s)) (λ s. refused (flip s)) xs ids away →
+    HasPlaces op unborn refused (map flip_entry xs) ids away
+flips op unborn refused xs ids away h =
+    places-like op (λ s. unborn (flip s)) (λ s. refused (flip s)) unborn refused xs (map flip_entry xs) ids away (length-map xs flip_entry) (many-flip unborn xs) (flip-passes refused xs) h
 
 unflips : (op : ℕ) (unborn refused : Stream → Bool) (xs : List (ℕ × Stream)) (ids : List ℕ) (away : Mark) → HasPlaces op unborn refused (map flip_entry xs) ids away →
     HasPlaces op (λ s. unborn (flip s)) (λ s. refused (flip s)) xs ids away
 unflips op unborn refused xs ids away h =
-    let long = length-map xs flip_entry in
-    let k = many-flip unborn xs in
-    let room = h.room in
-    let few = h.few in record {
-      room = omega (arith, long, k, room);
-      few = omega (arith, long, few);
-      stays = h.stays;
-      none = λ i. sym (ap (passes refused) (look-mirror i xs) ∙ passes-flip refused (look i xs)) ∙ h.none i;
-    }
+    places-like op unborn refused (λ s. unborn (flip s)) (λ s. refused (flip s)) (map flip_entry xs) xs ids away (sym (length-map xs flip_entry)) (sym (many-flip unborn xs)) (λ i. sym (flip-passes refused xs i)) h
 
 pub to-you : (op : ℕ) (m : Machine) → PlacesOfMe op m → PlacesOfYou op (mirror_machine m)
 to-you op m h = flips op unborn_you refused_you m.streams m.me.offered m.me.away h

@@ -60,7 +60,7 @@ read-live room here over = grind (arith, nat_tests, lists)
 no-reset : (s : Stream) (mine yours : ℕ) (po pi : Past) → s.me ≡ Live → IsResting s → HasFaces mine yours s po pi → is_unsaid s.rst_inbound ≡ true
 no-reset s mine yours po pi l q f = elim (when (is_here s.rst_inbound)) [
   | inl h ↦ absurd (not-both (is_up s.me) (live-up s.me l) (f.came_inbound h))
-  | inr h ↦ unsaid-mark s.rst_inbound q.rst_inbound h
+  | inr h ↦ unsaid-mark s.rst_inbound q.inbound.rst h
 ]
 
 -- it has all that was written and not got
@@ -69,7 +69,7 @@ live-left mine yours s po pi l q f =
     let up = live-up s.me l in
     let whole = f.whole_inbound up (no-reset s mine yours po pi l q f) in
     let face = f.inbound.2 in
-    let rest : f.inbound.0 ≡ s.inbound.here = face.holds up ∙ (ap (λ (w : List ℕ). s.inbound.here ++ (w ++ f.inbound.1)) q.way_inbound ∙ (ap (λ (b : List ℕ). s.inbound.here ++ ([] ++ b)) whole.0 ∙ append-nil s.inbound.here)) in
+    let rest : f.inbound.0 ≡ s.inbound.here = face.holds up ∙ (ap (λ (w : List ℕ). s.inbound.here ++ (w ++ f.inbound.1)) q.inbound.way ∙ (ap (λ (b : List ℕ). s.inbound.here ++ ([] ++ b)) whole.0 ∙ append-nil s.inbound.here)) in
     ap (λ (w : List ℕ). drop (length pi.got) w) face.begins ∙ (behind pi.got f.inbound.0 ∙ rest)
 
 -- and the end if it was finished
@@ -79,7 +79,7 @@ live-reads mine yours room s po pi l q f =
     let whole = f.whole_inbound (live-up s.me l) (no-reset s mine yours po pi l q f) in
     let face = f.inbound.2 in
     let there = live-left mine yours s po pi l q f in
-    let over : is_here s.inbound.fin ≡ pi.finished = over-mark s.inbound.fin pi.finished q.fin_inbound face.said whole.1 in
+    let over : is_here s.inbound.fin ≡ pi.finished = over-mark s.inbound.fin pi.finished q.inbound.fin face.said whole.1 in
     rw (l, there, over) (read-live room s.inbound.here pi.finished)
 
 -- an end that isn't live refuses
@@ -133,10 +133,10 @@ came-over : (mine yours : ℕ) (po pi : Past) (x y : Tale) (s : Stream) → s.me
 came-over mine yours po pi x y s l o q f t =
     let up = live-up s.me l in
     let sound : is_refused s.you ≡ false = elim (when (is_refused s.you)) [
-      | inl e ↦ absurd (not-both (is_unsaid s.rst_inbound) (no-reset s mine yours po pi l q f) (t.refused_you up e))
+      | inl e ↦ absurd (not-both (is_unsaid s.rst_inbound) (no-reset s mine yours po pi l q f) (t.yours.refused up e))
       | inr e ↦ e
     ] in
-    t.old_you up (born-is s.you q.you_born sound o)
+    t.yours.old up (born-is s.you q.inbound.born sound o)
 
 not-in : (i : ℕ) (ids : List ℕ) → ids ≡ [] → is_in i ids ≡ false
 not-in i ids e = ap (is_in i) e
@@ -186,7 +186,7 @@ comes mine yours room i side po pi x y m n given f t q h e =
 given-at : (mine yours i : ℕ) (x y : Tale) (o : Option Stream) (m : Machine) → look i m.streams ≡ o → m.you.offered ≡ [] → Sound mine yours (core m) → passes refused_you o ≡ false →
     FitsAt x y o → RestsAt o → has x ≡ true → y.began ≡ true
 given-at mine yours i x y None m e u so n t q h = absurd (not-both (has x) h t.0)
-given-at mine yours i x y (Some s) m e u so n t q h = t.given_you h (born-is s.you q.you_born n (unoffered mine yours i s (Some s) m so u e refl))
+given-at mine yours i x y (Some s) m e u so n t q h = t.yours.given h (born-is s.you q.inbound.born n (unoffered mine yours i s (Some s) m so u e refl))
 
 pub all-given : (mine yours op i : ℕ) (x y : Tale) (m : Machine) → m.you.offered ≡ [] → Sound mine yours (core m) → PlacesOfYou op m → FitsAt x y (look i m.streams) → IsRestingMachine m → has x ≡ true → y.began ≡ true
 all-given mine yours op i x y m u so n t q h = given-at mine yours i x y (look i m.streams) m refl u so (n.none i) t (q.each i) h

@@ -27,16 +27,17 @@ use Rattle.ymx_headline.proofs.machine.lanes.StreamFacts.{if-so_true, if-so_fals
 use Rattle.ymx_headline.proofs.machine.order.Maps.{look-change, look-change_other, flip-back, flipped, look-mirror}
 use Rattle.ymx_headline.proofs.machine.order.Cores.{core, Sound, sound-mirror, offered-front, offered-stream}
 
+-- one direction of a stream, from an end that is born: nothing is under way
+pub record RestsOneWay (p : Phase) (l : Lane) (mark : Mark) : Type 0 where
+  pub born : is_unborn p ≡ false
+  pub way : l.way ≡ []
+  pub fin : is_said l.fin ≡ false
+  pub rst : is_said mark ≡ false
+
 -- nothing of a stream is under way but an acknowledgement
 pub record IsResting (s : Stream) : Type 0 where
-  pub me_born : is_unborn s.me ≡ false
-  pub you_born : is_unborn s.you ≡ false
-  pub way_outbound : s.outbound.way ≡ []
-  pub way_inbound : s.inbound.way ≡ []
-  pub fin_outbound : is_said s.outbound.fin ≡ false
-  pub fin_inbound : is_said s.inbound.fin ≡ false
-  pub rst_outbound : is_said s.rst_outbound ≡ false
-  pub rst_inbound : is_said s.rst_inbound ≡ false
+  pub outbound : RestsOneWay s.me s.outbound s.rst_outbound
+  pub inbound : RestsOneWay s.you s.inbound s.rst_inbound
 
 abbrev pub RestsAt : Option Stream → Type 0
 RestsAt None = Unit {0}
@@ -50,14 +51,8 @@ pub record IsRestingMachine (m : Machine) : Type 0 where
 
 pub still-rests : (mine yours : ℕ) (s : Stream) → IsStill mine yours s → IsResting s
 still-rests mine yours s h = record {
-  me_born = h.me_born;
-  you_born = h.you_born;
-  way_outbound = h.way_outbound;
-  way_inbound = h.way_inbound;
-  fin_outbound = h.fin_outbound;
-  fin_inbound = h.fin_inbound;
-  rst_outbound = h.rst_outbound;
-  rst_inbound = h.rst_inbound;
+  outbound = record { born = h.me_born; way = h.way_outbound; fin = h.fin_outbound; rst = h.rst_outbound };
+  inbound = record { born = h.you_born; way = h.way_inbound; fin = h.fin_inbound; rst = h.rst_inbound };
 }
 
 still-look : (mine yours i : ℕ) (xs : List (ℕ × Stream)) → All (λ p. IsStill mine yours p.1) xs → RestsAt (look i xs)
@@ -74,16 +69,7 @@ still-machine m h o = record { each = λ i. still-look m.me.window m.you.window 
 
 pub rests-flip : (o : Option Stream) → RestsAt o → RestsAt (flipped o)
 rests-flip None h = tt
-rests-flip (Some s) h = record {
-  me_born = h.you_born;
-  you_born = h.me_born;
-  way_outbound = h.way_inbound;
-  way_inbound = h.way_outbound;
-  fin_outbound = h.fin_inbound;
-  fin_inbound = h.fin_outbound;
-  rst_outbound = h.rst_inbound;
-  rst_inbound = h.rst_outbound;
-}
+rests-flip (Some s) h = record { outbound = h.inbound; inbound = h.outbound }
 
 rests-unflip : (o : Option Stream) → RestsAt (flipped o) → RestsAt o
 rests-unflip None h = tt
@@ -121,14 +107,8 @@ beside s = (s.you, record s.outbound { here = []; credit = 0; owed = 0 }, record
 -- it rests on while that stays, and its own end is no unborn one
 rests-like : (s t : Stream) → is_unborn t.me ≡ false → beside t ≡ beside s → IsResting s → IsResting t
 rests-like s t b e h = record {
-  me_born = b;
-  you_born = ap (λ x. is_unborn x.0) e ∙ h.you_born;
-  way_outbound = ap (λ x. x.1.way) e ∙ h.way_outbound;
-  way_inbound = ap (λ x. x.2.way) e ∙ h.way_inbound;
-  fin_outbound = ap (λ x. is_said x.1.fin) e ∙ h.fin_outbound;
-  fin_inbound = ap (λ x. is_said x.2.fin) e ∙ h.fin_inbound;
-  rst_outbound = ap (λ x. is_said x.3) e ∙ h.rst_outbound;
-  rst_inbound = ap (λ x. is_said x.4) e ∙ h.rst_inbound;
+  outbound = record { born = b; way = ap (λ x. x.1.way) e ∙ h.outbound.way; fin = ap (λ x. is_said x.1.fin) e ∙ h.outbound.fin; rst = ap (λ x. is_said x.3) e ∙ h.outbound.rst };
+  inbound = record { born = ap (λ x. is_unborn x.0) e ∙ h.inbound.born; way = ap (λ x. x.2.way) e ∙ h.inbound.way; fin = ap (λ x. is_said x.2.fin) e ∙ h.inbound.fin; rst = ap (λ x. is_said x.4) e ∙ h.inbound.rst };
 }
 
 released : (s : Stream) → IsResting s → IsResting (after_move Released s)
@@ -138,7 +118,7 @@ accepts-rest : (lost : Bool) (s : Stream) → IsResting s → IsResting (stream_
 accepts-rest lost s h = rests-like s _ refl refl h
 
 reads-rest : (n : ℕ) (s : Stream) → IsResting s → IsResting (stream_read n s)
-reads-rest n s h = rests-like s _ h.me_born refl h
+reads-rest n s h = rests-like s _ h.outbound.born refl h
 
 rests-release : (id : ℕ) (m : Machine) → MayMove (OfStream id Released) m → IsRestingMachine m → IsRestingMachine (moved_by (OfStream id Released) m)
 rests-release id m a h = record {

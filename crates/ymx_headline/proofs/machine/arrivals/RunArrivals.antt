@@ -282,34 +282,23 @@ opened-more (answer.Opened id) more = omega arith
 opened-more (answer.OpenedWith id n) more = omega arith
 opened-more _ more = omega arith
 
--- the one side, and the other, over a run
-places-run_a : (mine yours op : ℕ) (sts : List Step) (given : List Answer) (m n : Machine) → first_credit ≤ mine → first_credit ≤ yours → op + opened given ≤ 256 → any_step (away_by A) sts given ≡ false →
-    any_step lacked_by sts given ≡ false → Lawful mine yours (core m) → MachineRun sts given m n → PlacesOfMe op m → PlacesOfMe (op + opened given) n
-places-run_a mine yours op [] [] m n u v few w l so h k = me-same op 0 m n h k
-places-run_a mine yours op (st ∷ sts) (g ∷ given) m n u v few w l so h k =
+-- of a side, over a run
+places-run : (K : ℕ → Machine → Type 0) (side : Side) (mine yours : ℕ) →
+    ((op : ℕ) (st : Step) (given : Answer) (m n : Machine) → op ≤ 256 → Sound mine yours (core m) → away_by side st given ≡ false → lacked_by st given ≡ false → MachineStep st given m n → K op m → K (op + one given) n) →
+    (op : ℕ) (sts : List Step) (given : List Answer) (m n : Machine) → first_credit ≤ mine → first_credit ≤ yours → op + opened given ≤ 256 → any_step (away_by side) sts given ≡ false →
+    any_step lacked_by sts given ≡ false → Lawful mine yours (core m) → MachineRun sts given m n → K op m → K (op + opened given) n
+places-run K side mine yours keep op [] [] m n u v few w l so h k =
+    let e : op ≡ op + 0 = omega arith in subst (λ (x : ℕ). K x n) e (subst (K op) (sym h) k)
+places-run K side mine yours keep op (st ∷ sts) (g ∷ given) m n u v few w l so h k =
     let more = opened-more g given in
     let a = none_of _ _ w in
     let b = none_of _ _ l in
-    let on = places-of_a mine yours op st g m h.0 (omega (arith, few)) so.sound a.0 b.0 h.1 k in
-    let all = places-run_a mine yours (op + one g) sts given h.0 n u v (omega (arith, few, more)) a.1 b.1 (lawful-step mine yours st g m h.0 u v h.1 so) h.2 on in
+    let on = keep op st g m h.0 (omega (arith, few)) so.sound a.0 b.0 h.1 k in
+    let all = places-run K side mine yours keep (op + one g) sts given h.0 n u v (omega (arith, few, more)) a.1 b.1 (lawful-step mine yours st g m h.0 u v h.1 so) h.2 on in
     let e : op + opened (g ∷ given) ≡ (op + one g) + opened given = omega (arith, more) in
-    subst (λ (x : ℕ). PlacesOfMe x n) (sym e) all
-places-run_a mine yours op [] (g ∷ given) m n u v few w l so h k = absurd h
-places-run_a mine yours op (st ∷ sts) [] m n u v few w l so h k = absurd h
-
-places-run_b : (mine yours op : ℕ) (sts : List Step) (given : List Answer) (m n : Machine) → first_credit ≤ mine → first_credit ≤ yours → op + opened given ≤ 256 → any_step (away_by B) sts given ≡ false →
-    any_step lacked_by sts given ≡ false → Lawful mine yours (core m) → MachineRun sts given m n → PlacesOfYou op m → PlacesOfYou (op + opened given) n
-places-run_b mine yours op [] [] m n u v few w l so h k = you-same op 0 m n h k
-places-run_b mine yours op (st ∷ sts) (g ∷ given) m n u v few w l so h k =
-    let more = opened-more g given in
-    let a = none_of _ _ w in
-    let b = none_of _ _ l in
-    let on = places-of_b mine yours op st g m h.0 (omega (arith, few)) so.sound a.0 b.0 h.1 k in
-    let all = places-run_b mine yours (op + one g) sts given h.0 n u v (omega (arith, few, more)) a.1 b.1 (lawful-step mine yours st g m h.0 u v h.1 so) h.2 on in
-    let e : op + opened (g ∷ given) ≡ (op + one g) + opened given = omega (arith, more) in
-    subst (λ (x : ℕ). PlacesOfYou x n) (sym e) all
-places-run_b mine yours op [] (g ∷ given) m n u v few w l so h k = absurd h
-places-run_b mine yours op (st ∷ sts) [] m n u v few w l so h k = absurd h
+    subst (λ (x : ℕ). K x n) (sym e) all
+places-run K side mine yours keep op [] (g ∷ given) m n u v few w l so h k = absurd h
+places-run K side mine yours keep op (st ∷ sts) [] m n u v few w l so h k = absurd h
 
 places-new_me : (wa fa wb fb : ℕ) → PlacesOfMe 0 (new_machine wa fa wb fb)
 places-new_me wa fa wb fb = record { room = omega arith; few = omega arith; stays = refl; none = λ i. refl }
@@ -327,13 +316,13 @@ are-given wa fa wb fb sts given told n w v p h made i B A d q e f z has_it =
     let r = c.0.rests q in
     let no = no-cause _ _ _ z in
     let few = is_le (opened (take made given)) 256 no.2 in
-    let places = places-run_b wa wb 0 (take made sts) (take made given) (new_machine wa fa wb fb) c.0.here w v (omega (arith, few)) no.0 no.1 (lawful-new wa fa wb fb) c.0.run (places-new_you wa fa wb fb) in
+    let places = places-run PlacesOfYou B wa wb (places-of_b wa wb) 0 (take made sts) (take made given) (new_machine wa fa wb fb) c.0.here w v (omega (arith, few)) no.0 no.1 (lawful-new wa fa wb fb) c.0.run (places-new_you wa fa wb fb) in
     all-given wa wb _ i _ _ c.0.here (none-waits B (mirror_machine c.0.here) (mirror_machine c.0.next) r.open_.you_open r.open_.you_hears c.0.steps) c.0.stands.faced.sound places c.0.stands.fits r has_it
 are-given wa fa wb fb sts given told n w v p h made i A B d q e f z has_it =
     let c = from-new wa fa wb fb i made sts given told n (step.At A call.Accept) (answer.Accepted None) w v p h e f in
     let r = c.0.rests q in
     let no = no-cause _ _ _ z in
     let few = is_le (opened (take made given)) 256 no.2 in
-    let places = places-run_a wa wb 0 (take made sts) (take made given) (new_machine wa fa wb fb) c.0.here w v (omega (arith, few)) no.0 no.1 (lawful-new wa fa wb fb) c.0.run (places-new_me wa fa wb fb) in
+    let places = places-run PlacesOfMe A wa wb (places-of_a wa wb) 0 (take made sts) (take made given) (new_machine wa fa wb fb) c.0.here w v (omega (arith, few)) no.0 no.1 (lawful-new wa fa wb fb) c.0.run (places-new_me wa fa wb fb) in
     let k = stands-mirror wa wb i _ _ _ _ c.0.here c.0.stands in
     all-given wb wa _ i _ _ (mirror_machine c.0.here) (none-waits A c.0.here c.0.next r.open_.me_open r.open_.me_hears c.0.steps) k.faced.sound (to-you _ c.0.here places) k.fits (rests-mirror c.0.here r) has_it

@@ -87,21 +87,7 @@ one-of mine yours i (p ∷ ps) s h e = elim (when (p.0 == i)) [
 -- ---- from the other side
 
 still-flip : (mine yours : ℕ) (s : Stream) → IsStill mine yours s → IsStill yours mine (flip s)
-still-flip mine yours s h = record {
-  me_born = h.you_born;
-  you_born = h.me_born;
-  me_gone = h.you_gone;
-  you_gone = h.me_gone;
-  way_outbound = h.way_inbound;
-  way_inbound = h.way_outbound;
-  fin_outbound = h.fin_inbound;
-  fin_inbound = h.fin_outbound;
-  ack = h.ack;
-  rst_outbound = h.rst_inbound;
-  rst_inbound = h.rst_outbound;
-  little_outbound = λ a b c. h.little_inbound b a c;
-  little_inbound = λ a b c. h.little_outbound b a c;
-}
+still-flip mine yours s h = grind arith
 
 all-flip : (mine yours : ℕ) (xs : List (ℕ × Stream)) → All (λ p. IsStill mine yours p.1) xs → All (λ p. IsStill yours mine p.1) (map flip_entry xs)
 all-flip mine yours [] h = All-nil (λ p. IsStill yours mine p.1)

@@ -24,16 +24,7 @@ use Rattle.ymx_headline.proofs.machine.lanes.StreamLaws.{struck-down}
 use Rattle.ymx_headline.proofs.machine.order.Maps.{flip-back}
 
 pub faces-flip : (mine yours : ℕ) (s : Stream) (po pi : Past) → HasFaces mine yours s po pi → HasFaces yours mine (flip s) pi po
-faces-flip mine yours s po pi c = record {
-  outbound = c.inbound;
-  inbound = c.outbound;
-  rst_outbound = c.rst_inbound;
-  rst_inbound = c.rst_outbound;
-  came_outbound = c.came_inbound;
-  came_inbound = c.came_outbound;
-  whole_outbound = c.whole_inbound;
-  whole_inbound = c.whole_outbound;
-}
+faces-flip mine yours s po pi c = record { outbound = c.inbound; inbound = c.outbound; rst_outbound = c.rst_inbound; rst_inbound = c.rst_outbound; came_outbound = c.came_inbound; came_inbound = c.came_outbound; whole_outbound = c.whole_inbound; whole_inbound = c.whole_outbound }
 
 pub faces-unflip : (mine yours : ℕ) (s : Stream) (po pi : Past) → HasFaces mine yours (flip s) po pi → HasFaces yours mine s pi po
 faces-unflip mine yours s po pi c = subst (λ (x : Stream). HasFaces yours mine x pi po) (flip-back s) (faces-flip mine yours (flip s) po pi c)

@@ -7,10 +7,11 @@ use Rattle.ymx_seats.specs.Journals.{JournalView}
 use Rattle.ymx_seats.specs.Views.{SeatView, IsNewcomer, whole_of}
 use Rattle.ymx_hub.specs.Booked.{Kept, IsJournaled}
 use Rattle.ymx_hub.proofs.History.{kept_after}
+use Rattle.ymx_hub.proofs.Entered.{entered}
 use Rattle.ymx_hub.proofs.Books.{books_one, given_one, refused_one}
 use Rattle.ymx_hub.proofs.Extends.{behind_at, journal_at, entries_at, after_at, kept_longer}
 use Rattle.ymx_hub.specs.Rights.{AllReleased, handed_out}
-use Rattle.ymx_hub.proofs.Journals.{journaled_after, journaled_given, all_after, all_handed_out, half_known}
+use Rattle.ymx_hub.proofs.Journals.{journaled_given, all_after, all_handed_out, half_known}
 use Rattle.ymx_hub.proofs.Rights.{asks_freely}
 use Rattle.ymx_hub.proofs.WholeHistories.{witnessed_of}
 use Rattle.ymx_hub.proofs.booked.Booked.give.Goals as goal
@@ -72,27 +73,17 @@ returns-in-Ok-None-clause-booked g c =
     (λ p u. (p, refl))
 
 pub invariant_of-self-in-Err : goal.invariant_of-self-in-Err
-invariant_of-self-in-Err g c = (
-  subst (λ es. Kept g.R.Recorder.KEEPS c.self.inside.ended c.self.inside.role c.self.inside.config es c.carry_out-told.new.session) (sym (after_at g.R.Recorder.KEEPS _ c.args.seat.now.number _ c.args.event.now _ (in_buffer c.carry_out-told.new.buffer c.carry_out-told.result) _ c.self.inside.log.entries _ c.carry_out-told.ensures.entries c.prepare.ensures.number refl refl c.prepare.ensures.entries))
-      (kept_after g.R.Recorder.KEEPS c.self.inside.ended c.self.inside.role c.self.inside.config c.self.inside.log.entries c.self.inside.session c.carry_out-told.new.session c.args.seat.now.number c.args.event.now (in_buffer c.carry_out-told.new.buffer c.carry_out-told.result) c.self.invariant.0 c.carry_out-told.ensures.event),
-  search rules,
-  search rules,
-  search rules,
-  subst (λ (j : Option JournalView). IsJournaled g.R.Recorder.WITNESSED g.R.Naming.role g.R.Naming.config c.self.inside.role c.self.inside.config j c.carry_out-told.new.session c.self.inside.given) (sym (journal_at _ c.args.seat.now.number _ c.args.event.now _ (in_buffer c.carry_out-told.new.buffer c.carry_out-told.result) _ c.self.inside.log.journal _ c.carry_out-told.ensures.journal c.prepare.ensures.number refl refl c.prepare.ensures.journal))
-      (journaled_after g.R.Recorder.WITNESSED g.R.Naming.role g.R.Naming.config c.self.inside.role c.self.inside.config c.self.inside.log.journal c.self.inside.session c.carry_out-told.new.session c.self.inside.given c.args.seat.now.number c.args.event.now (in_buffer c.carry_out-told.new.buffer c.carry_out-told.result) c.args.seat.now.right c.self.inside.released c.self.invariant.4 c.carry_out-told.ensures.event
-      (half_known c.args.seat.now.number _ c.args.seat.now.right _ c.self.inside.log.journal _ c.prepare.ensures.number c.prepare.ensures.right c.prepare.ensures.journal c.carry_out-told.ensures.known) c.self.invariant.5 (λ w. asks_freely (Contains c.self.inside.released) c.args.seat.now.right c.args.event.now c.requires)),
-  subst (AllReleased c.self.inside.released) (sym (journal_at _ c.args.seat.now.number _ c.args.event.now _ (in_buffer c.carry_out-told.new.buffer c.carry_out-told.result) _ c.self.inside.log.journal _ c.carry_out-told.ensures.journal c.prepare.ensures.number refl refl c.prepare.ensures.journal)) (all_after c.self.inside.released c.self.inside.log.journal c.args.seat.now.number c.args.event.now (in_buffer c.carry_out-told.new.buffer c.carry_out-told.result) c.self.invariant.5),
-)
+invariant_of-self-in-Err g c =
+    let k = entered g.R.Recorder.KEEPS g.R.Recorder.WITNESSED c.self.inside.ended g.R.Naming.role g.R.Naming.config c.self.inside.role c.self.inside.config c.self.inside.log.entries _ _ c.self.inside.log.journal _ _
+    c.self.inside.session c.carry_out-told.new.session c.self.inside.given c.args.seat.now.number _ c.args.event.now (in_buffer c.carry_out-told.new.buffer c.carry_out-told.result) c.args.seat.now.right _ c.self.inside.released
+    c.carry_out-told.ensures.entries c.carry_out-told.ensures.journal c.prepare.ensures.number c.prepare.ensures.entries c.prepare.ensures.journal c.prepare.ensures.right
+    c.self.invariant.0 c.self.invariant.4 c.self.invariant.5 c.carry_out-told.ensures.event c.carry_out-told.ensures.known (λ w. asks_freely (Contains c.self.inside.released) c.args.seat.now.right c.args.event.now c.requires) in
+    (k.0, search rules, search rules, search rules, k.1, k.2)
 
 pub invariant_of-self-in-Ok-None : goal.invariant_of-self-in-Ok-None
-invariant_of-self-in-Ok-None g c = (
-  subst (λ es. Kept g.R.Recorder.KEEPS c.self.inside.ended c.self.inside.role c.self.inside.config es c.carry_out-told.new.session) (sym (after_at g.R.Recorder.KEEPS _ c.args.seat.now.number _ c.args.event.now _ (in_buffer c.carry_out-told.new.buffer c.carry_out-told.result) _ c.self.inside.log.entries _ c.carry_out-told.ensures.entries c.prepare.ensures.number refl refl c.prepare.ensures.entries))
-      (kept_after g.R.Recorder.KEEPS c.self.inside.ended c.self.inside.role c.self.inside.config c.self.inside.log.entries c.self.inside.session c.carry_out-told.new.session c.args.seat.now.number c.args.event.now (in_buffer c.carry_out-told.new.buffer c.carry_out-told.result) c.self.invariant.0 c.carry_out-told.ensures.event),
-  search rules,
-  search rules,
-  search rules,
-  subst (λ (j : Option JournalView). IsJournaled g.R.Recorder.WITNESSED g.R.Naming.role g.R.Naming.config c.self.inside.role c.self.inside.config j c.carry_out-told.new.session c.self.inside.given) (sym (journal_at _ c.args.seat.now.number _ c.args.event.now _ (in_buffer c.carry_out-told.new.buffer c.carry_out-told.result) _ c.self.inside.log.journal _ c.carry_out-told.ensures.journal c.prepare.ensures.number refl refl c.prepare.ensures.journal))
-      (journaled_after g.R.Recorder.WITNESSED g.R.Naming.role g.R.Naming.config c.self.inside.role c.self.inside.config c.self.inside.log.journal c.self.inside.session c.carry_out-told.new.session c.self.inside.given c.args.seat.now.number c.args.event.now (in_buffer c.carry_out-told.new.buffer c.carry_out-told.result) c.args.seat.now.right c.self.inside.released c.self.invariant.4 c.carry_out-told.ensures.event
-      (half_known c.args.seat.now.number _ c.args.seat.now.right _ c.self.inside.log.journal _ c.prepare.ensures.number c.prepare.ensures.right c.prepare.ensures.journal c.carry_out-told.ensures.known) c.self.invariant.5 (λ w. asks_freely (Contains c.self.inside.released) c.args.seat.now.right c.args.event.now c.requires)),
-  subst (AllReleased c.self.inside.released) (sym (journal_at _ c.args.seat.now.number _ c.args.event.now _ (in_buffer c.carry_out-told.new.buffer c.carry_out-told.result) _ c.self.inside.log.journal _ c.carry_out-told.ensures.journal c.prepare.ensures.number refl refl c.prepare.ensures.journal)) (all_after c.self.inside.released c.self.inside.log.journal c.args.seat.now.number c.args.event.now (in_buffer c.carry_out-told.new.buffer c.carry_out-told.result) c.self.invariant.5),
-)
+invariant_of-self-in-Ok-None g c =
+    let k = entered g.R.Recorder.KEEPS g.R.Recorder.WITNESSED c.self.inside.ended g.R.Naming.role g.R.Naming.config c.self.inside.role c.self.inside.config c.self.inside.log.entries _ _ c.self.inside.log.journal _ _
+    c.self.inside.session c.carry_out-told.new.session c.self.inside.given c.args.seat.now.number _ c.args.event.now (in_buffer c.carry_out-told.new.buffer c.carry_out-told.result) c.args.seat.now.right _ c.self.inside.released
+    c.carry_out-told.ensures.entries c.carry_out-told.ensures.journal c.prepare.ensures.number c.prepare.ensures.entries c.prepare.ensures.journal c.prepare.ensures.right
+    c.self.invariant.0 c.self.invariant.4 c.self.invariant.5 c.carry_out-told.ensures.event c.carry_out-told.ensures.known (λ w. asks_freely (Contains c.self.inside.released) c.args.seat.now.right c.args.event.now c.requires) in
+    (k.0, search rules, search rules, search rules, k.1, k.2)

@@ -1,6 +1,6 @@
 use Rattle.std.proofs.Common.{◌≤◌, ◌+◌, ◌-◌, length, drop}
 use Rattle.ymx_world.proofs.Orders.{Sound, Whole}
-use Rattle.ymx_world.proofs.audit.audit.Given as goal
+use Rattle.ymx_world.proofs.world.World.audit.Given as goal
 
 abbrev pub invariant-loop-i : goal.invariant-loop-i
 invariant-loop-i l = record {
