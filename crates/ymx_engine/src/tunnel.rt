@@ -148,7 +148,7 @@ impl<D: Device + Drop, W: Device + Drop> Tunnel<D, W> {
     // ---- turns
 
     /// Serves the connection whose turn it is, with its own device: at most four writes to it, and then one read from it: of a
-    /// frame while the wire is slow, or another waits that moves little, and else of 131,072 bytes. It isn't read while bytes wait that the wire doesn't take, or many wait. `None` where none waits for a turn.
+    /// frame while the wire is slow, or another waits that moves little, and else of 262,144 bytes. It isn't read while bytes wait that the wire doesn't take, or many wait. `None` where none waits for a turn.
     pub fn serve_next(&mut self) -> Option<Served>
         ensures runs { Runs self.old self.new }
         ensures stays { Stays self.old self.new }
