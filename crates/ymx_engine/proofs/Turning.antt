@@ -32,7 +32,7 @@ is_for_fresh true true none h turn = h
 is_for_fresh true false none h turn = turn
 is_for_fresh false empty none h turn = refl
 
--- the first of those that have more to move had its turn
+-- the first of those that move much had its turn
 busy_taken : (flag : Bool) (f g rest : List ℕ) (id other n : ℕ) → ((flag && not (length g == 0)) || (length f == 0)) ≡ true → g ≡ id ∷ rest → Behind flag f g other n → Sooner false f rest id other n
 busy_taken flag f g rest id other n turn first (place, inl (at, is)) =
     let on : flag ≡ true = is_for_busy flag (length g == 0) (length f == 0) (holds_some f place other at) turn in

@@ -18,10 +18,10 @@ pub record Entry : Type 0 where
   pub is_queued : Bool
   pub is_held : Bool
 
--- The connections by stream id; those that wait for a turn, which had none since they came to have something to move, or
--- have more to move; those that are held back; whether the next turn is of those that have more; whether one more may be
--- queued, and one more kept, without memory; whether a turn was missed, as its queue had no room and memory for it was
--- refused; and for how many turns at most the next frame of the wire waits, where it lacks a place.
+-- The connections by stream id; those that wait for a turn, which move little, or much; those that are held back; whether the
+-- next turn is of those that move much; whether one more may be queued, and one more kept, without memory; whether a turn was
+-- missed, as its queue had no room and memory for it was refused; and for how many turns at most the next frame of the wire
+-- waits, where it lacks a place.
 pub record Lines : Type 0 where
   pub by_id : List (ℕ × Entry)
   pub fresh : List ℕ
@@ -66,7 +66,7 @@ IsIdle t = (t.fresh ≡ []) × (t.busy ≡ [])
 
 -- ---- whose turn it is
 
--- the next turn is of one that has more to move
+-- the next turn is of one that moves much
 abbrev pub takes_busy : Lines → Bool
 takes_busy t = (t.is_for_busy && not (length t.busy == 0)) || (length t.fresh == 0)
 
@@ -80,7 +80,7 @@ IsBehind id n t = (place : ℕ) × (((slice_get t.fresh place ≡ Some id) × (n
 abbrev pub HasTurnSoon : ℕ → Lines → Type 0
 HasTurnSoon id t = (n : ℕ) × IsBehind id n t × (n < 2 * length t.by_id)
 
--- this one was the first of those that had more to move, or else of the others
+-- this one was the first of those that move much, or else of the others
 abbrev pub IsFirst : (busy : Bool) → (id : ℕ) → (old new : Lines) → Type 0
 IsFirst true id old new = (old.busy ≡ id ∷ new.busy) × (new.fresh ≡ old.fresh)
 IsFirst false id old new = (old.fresh ≡ id ∷ new.fresh) × (new.busy ≡ old.busy)

@@ -47,7 +47,7 @@ abbrev pub takes_more : Tunnel → Bool
 takes_more t = t.is_wire_over || (length t.engine.outgoing == 0) || t.wire.marks.may_push && nat_lt (length t.engine.outgoing) eight_frames
 
 -- How many bytes the connection that has its turn may give, while these wait: none where connections may not be read; one frame
--- where the wire is slow, or one waits that had no turn since it came to have something to move; and else a whole read.
+-- where the wire is slow, or one waits that moves little; and else a whole read.
 abbrev pub share : (waits : Lines) → Tunnel → ℕ
 share waits t = if takes_more t then (if length waits.fresh == 0 && not t.is_slow then one_read else one_frame) else 0
 

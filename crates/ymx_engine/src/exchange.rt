@@ -14,6 +14,7 @@ ghost use Rattle.ymx_engine.specs.Serves.{Turn, Part, Delivers, GivesWhole, Hear
 ghost use Rattle.ymx_engine.specs.Ways.{is_open, may_push, may_pull, broken_off};
 
 use crate::block::Block;
+use crate::buffers::FRAME;
 use crate::calls::{Unreadable, ask, finish, is_stopped, reset, take_out};
 use crate::device::{Device, Pulled, Pushed};
 use crate::sending::{put_due, send};
@@ -37,6 +38,11 @@ impl TurnEnd {
         more: false,
         gave: 0,
     };
+
+    /// Whether a connection moves much that had this turn, and did before it or didn't.
+    pub(crate) fn moves_much(self, before: bool) -> bool {
+        self.more || self.gave >= FRAME || before && self.gave == 0
+    }
 }
 
 /// One turn of a connection: at most four writes to its device, and then one read from it, into this buffer, if that has room.

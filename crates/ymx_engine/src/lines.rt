@@ -33,31 +33,22 @@ pub(crate) struct Entry<D> {
     is_queued: bool,
     /// It waits until nothing waits for the wire.
     is_held: bool,
-    /// The queue that it was taken from as it was held back.
-    held_from: Queue,
-}
-
-/// The queues in which one waits for a turn.
-#[derive(Clone, Copy)]
-pub(crate) enum Queue {
-    /// Of those that came to have something to move.
-    Fresh,
-    /// Of those that had a turn, and have more to move.
-    Busy,
+    /// It moves much: where it waits for a turn it stands among the busy ones.
+    pub(crate) is_busy: bool,
 }
 
 /// Connections by stream id, those that may have something to move, each once in one of two queues, and those that are held back while
 /// bytes wait for the wire.
 ///
-/// Those that had a turn and have more to move stand in a queue of their own, and the two queues take turns: so one
-/// that moves few bytes now and then does not wait behind all that move as many as they can. One that was held back
-/// stands in the same queue again.
+/// Those that move much stand in a queue of their own, and the two queues take turns: so one that moves few bytes now and then
+/// does not wait behind all that move as many as they can. One moves much from a turn on that gave a whole frame, or left more to
+/// move, until a turn gives less.
 #[derive(Drop)]
 pub(crate) struct Lines<D: Device + Drop> {
     pub(crate) by_id: IndexMap<u32, Entry<D>>,
-    /// Those that came to have something to move.
+    /// Those that move little.
     fresh: VecDeque<u32>,
-    /// Those that have more to move.
+    /// Those that move much.
     busy: VecDeque<u32>,
     held: VecDeque<u32>,
     /// The next turn is one of the busy ones'.
@@ -189,10 +180,10 @@ impl<D: Device + Drop> Lines<D> {
             line,
             is_queued: false,
             is_held: false,
-            held_from: Queue::Fresh,
+            is_busy: false,
         };
         let _ = ymx_memory::insert(&mut self.by_id, id, entry);
-        self.enqueue(id, Queue::Fresh);
+        self.enqueue(id);
     }
 
     /// It is there no more. Gives its device.
@@ -219,7 +210,7 @@ impl<D: Device + Drop> Lines<D> {
     {
         if let Some(found) = self.by_id.get_mut(&id) {
             found.line.device.note_event(ready);
-            self.enqueue(id, Queue::Fresh);
+            self.enqueue(id);
         }
     }
 
@@ -268,7 +259,7 @@ impl<D: Device + Drop> Lines<D> {
         self.fresh.is_empty() && self.busy.is_empty()
     }
 
-    /// Whether one waits for a turn that had none since it came to have something to move.
+    /// Whether one waits for a turn that moves little.
     pub(crate) fn has_fresh(&self) -> bool
         ensures { result ≡ not (length self.now.fresh == 0) }
     {
@@ -289,8 +280,8 @@ impl<D: Device + Drop> Lines<D> {
         !self.held.is_empty()
     }
 
-    /// It waits for a turn, in this queue unless it waits already.
-    pub(crate) fn enqueue(&mut self, id: u32, queue: Queue)
+    /// It waits for a turn.
+    pub(crate) fn enqueue(&mut self, id: u32)
         ensures lines { SameLines self.old self.new }
         ensures turn { AddsTurn id self.old self.new }
         ensures waits { IsSome (line_of id self.old) → self.old.has_room ≡ true → Waits id self.new }
@@ -300,14 +291,11 @@ impl<D: Device + Drop> Lines<D> {
         // It is marked then, and one that was marked stands in no queue a second time.
         ensures marked { IsSome (line_of id self.old) → (queue_mark id self.new ≡ Some true) ⊎ (self.new.missed ≡ true) }
         ensures once { queue_mark id self.old ≡ Some true → (self.new.fresh ≡ self.old.fresh) × (self.new.busy ≡ self.old.busy) }
-        // The other queue stays.
-        ensures in_fresh { queue ≡ Queue.Fresh → self.new.busy ≡ self.old.busy }
-        ensures in_busy { queue ≡ Queue.Busy → self.new.fresh ≡ self.old.fresh }
         ensures place { self.new.turns_to_place ≡ self.old.turns_to_place }
     {
         if let Some(found) = self.by_id.get_mut(&id) {
             if !found.is_queued {
-                match stand(&mut self.fresh, &mut self.busy, id, queue) {
+                match stand(&mut self.fresh, &mut self.busy, id, found.is_busy) {
                     Ok(()) => found.is_queued = true,
                     Err(refused) => self.missed = Some(refused),
                 }
@@ -325,26 +313,13 @@ impl<D: Device + Drop> Lines<D> {
         ensures marked { IsSome (line_of id self.old) → (held_mark id self.new ≡ Some true) ⊎ (self.new.missed ≡ true) }
         ensures once { held_mark id self.old ≡ Some true → self.new.held ≡ self.old.held }
     {
-        let queue = self.last_queue();
         if let Some(found) = self.by_id.get_mut(&id) {
             if !found.is_held {
                 match ymx_memory::push_back(&mut self.held, id) {
-                    Ok(()) => {
-                        found.is_held = true;
-                        found.held_from = queue;
-                    }
+                    Ok(()) => found.is_held = true,
                     Err(refused) => self.missed = Some(refused),
                 }
             }
-        }
-    }
-
-    /// The queue from which the last was taken.
-    fn last_queue(&self) -> Queue {
-        if self.is_for_busy {
-            Queue::Fresh
-        } else {
-            Queue::Busy
         }
     }
 
@@ -364,7 +339,7 @@ impl<D: Device + Drop> Lines<D> {
         ensures free { holds ≡ false → self.new.held ≡ self.old.held }
     {
         if more {
-            self.enqueue(id, Queue::Busy);
+            self.enqueue(id);
         } else if holds {
             self.hold(id);
         }
@@ -396,16 +371,7 @@ impl<D: Device + Drop> Lines<D> {
             let Some(id) = self.let_go() else {
                 return;
             };
-            let queue = self.held_from(id);
-            self.enqueue(id, queue);
-        }
-    }
-
-    /// The queue that one was taken from as it was held back.
-    fn held_from(&self, id: u32) -> Queue {
-        match self.by_id.get(&id) {
-            Some(found) => found.held_from,
-            None => Queue::Busy,
+            self.enqueue(id);
         }
     }
 
@@ -443,7 +409,7 @@ impl<D: Device + Drop> Lines<D> {
             let Some(id) = self.id_at(place) else {
                 return;
             };
-            self.enqueue(id, Queue::Fresh);
+            self.enqueue(id);
         }
     }
 
@@ -489,29 +455,27 @@ impl<D: Device + Drop> Lines<D> {
         ensures only { (id : ℕ) → Waits id self.new → Waits id self.old ⊎ (list_any (nat_eq id) ids.now ≡ true) }
     {
         'id: for id in ids {
-            self.enqueue(*id, Queue::Fresh);
+            self.enqueue(*id);
         }
     }
 }
 
-/// This one stands behind all others in this queue. A refusal leaves both queues, and comes only where one is full.
+/// This one stands behind all others in its queue. A refusal leaves both queues, and comes only where one is full.
 fn stand(
     fresh: &mut VecDeque<u32>,
     busy: &mut VecDeque<u32>,
     id: u32,
-    queue: Queue,
+    is_busy: bool,
 ) -> Result<(), RefusedAllocation>
     ensures fresh { StaysOrAdds id fresh.old.items fresh.new.items }
     ensures busy { StaysOrAdds id busy.old.items busy.new.items }
-    ensures in_fresh { queue ≡ Queue.Fresh → busy.new.items ≡ busy.old.items }
-    ensures in_busy { queue ≡ Queue.Busy → fresh.new.items ≡ fresh.old.items }
     ensures stands { OnOk result (StandsBehind id fresh.old.items busy.old.items fresh.new.items busy.new.items) }
     ensures refused { OnErr result ((fresh.new.items ≡ fresh.old.items) × (busy.new.items ≡ busy.old.items)) }
     ensures succeeds { deque_len fresh.old < deque_capacity fresh.old → deque_len busy.old < deque_capacity busy.old → IsOk result }
 {
-    match queue {
-        Queue::Fresh => ymx_memory::push_back(fresh, id),
-        Queue::Busy => ymx_memory::push_back(busy, id),
+    match is_busy {
+        true => ymx_memory::push_back(busy, id),
+        false => ymx_memory::push_back(fresh, id),
     }
 }
 

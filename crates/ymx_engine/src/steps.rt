@@ -14,7 +14,7 @@ ghost use Rattle.ymx_engine.specs.Ways.{may_push, may_pull};
 use crate::block::Block;
 use crate::device::Device;
 use crate::exchange::serve;
-use crate::lines::{Lines, Queue};
+use crate::lines::Lines;
 use crate::passing::offer;
 use crate::row::Row;
 use ymx_session::Session;
@@ -94,9 +94,11 @@ impl<D: Device + Drop> Lines<D> {
             &mut buffer[..most],
             outgoing,
         );
+        let may_give = line.ways.may_pull(&line.device);
+        found.is_busy = turn.moves_much(found.is_busy);
         Some(Part {
             more: turn.more,
-            may_give: line.ways.may_pull(&line.device),
+            may_give,
             gave: turn.gave,
         })
     }
@@ -127,7 +129,7 @@ impl<D: Device + Drop> Lines<D> {
             return 0;
         }
         let taken = self.offer_row(row, session, waits);
-        self.enqueue(row.id, Queue::Fresh);
+        self.enqueue(row.id);
         taken
     }
 

@@ -148,8 +148,7 @@ impl<D: Device + Drop, W: Device + Drop> Tunnel<D, W> {
     // ---- turns
 
     /// Serves the connection whose turn it is, with its own device: at most four writes to it, and then one read from it: of a
-    /// frame while the wire is slow, or another waits that had no turn since it came to have something to move, and else of 131,072
-    /// bytes. It isn't read while bytes wait that the wire doesn't take, or many wait. `None` where none waits for a turn.
+    /// frame while the wire is slow, or another waits that moves little, and else of 262,144 bytes. It isn't read while bytes wait that the wire doesn't take, or many wait. `None` where none waits for a turn.
     pub fn serve_next(&mut self) -> Option<Served>
         ensures runs { Runs self.old self.new }
         ensures stays { Stays self.old self.new }
@@ -157,7 +156,7 @@ impl<D: Device + Drop, W: Device + Drop> Tunnel<D, W> {
         ensures none { IfNone result (IsIdle self.old.lines) }
         // The first of the queue whose turn it is has its turn, and each other that waits comes nearer.
         ensures turn { IfSome result (λ served. ServesFirst served.id served.gave self.old self.new) }
-        // While another waits that had no turn since it came to have something to move, it gives one frame at most.
+        // While another waits that moves little, it gives one frame at most.
         ensures among { IfSome result (λ served. (id : ℕ) → Contains self.old.lines.fresh id → (id ≡ served.id) ⊎ (served.gave ≤ one_frame)) }
         // So it does while the wire is slow.
         ensures paced { IfSome result (λ served. self.old.is_slow ≡ true → served.gave ≤ one_frame) }

@@ -11,8 +11,8 @@ invariant_of-self g c =
     let found = sym c.in-Some.ensures.value in
     let seen = g.D.Device.seen in
     let x = c.in-Some.found.now in
-    let w = record x { is_held = true; held_from = c.last_queue-queue.result } in
-    let r = rewrites_seen seen c.args.id (λ e. record e { is_held = true; held_from = c.last_queue-queue.result }) (λ (e : Entry). record e { is_held = true }) _ _ (λ e. refl) (rewrites_found c.args.id (λ e. record e { is_held = true; held_from = c.last_queue-queue.result }) x _ _ found (λ other. ((c.get_mut.follows.holds w).3 (is_some_at found)).0 other)) in (
+    let w = record x { is_held = true } in
+    let r = rewrites_seen seen c.args.id (λ e. record e { is_held = true }) (λ (e : Entry). record e { is_held = true }) _ _ (λ e. refl) (rewrites_found c.args.id (λ e. record e { is_held = true }) x _ _ found (λ other. ((c.get_mut.follows.holds w).3 (is_some_at found)).0 other)) in (
       listed_marks _ _ _ _ c.self.invariant.0 (rewrites_keeps (λ (e : Entry). e.is_queued) c.args.id (λ (e : Entry). record e { is_held = true }) _ _ (λ e. refl) r),
       held_marked c.args.id _ _ _ _ c.self.invariant.1 r c.in-Ok.ensures.items,
     )
@@ -34,8 +34,8 @@ returns-in-Ok-clause-lines g c = λ other.
     let found = sym c.in-Some.ensures.value in
     let seen = g.D.Device.seen in
     let x = c.in-Some.found.now in
-    let w = record x { is_held = true; held_from = c.last_queue-queue.result } in
-    let r = rewrites_seen seen c.args.id (λ e. record e { is_held = true; held_from = c.last_queue-queue.result }) (λ (e : Entry). record e { is_held = true }) _ _ (λ e. refl) (rewrites_found c.args.id (λ e. record e { is_held = true; held_from = c.last_queue-queue.result }) x _ _ found (λ other. ((c.get_mut.follows.holds w).3 (is_some_at found)).0 other)) in
+    let w = record x { is_held = true } in
+    let r = rewrites_seen seen c.args.id (λ e. record e { is_held = true }) (λ (e : Entry). record e { is_held = true }) _ _ (λ e. refl) (rewrites_found c.args.id (λ e. record e { is_held = true }) x _ _ found (λ other. ((c.get_mut.follows.holds w).3 (is_some_at found)).0 other)) in
     rewrites_keeps (λ (e : Entry). e.line) c.args.id (λ (e : Entry). record e { is_held = true }) _ _ (λ e. refl) r other ∙ ap (line_of other) c.self.view_is
 
 pub returns-in-Ok-clause-attended : goal.returns-in-Ok-clause-attended
@@ -44,7 +44,7 @@ returns-in-Ok-clause-attended g c = λ some. inr (subst (λ (v : List ℕ). Cont
 pub returns-in-Ok-clause-marked : goal.returns-in-Ok-clause-marked
 returns-in-Ok-clause-marked g c = λ some.
     let found = sym c.in-Some.ensures.value in
-    let w = record c.in-Some.found.now { is_held = true; held_from = c.last_queue-queue.result } in
+    let w = record c.in-Some.found.now { is_held = true } in
     inl (ap (option_map (λ (e : Entry). e.is_held)) (written_at c.args.id _ _ _ (written_seen g.D.Device.seen c.args.id w _ _ (λ other. ((c.get_mut.follows.holds w).3 (is_some_at found)).0 other))))
 
 pub returns-in-Ok-clause-once : goal.returns-in-Ok-clause-once
