@@ -111,7 +111,7 @@ impl Silence {
 const SLOW: u64 = 10;
 
 /// How many bytes a line counts as slow for, once it was.
-const SLOW_BYTES: u64 = 1 << 20;
+const SLOW_BYTES: u64 = 1 << 18;
 
 /// How slowly a line takes bytes.
 #[derive(Clone, Copy)]
@@ -123,11 +123,11 @@ pub(crate) struct Pace {
 }
 
 impl Pace {
-    /// It was never slow.
+    /// Of one of which nothing is known yet: it begins as a slow one.
     pub(crate) fn new() -> Pace {
         Pace {
             full_since: None,
-            slow_until: 0,
+            slow_until: SLOW_BYTES,
         }
     }
 
