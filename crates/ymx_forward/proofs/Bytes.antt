@@ -1,5 +1,5 @@
 -- Bytes that stay as they were.
-use Rattle.std.proofs.Common.{◌≡◌, ◌++◌, ℕ, List, [], take, refl, sym, ap, subst, ◌∙◌, append-nil, append_assoc, Option, Some, None}
+use Rattle.std.proofs.Common.{◌≡◌, ◌++◌, ℕ, List, [], ◌∷◌, take, refl, sym, ap, ◌∙◌, append-nil, append_assoc, Option, Some, None}
 use Rattle.std.specs.Io.KnownBytes.{Keeps, Appends, Consumes, prepend_known}
 
 pub none_consumed : (old new : Option (List ℕ)) (buffer : List ℕ) → Keeps old new → Consumes old new (take 0 buffer)
@@ -21,11 +21,9 @@ pub head_given : (known : Option (List ℕ)) (old new given : List ℕ) → old 
 head_given None old new given e = tt
 head_given (Some xs) old new given e = ap (λ (v : List ℕ). v ++ xs) e ∙ append_assoc given new xs
 
-own : (left left_new : Option (List ℕ)) (given : List ℕ) → Consumes left left_new given → Consumes (prepend_known [] left) (prepend_known [] left_new) given
-own None left_new given c = tt
-own (Some xs) None given c = c
-own (Some xs) (Some ys) given c = c
-
 -- its own are given where none stands before them
 pub own_given : (left left_new : Option (List ℕ)) (head given : List ℕ) → head ≡ [] → Consumes left left_new given → Consumes (prepend_known head left) (prepend_known head left_new) given
-own_given left left_new head given e c = subst (λ (v : List ℕ). Consumes (prepend_known v left) (prepend_known v left_new) given) (sym e) (own left left_new given c)
+own_given None left_new head given e c = tt
+own_given (Some xs) None [] given e c = c
+own_given (Some xs) (Some ys) [] given e c = c
+own_given (Some xs) left_new (x ∷ head) given e c = cc

@@ -574,14 +574,11 @@ impl<R: Host, D: Outlet> SessionLoop<'_, '_, R, D> {
         let context = self.context;
         let origin = context.begin(socket.peer());
         self.prepare(&socket);
-        let line = match self.session.endpoint {
-            Endpoint::Local {
-                names_users: true,
-                ..
-            } => socket.proxy_line(),
+        let head = match self.session.endpoint {
+            Endpoint::Local { names_users, .. } if names_users => socket.proxy_line(),
             _ => Head::new(),
         };
-        let device = Socket::connected(socket, origin, line);
+        let device = Socket::connected(socket, origin, head);
         if let Err(why) = self.tunnel.open(device, &mut Tokens { poll }) {
             self.decline(origin, why);
         }

@@ -49,8 +49,7 @@ pub(crate) fn proxy_line(user: Option<SocketAddr>, here: Option<SocketAddr>) -> 
     let mut line = Head::new();
     let _ = match (user, here) {
         (Some(SocketAddr::V4(user)), Some(SocketAddr::V4(here))) => {
-            let (from, to) = (user.ip(), here.ip());
-            let (source, port) = (user.port(), here.port());
+            let (from, to, source, port) = (user.ip(), here.ip(), user.port(), here.port());
             write!(line, "PROXY TCP4 {from} {to} {source} {port}\r\n")
         }
         _ => write!(line, "PROXY UNKNOWN\r\n"),
@@ -123,7 +122,6 @@ pub(crate) struct Socket<S: Stream = TcpConnection> {
     /// It was shut both ways.
     was_shut: bool,
     marks: Marks,
-    /// What it gives before the bytes of its connection.
     head: Head,
     /// How many bytes it had given and taken when that was last told.
     passed: Cell<(u64, u64)>,
@@ -134,14 +132,12 @@ pub(crate) struct Socket<S: Stream = TcpConnection> {
 impl<S: Stream + Drop> Socket<S> {
     /// The connection of a user, which is there. It may be used at once, and gives these bytes before its own.
     pub(crate) fn connected(socket: S, origin: Origin, head: Head) -> Socket<S> {
-        let mut connected = Socket::new(socket, Some(origin), ConnectState::Connected);
-        connected.head = head;
-        connected
+        Socket::new(socket, Some(origin), ConnectState::Connected, head)
     }
 
     /// The connection of a session, which is there, and of which this poll tells under this token.
     pub(crate) fn wire(socket: S, poll: &Poll, token: usize) -> Result<Socket<S>, NoEvents> {
-        let mut wire = Socket::new(socket, None, ConnectState::Connected);
+        let mut wire = Socket::new(socket, None, ConnectState::Connected, Head::new());
         wire.socket.register(poll, token)?;
         Ok(wire)
     }
@@ -149,7 +145,7 @@ impl<S: Stream + Drop> Socket<S> {
     /// A connection that was begun. It may be there at once, as on the same machine: then it may take bytes. So may one
     /// that can't be made, so that it fails.
     pub(crate) fn begun(socket: S, origin: Origin) -> Socket<S> {
-        let mut begun = Socket::new(socket, Some(origin), ConnectState::Connecting);
+        let mut begun = Socket::new(socket, Some(origin), ConnectState::Connecting, Head::new());
         begun.look();
         begun.marks.may_pull = false;
         begun.marks.may_push = begun.state.get() != ConnectState::Connecting;
@@ -157,7 +153,7 @@ impl<S: Stream + Drop> Socket<S> {
     }
 
     /// One of which nothing was moved.
-    fn new(socket: S, origin: Option<Origin>, state: ConnectState) -> Socket<S> {
+    fn new(socket: S, origin: Option<Origin>, state: ConnectState, head: Head) -> Socket<S> {
         Socket {
             origin,
             socket,
@@ -174,7 +170,7 @@ impl<S: Stream + Drop> Socket<S> {
                 may_push: true,
                 is_closing: false,
             },
-            head: Head::new(),
+            head,
             passed: Cell::new((0, 0)),
             still: Cell::new((0, None)),
         }
