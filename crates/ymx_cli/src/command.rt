@@ -184,11 +184,9 @@ impl<F: FileOpener, R: Inlet, W: Outlet + Send, D: LogOutlet + Send> Devices<F, 
 /// Says of an option that only the other end of a tunnel has that it is that one's.
 pub(crate) fn name_other_end<S: AsStr, D: Outlet>(lines: &mut D, words: &[S]) {
     if let Some((option, other)) = foreign_option(words) {
-        let (option, other) = (option.as_bytes(), other.as_bytes());
-        say(
-            lines,
-            &[b"ymx: ", option, b" is an option of `ymx ", other, b"`\n"],
-        );
+        say(lines, &[b"ymx: ", option.as_bytes()]);
+        let other = other.as_bytes();
+        say(lines, &[b" is an option of `ymx ", other, b"`\n"]);
     }
 }
 
