@@ -8,6 +8,16 @@ use std::sync::Arc;
 use ymx_memory::RefusedAllocation;
 use ymx_model::{DeviceFault, Inlet, Outlet, ReaderInlet, WriterOutlet};
 
+/// Where a session's bytes come from: an inlet that its thread owns.
+pub trait OwnedInlet: Inlet + Send + Drop + 'static {}
+
+impl<I: Inlet + Send + Drop + 'static> OwnedInlet for I {}
+
+/// Where a session's bytes go to: an outlet that its thread owns.
+pub trait OwnedOutlet: Outlet + Send + Drop + 'static {}
+
+impl<O: Outlet + Send + Drop + 'static> OwnedOutlet for O {}
+
 /// Shuts a connection while two threads use it.
 pub trait Shut: Drop {
     /// Ends both directions at once: a `pull` or a `push` that waits returns, and so does each later one. If it does nothing, the drop

@@ -5,6 +5,13 @@
 use std::sync::{Condvar, Mutex, Wait};
 use ymx_connect::PumpWhy;
 
+/// Where the pumps of a session leave their ends.
+#[derive(Drop)]
+pub(crate) struct Endings {
+    pub(crate) reading: Ending,
+    pub(crate) writing: Ending,
+}
+
 /// Where a pump leaves its end.
 #[derive(Drop)]
 pub(crate) struct Ending {
@@ -13,9 +20,19 @@ pub(crate) struct Ending {
     changed: Condvar,
 }
 
+impl Endings {
+    /// Neither pump has a thread yet.
+    pub(crate) fn new() -> Endings {
+        Endings {
+            reading: Ending::new(),
+            writing: Ending::new(),
+        }
+    }
+}
+
 impl Ending {
     /// The pump has no thread yet.
-    pub(crate) fn new() -> Ending {
+    fn new() -> Ending {
         Ending {
             why: Mutex::new(Some(PumpWhy::NoThread)),
             changed: Condvar::new(),

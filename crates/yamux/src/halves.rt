@@ -61,12 +61,9 @@ impl<W: Runtime, R: Recorder> Drop for Writer<W, R> {
             half,
             failed: _,
         } = self;
-        match half {
-            Some(half) => {
-                let (seat, _) = half.reset(&rt);
-                discard(seat);
-            }
-            None => {}
+        if let Some(half) = half {
+            let (seat, _) = half.reset(&rt);
+            discard(seat);
         }
     }
 }
@@ -115,12 +112,8 @@ impl<W: Runtime, R: Recorder> Writer<W, R> {
     pub fn into_half(self) -> Option<WriteHalf<R>>
         ensures { result ≡ self }
     {
-        let Writer {
-            rt: _,
-            half,
-            failed: _,
-        } = self;
-        half
+        let mut writer = self;
+        writer.half.take()
     }
 
     /// Finishes the stream: the peer reads what was written, and then the end (half-close).
@@ -179,10 +172,7 @@ impl<W: Runtime, R: Recorder> Reader<W, R> {
         ensures rest { MatchResult result (λ count. drop count buffer.new ≡ drop count buffer.old) (λ error. buffer.new ≡ buffer.old) }
     {
         let rt = self.rt;
-        match self.half.read(&rt, buffer) {
-            Ok(count) => Ok(count),
-            Err(fault) => Err(Error::from(fault)),
-        }
+        Ok(self.half.read(&rt, buffer)?)
     }
 
     /// Reads up to the end, and gives all bytes that were read, in order. It fails as `read` does, and with `Memory` where there is none

@@ -8,7 +8,7 @@ ghost use Rattle.ymx_session.specs.NewSessions.{new_fault};
 ghost use Rattle.ymx_connect.specs.Pumping.{HasRead, HasWritten, HasClosed, HasWorked, HaveMet, InOneHistory};
 ghost use Rattle.ymx_connect.specs.Settings.{with_first};
 
-use crate::connection::{Connection, Shut};
+use crate::connection::{Connection, OwnedInlet, OwnedOutlet, Shut};
 use crate::error::Error;
 use crate::host::{Host, Runtime};
 use crate::pumps::{Pumped, READ_BUFFER, ReadsOn, WRITE_BUFFER, WritesOn, discard};
@@ -20,7 +20,7 @@ use std::thread;
 use std::thread::PromisedHandle;
 use ymx_connect::PumpWhy;
 use ymx_hub::{Hub, Undrained};
-use ymx_model::{Config, Inlet, Outlet, Role};
+use ymx_model::{Config, Role};
 use ymx_seats::{Naming, NewJournal, Seat, Sight, Witnessed};
 use ymx_session::Session as Machine;
 
@@ -50,14 +50,7 @@ pub struct Worked<T, I, O> {
 /// closes the session, and waits until the peer has ended its side: there is no timeout.
 ///
 /// It fails as `Session::over` does. `work` did not run then, and no byte was sent.
-pub fn with_history<
-    W: Host,
-    I: Inlet + Send + Drop + 'static,
-    O: Outlet + Send + Drop + 'static,
-    S: Shut,
-    T: Drop,
-    K: Work<W, T> + Drop,
->(
+pub fn with_history<W: Host, I: OwnedInlet, O: OwnedOutlet, S: Shut, T: Drop, K: Work<W, T> + Drop>(
     rt: W,
     connection: Connection<I, O, S>,
     role: Role,
@@ -77,8 +70,8 @@ pub fn with_history<
 fn run_named<
     J: Naming + Send + Sync + 'static,
     W: Host,
-    I: Inlet + Send + Drop + 'static,
-    O: Outlet + Send + Drop + 'static,
+    I: OwnedInlet,
+    O: OwnedOutlet,
     S: Shut,
     T: Drop,
     K: Work<W, T> + Drop,
@@ -112,12 +105,7 @@ fn run_named<
 }
 
 /// The thread of the read pump of this session.
-fn read_beside<
-    J: Naming + Send + Sync + 'static,
-    W: Host,
-    S: Shut,
-    I: Inlet + Send + Drop + 'static,
->(
+fn read_beside<J: Naming + Send + Sync + 'static, W: Host, S: Shut, I: OwnedInlet>(
     session: &Session<W, S, Witnessed<J>>,
     reader: I,
 ) -> Result<PromisedHandle<Pumped<Witnessed<J>, I>, ReadsOn<I>>, Error>
@@ -125,7 +113,7 @@ fn read_beside<
 {
     let before = Snapshot::of(&reader);
     let settler = session.sight()?;
-    let pump = session.pump(reader, READ_BUFFER, &session.reading)?;
+    let pump = session.pump(reader, READ_BUFFER, &session.ends.reading)?;
     match thread::spawn_with(
         &session.rt,
         ReadsOn { before },
@@ -134,24 +122,19 @@ fn read_beside<
         { pump.read(settler) },
     ) {
         Ok(thread) => Ok(thread),
-        Err(_) => Err(session.without_thread(&session.reading)),
+        Err(_) => Err(session.without_thread(&session.ends.reading)),
     }
 }
 
 /// The thread of the write pump of this session.
-fn write_beside<
-    J: Naming + Send + Sync + 'static,
-    W: Host,
-    S: Shut,
-    O: Outlet + Send + Drop + 'static,
->(
+fn write_beside<J: Naming + Send + Sync + 'static, W: Host, S: Shut, O: OwnedOutlet>(
     session: &Session<W, S, Witnessed<J>>,
     writer: O,
 ) -> Result<PromisedHandle<Pumped<Witnessed<J>, O>, WritesOn<O>>, Error>
     ensures { IfOk result (λ thread. thread.promise.before.value ≡ writer) }
 {
     let before = Snapshot::of(&writer);
-    let pump = session.pump(writer, WRITE_BUFFER, &session.writing)?;
+    let pump = session.pump(writer, WRITE_BUFFER, &session.ends.writing)?;
     match thread::spawn_with(
         &session.rt,
         WritesOn { before },
@@ -160,7 +143,7 @@ fn write_beside<
         { pump.write() },
     ) {
         Ok(thread) => Ok(thread),
-        Err(_) => Err(session.without_thread(&session.writing)),
+        Err(_) => Err(session.without_thread(&session.ends.writing)),
     }
 }
 

@@ -26,7 +26,7 @@ mod session;
 mod stream;
 mod work;
 
-pub use connection::{Connection, Shut, TcpReader, TcpShut, TcpWriter};
+pub use connection::{Connection, OwnedInlet, OwnedOutlet, Shut, TcpReader, TcpShut, TcpWriter};
 pub use error::Error;
 pub use halves::{Reader, Writer, copy};
 pub use history::{Worked, with_history};

@@ -5,13 +5,13 @@ ghost use Rattle.ymx_memory.specs.Bounds.{most_zeros};
 ghost use Rattle.ymx_seats.specs.Views.{IsNewcomer};
 ghost use Rattle.ymx_connect.specs.Pumping.{HasRead, HasWritten};
 
-use crate::ending::Ending;
+use crate::ending::Endings;
 use crate::host::Runtime;
 use std::alloc::Global;
 use std::snapshot::Snapshot;
 use std::sync::Arc;
 use std::thread::Promise;
-use ymx_connect::{Gate, PumpEnd, PumpWhy, SettlerEnd, read_pump, write_pump};
+use ymx_connect::{Gate, Lent, PumpEnd, PumpWhy, SettlerEnd, read_pump, write_pump};
 use ymx_header::FRAME_LENGTH;
 use ymx_hub::Hub;
 use ymx_memory::RefusedAllocation;
@@ -51,7 +51,7 @@ pub(crate) struct Pump<W: Runtime, R: Recorder, D: Drop> {
     pub(crate) device: D,
     pub(crate) buffer: Buffer,
     /// Where it leaves its end.
-    pub(crate) end: Arc<Ending, Global>,
+    pub(crate) ends: Arc<Endings, Global>,
 }
 
 /// How a pump ended.
@@ -99,18 +99,6 @@ struct AlwaysOpen;
 
 impl Gate for AlwaysOpen {
     ghost has_refused = { λ _. false };
-
-    fn before_read(&mut self) -> bool {
-        true
-    }
-
-    fn after_read(&mut self, _count: usize) {}
-
-    fn after_write(&mut self, _count: usize) {}
-
-    fn before_wait(&mut self) -> bool {
-        true
-    }
 }
 
 impl<W: Runtime, R: Recorder, I: Inlet + Drop> Pump<W, R, I> {
@@ -123,21 +111,13 @@ impl<W: Runtime, R: Recorder, I: Inlet + Drop> Pump<W, R, I> {
         let Buffer { mut bytes } = self.buffer;
         let mut device = self.device;
         let seat = self.seat.into_seat(rt.alloc());
-        let (ended, settled) = read_pump(
-            &rt,
-            &*self.hub,
-            (seat, settler.into_seat(rt.alloc())),
-            &mut device,
-            &mut AlwaysOpen,
-            bytes.as_mut_slice(),
-        );
+        let seats = (seat, settler.into_seat(rt.alloc()));
+        let lent = Lent(&mut device, &mut AlwaysOpen, bytes.as_mut_slice());
+        let (ended, settled) = read_pump(&rt, &*self.hub, seats, lent);
+        let SettlerEnd { seat, settled: _ } = settled;
+        discard(seat);
         let PumpEnd { seat, moved, why } = ended;
-        let SettlerEnd {
-            seat: settler,
-            settled: _,
-        } = settled;
-        discard(settler);
-        self.end.tell(&rt, why);
+        self.ends.reading.tell(&rt, why);
         Pumped {
             device,
             why,
@@ -157,16 +137,10 @@ impl<W: Runtime, R: Recorder, O: Outlet + Drop> Pump<W, R, O> {
         let Buffer { mut bytes } = self.buffer;
         let mut device = self.device;
         let seat = self.seat.into_seat(rt.alloc());
-        let ended = write_pump(
-            &rt,
-            &*self.hub,
-            seat,
-            &mut device,
-            &mut AlwaysOpen,
-            bytes.as_mut_slice(),
-        );
+        let lent = Lent(&mut device, &mut AlwaysOpen, bytes.as_mut_slice());
+        let ended = write_pump(&rt, &*self.hub, seat, lent);
         let PumpEnd { seat, moved, why } = ended;
-        self.end.tell(&rt, why);
+        self.ends.writing.tell(&rt, why);
         Pumped {
             device,
             why,

@@ -6,8 +6,8 @@ ghost use Rattle.ymx_seats.specs.Views.{IsNewcomer};
 ghost use Rattle.yamux.specs.Door.{IsOpened, IsAccepted};
 ghost use Rattle.ymx_session.specs.NewSessions.{new_fault};
 
-use crate::connection::{Connection, Shut, TcpShut};
-use crate::ending::Ending;
+use crate::connection::{Connection, OwnedInlet, OwnedOutlet, Shut, TcpShut};
+use crate::ending::{Ending, Endings};
 use crate::error::{Error, said_by};
 use crate::host::{Host, Runtime};
 use crate::pumps::{Buffer, Pump, READ_BUFFER, WRITE_BUFFER, discard};
@@ -18,7 +18,7 @@ use std::sync::{Arc, Mutex};
 use std::thread;
 use ymx_connect::PumpWhy;
 use ymx_hub::{Hub, Off, accept_at_seat, open_at_seat, open_with_at_seat};
-use ymx_model::{Config, Inlet, Outlet, Role};
+use ymx_model::{Config, Role};
 use ymx_seats::{Recorder, Seat, Sight};
 use ymx_session::Session as Machine;
 
@@ -30,8 +30,7 @@ pub struct Session<W: Runtime, S: Shut = TcpShut, R: Recorder = Off> {
     shutter: S,
     /// Who closes the session.
     closer: Mutex<Seat<R>>,
-    pub(crate) reading: Arc<Ending, Global>,
-    pub(crate) writing: Arc<Ending, Global>,
+    pub(crate) ends: Arc<Endings, Global>,
 }
 
 impl<W: Runtime, S: Shut, R: Recorder> Drop for Session<W, S, R> {
@@ -41,15 +40,14 @@ impl<W: Runtime, S: Shut, R: Recorder> Drop for Session<W, S, R> {
             hub,
             shutter,
             closer,
-            reading,
-            writing,
+            ends,
         } = self;
         let mut seat = closer.into_inner();
         let _ = hub.close(&rt, &mut seat);
         discard(seat);
         shutter.shut();
-        let _ = writing.wait(&rt);
-        let _ = reading.wait(&rt);
+        let _ = ends.writing.wait(&rt);
+        let _ = ends.reading.wait(&rt);
     }
 }
 
@@ -75,7 +73,7 @@ impl<W: Host> Session<W> {
 
 impl<W: Host, S: Shut + Send + Sync + 'static> Session<W, S> {
     /// The session of this role over any connection that can be shut. It fails as `client` does.
-    pub fn over<I: Inlet + Send + Drop + 'static, O: Outlet + Send + Drop + 'static>(
+    pub fn over<I: OwnedInlet, O: OwnedOutlet>(
         rt: W,
         connection: Connection<I, O, S>,
         role: Role,
@@ -96,14 +94,14 @@ impl<W: Host, S: Shut + Send + Sync + 'static, R: Recorder + Send + Sync + 'stat
 > {
     /// The session of a hub, over any connection that can be shut. `Memory` and `NoThread` where there is none, and `Exhausted` where
     /// the hub has no seat left.
-    pub fn over_hub<I: Inlet + Send + Drop + 'static, O: Outlet + Send + Drop + 'static>(
+    pub fn over_hub<I: OwnedInlet, O: OwnedOutlet>(
         rt: W,
         connection: Connection<I, O, S>,
         hub: Arc<Hub<R>, Global>,
     ) -> Result<Session<W, S, R>, Error> {
         let session = Session::without_pumps(rt, hub, connection.shutter)?;
         let settler = session.sight()?;
-        let pump = session.pump(connection.reader, READ_BUFFER, &session.reading)?;
+        let pump = session.pump(connection.reader, READ_BUFFER, &session.ends.reading)?;
         let reading = thread::spawn(
             &rt,
             move ||
@@ -113,9 +111,9 @@ impl<W: Host, S: Shut + Send + Sync + 'static, R: Recorder + Send + Sync + 'stat
             },
         );
         if reading.is_err() {
-            return Err(session.without_thread(&session.reading));
+            return Err(session.without_thread(&session.ends.reading));
         }
-        let pump = session.pump(connection.writer, WRITE_BUFFER, &session.writing)?;
+        let pump = session.pump(connection.writer, WRITE_BUFFER, &session.ends.writing)?;
         let writing = thread::spawn(
             &rt,
             move ||
@@ -125,7 +123,7 @@ impl<W: Host, S: Shut + Send + Sync + 'static, R: Recorder + Send + Sync + 'stat
             },
         );
         if writing.is_err() {
-            return Err(session.without_thread(&session.writing));
+            return Err(session.without_thread(&session.ends.writing));
         }
         Ok(session)
     }
@@ -138,16 +136,14 @@ impl<W: Runtime, S: Shut, R: Recorder> Session<W, S, R> {
         hub: Arc<Hub<R>, Global>,
         shutter: S,
     ) -> Result<Session<W, S, R>, Error> {
-        let reading = ymx_memory::shared(rt.alloc(), Ending::new())?;
-        let writing = ymx_memory::shared(rt.alloc(), Ending::new())?;
+        let ends = ymx_memory::shared(rt.alloc(), Endings::new())?;
         let closer = Mutex::new(hub.seat(&rt)?);
         Ok(Session {
             rt,
             hub,
             shutter,
             closer,
-            reading,
-            writing,
+            ends,
         })
     }
 
@@ -156,7 +152,7 @@ impl<W: Runtime, S: Shut, R: Recorder> Session<W, S, R> {
         &self,
         device: D,
         buffer: usize,
-        end: &Arc<Ending, Global>,
+        end: &Ending,
     ) -> Result<Pump<W, R, D>, Error>
         requires { (0 < buffer) × (buffer ≤ most_zeros) }
         ensures { IfOk result (λ pump. (pump.device ≡ device) × IsNewcomer pump.seat.number pump.seat.seen) }
@@ -168,7 +164,7 @@ impl<W: Runtime, S: Shut, R: Recorder> Session<W, S, R> {
             seat: self.sight()?,
             device,
             buffer: Buffer::new(rt.alloc(), buffer)?,
-            end: ymx_memory::share(end)?,
+            ends: ymx_memory::share(&self.ends)?,
         };
         end.begin(&rt);
         Ok(pump)
@@ -284,24 +280,17 @@ impl<W: Runtime, S: Shut, R: Recorder> Session<W, S, R> {
     ///
     /// `Lost`, `Broken` or `Memory` where something may not have gone out, or the peer's end was none.
     pub fn close(self) -> Result<(), Error> {
-        let Session {
-            rt,
-            hub,
-            shutter,
-            closer,
-            reading,
-            writing,
-        } = self;
-        let mut seat = closer.into_inner();
-        let drained = hub.drain(&rt, &mut seat);
-        let closed = hub.close(&rt, &mut seat);
-        discard(seat);
-        let written = said_by(writing.wait(&rt));
+        let rt = self.rt;
+        let mut seat = self.closer.lock(&rt);
+        let drained = self.hub.drain(&rt, &mut seat);
+        let closed = self.hub.close(&rt, &mut seat);
+        drop(seat);
+        let written = said_by(self.ends.writing.wait(&rt));
         if written.is_err() {
             // The peer is told of no end, so it may wait for ever.
-            shutter.shut();
+            self.shutter.shut();
         }
-        said_by(reading.wait(&rt))?;
+        said_by(self.ends.reading.wait(&rt))?;
         written?;
         drained?;
         Ok(closed?)

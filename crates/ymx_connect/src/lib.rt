@@ -16,7 +16,7 @@ mod start;
 mod writing;
 
 pub use both::run_pumps;
-pub use gate::Gate;
+pub use gate::{Gate, Lent};
 pub use pump_end::{PumpEnd, PumpWhy, SettlerEnd};
 pub use reading::read_pump;
 pub use writing::write_pump;

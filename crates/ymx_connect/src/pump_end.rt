@@ -79,4 +79,12 @@ impl Stop {
             why: self.why,
         }
     }
+
+    /// The end of the pump of this seat.
+    pub(crate) fn of<R: Recorder>(self, seat: Seat<R>) -> PumpEnd<R>
+        ensures { result ≡ record { seat = seat; moved = self.moved; why = self.why } }
+    {
+        let Stop { moved, why } = self;
+        PumpEnd { seat, moved, why }
+    }
 }

@@ -8,7 +8,7 @@ ghost use Rattle.ymx_connect.specs.Ends.{ReadEnd, FeedEnd};
 ghost use Rattle.ymx_connect.specs.Pumps.{PumpRead};
 ghost use Rattle.ymx_connect.specs.Turns.{SaysEnd, TurnFed, FedAll, TurnRead};
 
-use crate::gate::Gate;
+use crate::gate::{Gate, Lent};
 use crate::pump_end::{PumpEnd, PumpWhy, SettlerEnd, Stop};
 use std::sync::Wait;
 use ymx_hub::{FedAndSettled, Hub, Settled};
@@ -16,21 +16,24 @@ use ymx_memory::RefusedAllocation;
 use ymx_model::{Inlet, Why};
 use ymx_seats::{Recorder, Seat};
 
+/// The seats of a read pump: its own, and that at which it looks at streams that were released.
+type ReadSeats<R> = (Seat<R>, Seat<R>);
+
 /// Feeds once, and looks at the streams that were released. Where 1,024 answers are unsent it waits once behind it.
 #[tactic(auto, using(crate::proofs::Feeds::fed_whole, crate::proofs::Feeds::fed_held, crate::proofs::Feeds::fed_broken))]
 fn feed_turn<R: Recorder, W: Wait, G: Gate>(
     rt: &W,
     hub: &Hub<R>,
-    seat: &mut Seat<R>,
-    settler: &mut Seat<R>,
+    seats: &mut ReadSeats<R>,
     gate: &mut G,
     bytes: &[u8],
 ) -> Result<(usize, Settled), Stop>
-    ensures fed { TurnFed R.KEEPS seat.old seat.new bytes.now result }
-    ensures tended { Books R.KEEPS settler.old settler.new (Settles settler.old.number) }
+    ensures fed { TurnFed R.KEEPS seats.old.0 seats.new.0 bytes.now result }
+    ensures tended { Books R.KEEPS seats.old.1 seats.new.1 (Settles seats.old.1.number) }
     ensures ended { IfErr result (λ stop. FeedEnd R.KEEPS (G.has_refused gate.new) stop.why) }
 {
-    let FedAndSettled { fed, settled } = match hub.feed_and_settle(rt, seat, settler, bytes) {
+    let (own, settler) = seats;
+    let FedAndSettled { fed, settled } = match hub.feed_and_settle(rt, own, settler, bytes) {
         Ok(done) => done,
         Err(refused) => return Err(Stop::at_once(PumpWhy::Memory(refused))),
     };
@@ -59,18 +62,17 @@ fn feed_turn<R: Recorder, W: Wait, G: Gate>(
 fn feed_all<R: Recorder, W: Wait, G: Gate>(
     rt: &W,
     hub: &Hub<R>,
-    seat: &mut Seat<R>,
-    settler: &mut Seat<R>,
+    seats: &mut ReadSeats<R>,
     gate: &mut G,
     bytes: &[u8],
 ) -> Result<Settled, Stop>
-    ensures fed { FedAll R.KEEPS seat.old seat.new bytes.now result }
-    ensures tended { Books R.KEEPS settler.old settler.new (Settles settler.old.number) }
+    ensures fed { FedAll R.KEEPS seats.old.0 seats.new.0 bytes.now result }
+    ensures tended { Books R.KEEPS seats.old.1 seats.new.1 (Settles seats.old.1.number) }
     ensures ended { IfErr result (λ stop. FeedEnd R.KEEPS (G.has_refused gate.new) stop.why) }
 {
     let mut at = 0;
     for _ in rt.forever() {
-        match feed_turn(rt, hub, seat, settler, gate, &bytes[at..]) {
+        match feed_turn(rt, hub, seats, gate, &bytes[at..]) {
             Ok((taken, settled)) => {
                 at += taken;
                 if at == bytes.len() {
@@ -110,31 +112,28 @@ pub(crate) fn end_input<R: Recorder, W: Wait>(
 fn read_turn<R: Recorder, W: Wait, I: Inlet, G: Gate>(
     rt: &W,
     hub: &Hub<R>,
-    seat: &mut Seat<R>,
-    settler: &mut Seat<R>,
-    reader: &mut I,
-    gate: &mut G,
-    buffer: &mut [u8],
+    seats: &mut ReadSeats<R>,
+    lent: Lent<'_, I, G>,
 ) -> Result<(usize, Settled), Stop>
-    requires { 0 < length buffer.old }
-    ensures length { length buffer.new ≡ length buffer.old }
-    ensures turned { TurnRead R.KEEPS (I.failures reader.old) (I.failures reader.new) (I.remaining reader.old) (I.remaining reader.new) seat.old seat.new result }
-    ensures tended { Books R.KEEPS settler.old settler.new (Settles settler.old.number) }
-    ensures ended { IfErr result (λ stop. ReadEnd R.KEEPS (I.failures reader.old) (I.failures reader.new) (I.remaining reader.new) (G.has_refused gate.new) stop.why) }
+    requires { 0 < length lent.2.now }
+    ensures length { length lent.exit.1.1.0.now ≡ length lent.entry.2.now }
+    ensures turned { TurnRead R.KEEPS (I.failures lent.entry.0.now) (I.failures lent.exit.0.now) (I.remaining lent.entry.0.now) (I.remaining lent.exit.0.now) seats.old.0 seats.new.0 result }
+    ensures tended { Books R.KEEPS seats.old.1 seats.new.1 (Settles seats.old.1.number) }
+    ensures ended { IfErr result (λ stop. ReadEnd R.KEEPS (I.failures lent.entry.0.now) (I.failures lent.exit.0.now) (I.remaining lent.exit.0.now) (G.has_refused lent.exit.1.0.now) stop.why) }
 {
+    let Lent(device, gate, buffer) = lent;
     if !gate.before_read() {
         return Err(Stop::at_once(PumpWhy::Gate));
     }
-    match reader.pull(buffer) {
-        Err(_) => Err(Stop::at_once(end_input(rt, hub, seat, PumpWhy::Device))),
-        Ok(0) => Err(Stop::at_once(end_input(rt, hub, seat, PumpWhy::End))),
-        Ok(count) => {
-            gate.after_read(count);
-            match feed_all(rt, hub, seat, settler, gate, &buffer[..count]) {
-                Ok(settled) => Ok((count, settled)),
-                Err(stop) => Err(stop),
-            }
-        }
+    let count = match device.pull(buffer) {
+        Err(_) => return Err(Stop::at_once(end_input(rt, hub, &mut seats.0, PumpWhy::Device))),
+        Ok(0) => return Err(Stop::at_once(end_input(rt, hub, &mut seats.0, PumpWhy::End))),
+        Ok(count) => count,
+    };
+    gate.after_read(count);
+    match feed_all(rt, hub, seats, gate, &buffer[..count]) {
+        Ok(settled) => Ok((count, settled)),
+        Err(stop) => return Err(stop),
     }
 }
 
@@ -142,23 +141,21 @@ fn read_turn<R: Recorder, W: Wait, I: Inlet, G: Gate>(
 pub(crate) fn read_on<R: Recorder, W: Wait, I: Inlet, G: Gate>(
     rt: &W,
     hub: &Hub<R>,
-    seat: &mut Seat<R>,
-    settler: &mut Seat<R>,
-    reader: &mut I,
-    gate: &mut G,
-    buffer: &mut [u8],
+    seats: &mut ReadSeats<R>,
+    lent: Lent<'_, I, G>,
 ) -> (Stop, Result<Settled, RefusedAllocation>)
-    requires { 0 < length buffer.old }
-    ensures gave { PumpRead R.KEEPS (I.remaining reader.old) (I.remaining reader.new) seat.old seat.new result.0.moved result.0.why }
-    ensures tended { Books R.KEEPS settler.old settler.new (Settles settler.old.number) }
+    requires { 0 < length lent.2.now }
+    ensures gave { PumpRead R.KEEPS (I.remaining lent.entry.0.now) (I.remaining lent.exit.0.now) seats.old.0 seats.new.0 result.0.moved result.0.why }
+    ensures tended { Books R.KEEPS seats.old.1 seats.new.1 (Settles seats.old.1.number) }
     ensures off { R.KEEPS ≡ false → IsOk result.1 }
-    ensures ended { ReadEnd R.KEEPS (I.failures reader.old) (I.failures reader.new) (I.remaining reader.new) (G.has_refused gate.new) result.0.why }
+    ensures ended { ReadEnd R.KEEPS (I.failures lent.entry.0.now) (I.failures lent.exit.0.now) (I.remaining lent.exit.0.now) (G.has_refused lent.exit.1.0.now) result.0.why }
 {
+    let Lent(device, gate, buffer) = lent;
     let mut count = 0u64;
     for _ in rt.forever() {
-        match read_turn(rt, hub, seat, settler, reader, gate, buffer) {
+        match read_turn(rt, hub, seats, Lent(device, gate, buffer)) {
             Ok((taken, _)) => count = count.saturating_add(taken as u64),
-            Err(stop) => return (stop.behind(count), hub.settle(rt, settler)),
+            Err(stop) => return (stop.behind(count), hub.settle(rt, &mut seats.1)),
         }
     }
     unreachable!()
@@ -176,26 +173,19 @@ pub fn read_pump<R: Recorder, W: Wait, I: Inlet, G: Gate>(
     rt: &W,
     hub: &Hub<R>,
     seats: (Seat<R>, Seat<R>),
-    reader: &mut I,
-    gate: &mut G,
-    buffer: &mut [u8],
+    lent: Lent<'_, I, G>,
 ) -> (PumpEnd<R>, SettlerEnd<R>)
-    requires { 0 < length buffer.old }
-    ensures gave { PumpRead R.KEEPS (I.remaining reader.old) (I.remaining reader.new) seats.0 result.0.seat result.0.moved result.0.why }
+    requires { 0 < length lent.2.now }
+    ensures gave { PumpRead R.KEEPS (I.remaining lent.entry.0.now) (I.remaining lent.exit.0.now) seats.0 result.0.seat result.0.moved result.0.why }
     // What it did of released streams stands in the list of the second seat: a stream is given up only where nothing more could come.
     ensures tended { Books R.KEEPS seats.1 result.1.seat (Settles seats.1.number) }
     // Where no entries are kept, all released streams are looked at in the end.
     ensures off { R.KEEPS ≡ false → IsOk result.1.settled }
-    ensures ended { ReadEnd R.KEEPS (I.failures reader.old) (I.failures reader.new) (I.remaining reader.new) (G.has_refused gate.new) result.0.why }
+    ensures ended { ReadEnd R.KEEPS (I.failures lent.entry.0.now) (I.failures lent.exit.0.now) (I.remaining lent.exit.0.now) (G.has_refused lent.exit.1.0.now) result.0.why }
 {
-    let (mut seat, mut settler) = seats;
-    let (stop, settled) = read_on(rt, hub, &mut seat, &mut settler, reader, gate, buffer);
-    let Stop { moved, why } = stop;
-    (
-        PumpEnd { seat, moved, why },
-        SettlerEnd {
-            seat: settler,
-            settled,
-        },
-    )
+    let mut seats = seats;
+    let Lent(device, gate, buffer) = lent;
+    let (stop, settled) = read_on(rt, hub, &mut seats, Lent(device, gate, buffer));
+    let (own, seat) = seats;
+    (stop.of(own), SettlerEnd { seat, settled })
 }

@@ -10,7 +10,7 @@ ghost use Rattle.ymx_connect.specs.Ends.{WriteEnd};
 ghost use Rattle.ymx_connect.specs.Pumps.{PumpWrote, EndsWrite};
 ghost use Rattle.ymx_connect.specs.Turns.{SaysEnd, TurnWrote, EmitsOrWakes};
 
-use crate::gate::Gate;
+use crate::gate::{Gate, Lent};
 use crate::pump_end::{PumpEnd, PumpWhy, Stop};
 use crate::reading::end_input;
 use std::sync::Wait;
@@ -52,41 +52,35 @@ fn write_turn<R: Recorder, W: Wait, O: Outlet, G: Gate>(
     rt: &W,
     hub: &Hub<R>,
     seat: &mut Seat<R>,
-    writer: &mut O,
-    gate: &mut G,
-    buffer: &mut [u8],
+    lent: Lent<'_, O, G>,
 ) -> Result<usize, Stop>
-    ensures length { length buffer.new ≡ length buffer.old }
-    ensures turned { TurnWrote R.KEEPS (length buffer.old) (O.failures writer.old) (O.failures writer.new) (O.contents writer.old) (O.contents writer.new) seat.old seat.new result }
-    ensures ended { IfErr result (λ stop. WriteEnd R.KEEPS (O.failures writer.old) (O.failures writer.new) (O.is_ended writer.new) (G.has_refused gate.new) stop.why) }
+    ensures length { length lent.exit.1.1.0.now ≡ length lent.entry.2.now }
+    ensures turned { TurnWrote R.KEEPS (length lent.entry.2.now) (O.failures lent.entry.0.now) (O.failures lent.exit.0.now) (O.contents lent.entry.0.now) (O.contents lent.exit.0.now) seat.old seat.new result }
+    ensures ended { IfErr result (λ stop. WriteEnd R.KEEPS (O.failures lent.entry.0.now) (O.failures lent.exit.0.now) (O.is_ended lent.exit.0.now) (G.has_refused lent.exit.1.0.now) stop.why) }
     ensures out { IfErr result (λ stop. stop.why ≡ PumpWhy.End → EmitsNoMore R.WITNESSED R.role R.config seat.new.seen) }
-    ensures awake { IfOk result (λ count. EmitsOrWakes R.KEEPS R.WITNESSED R.role R.config (length buffer.old) buffer.new seat.old seat.new count) }
+    ensures awake { IfOk result (λ count. EmitsOrWakes R.KEEPS R.WITNESSED R.role R.config (length lent.entry.2.now) lent.exit.1.1.0.now seat.old seat.new count) }
 {
-    match hub.emit_turn(rt, seat, buffer) {
-        Ok(Turn::Emitted(count)) => {
-            if let Err(moved) = push_all(writer, &buffer[..count]) {
-                let why = lose_writer(rt, hub, seat);
-                return Err(Stop {
-                    moved: moved as u64,
-                    why,
-                });
-            }
-            gate.after_write(count);
-            Ok(count)
-        }
+    let Lent(device, gate, buffer) = lent;
+    let count = match hub.emit_turn(rt, seat, buffer) {
+        Ok(Turn::Emitted(count)) => count,
         Ok(Turn::Idle) => {
             if !gate.before_wait() {
                 return Err(Stop::at_once(PumpWhy::Gate));
             }
             hub.wait_until_due(rt, seat);
-            Ok(0)
+            return Ok(0);
         }
-        Ok(Turn::Over) => Err(Stop::at_once(end_writer(rt, hub, seat, writer))),
+        Ok(Turn::Over) => return Err(Stop::at_once(end_writer(rt, hub, seat, device))),
         Err(refused) => {
             hub.mute(rt);
-            Err(Stop::at_once(PumpWhy::Memory(refused)))
+            return Err(Stop::at_once(PumpWhy::Memory(refused)));
         }
+    };
+    if let Err(moved) = push_all(device, &buffer[..count]) {
+        return Err(Stop::behind_bytes(moved, lose_writer(rt, hub, seat)));
     }
+    gate.after_write(count);
+    Ok(count)
 }
 
 /// The write pump, while its seat is lent.
@@ -94,17 +88,16 @@ pub(crate) fn write_on<R: Recorder, W: Wait, O: Outlet, G: Gate>(
     rt: &W,
     hub: &Hub<R>,
     seat: &mut Seat<R>,
-    writer: &mut O,
-    gate: &mut G,
-    buffer: &mut [u8],
+    lent: Lent<'_, O, G>,
 ) -> Stop
-    ensures wrote { PumpWrote R.KEEPS (length buffer.old) (has_failed (O.failures writer.old) (O.failures writer.new)) (O.contents writer.old) (O.contents writer.new) seat.old seat.new result.moved result.why }
-    ensures ended { WriteEnd R.KEEPS (O.failures writer.old) (O.failures writer.new) (O.is_ended writer.new) (G.has_refused gate.new) result.why }
+    ensures wrote { PumpWrote R.KEEPS (length lent.entry.2.now) (has_failed (O.failures lent.entry.0.now) (O.failures lent.exit.0.now)) (O.contents lent.entry.0.now) (O.contents lent.exit.0.now) seat.old seat.new result.moved result.why }
+    ensures ended { WriteEnd R.KEEPS (O.failures lent.entry.0.now) (O.failures lent.exit.0.now) (O.is_ended lent.exit.0.now) (G.has_refused lent.exit.1.0.now) result.why }
     ensures out { result.why ≡ PumpWhy.End → EmitsNoMore R.WITNESSED R.role R.config seat.new.seen }
 {
+    let Lent(device, gate, buffer) = lent;
     let mut count = 0u64;
     for _ in rt.forever() {
-        match write_turn(rt, hub, seat, writer, gate, buffer) {
+        match write_turn(rt, hub, seat, Lent(device, gate, buffer)) {
             Ok(written) => count = count.saturating_add(written as u64),
             Err(stop) => return stop.behind(count),
         }
@@ -121,17 +114,16 @@ pub fn write_pump<R: Recorder, W: Wait, O: Outlet, G: Gate>(
     rt: &W,
     hub: &Hub<R>,
     seat: Seat<R>,
-    writer: &mut O,
-    gate: &mut G,
-    buffer: &mut [u8],
+    lent: Lent<'_, O, G>,
 ) -> PumpEnd<R>
-    requires { 0 < length buffer.old }
-    ensures wrote { PumpWrote R.KEEPS (length buffer.old) (has_failed (O.failures writer.old) (O.failures writer.new)) (O.contents writer.old) (O.contents writer.new) seat result.seat result.moved result.why }
-    ensures ended { WriteEnd R.KEEPS (O.failures writer.old) (O.failures writer.new) (O.is_ended writer.new) (G.has_refused gate.new) result.why }
+    requires { 0 < length lent.2.now }
+    ensures wrote { PumpWrote R.KEEPS (length lent.entry.2.now) (has_failed (O.failures lent.entry.0.now) (O.failures lent.exit.0.now)) (O.contents lent.entry.0.now) (O.contents lent.exit.0.now) seat result.seat result.moved result.why }
+    ensures ended { WriteEnd R.KEEPS (O.failures lent.entry.0.now) (O.failures lent.exit.0.now) (O.is_ended lent.exit.0.now) (G.has_refused lent.exit.1.0.now) result.why }
     // It says End only where nothing is due and nothing will be, of the session that the history in the sight of its seat leads to.
     ensures out { result.why ≡ PumpWhy.End → EmitsNoMore R.WITNESSED R.role R.config result.seat.seen }
 {
     let mut seat = seat;
-    let Stop { moved, why } = write_on(rt, hub, &mut seat, writer, gate, buffer);
-    PumpEnd { seat, moved, why }
+    let Lent(device, gate, buffer) = lent;
+    let stop = write_on(rt, hub, &mut seat, Lent(device, gate, buffer));
+    stop.of(seat)
 }

@@ -4,15 +4,15 @@ use Rattle.ymx_connect.proofs.Emits.{wrote_none}
 use Rattle.ymx_connect.proofs.Ends.{has_thread}
 use Rattle.ymx_connect.proofs.both.write_if_begun.Goals as goal
 
-pub returns-then-not-begin-clause-wrote : goal.returns-then-not-begin-clause-wrote
-returns-then-not-begin-clause-wrote g c =
-    rw c.at_once.ensures (wrote_none g.R.Recorder.KEEPS (length c.args.buffer.now) (has_failed (g.O.Outlet.failures c.args.writer.now) (g.O.Outlet.failures c.args.writer.now)) (g.O.Outlet.contents c.args.writer.now) c.args.seat.now)
+pub returns-clause-wrote : goal.returns-clause-wrote
+returns-clause-wrote g c =
+    rw c.at_once.ensures (wrote_none g.R.Recorder.KEEPS (length c.args.lent.2.now) (has_failed (g.O.Outlet.failures c.args.lent.0.now) (g.O.Outlet.failures c.args.lent.0.now)) (g.O.Outlet.contents c.args.lent.0.now) c.args.seat.now)
 
-pub returns-clause-unmoved : goal.returns-clause-unmoved
-returns-clause-unmoved g c = λ e. absurd (has_thread _ _ _ _ _ _ c.write_on.ensures.ended e)
+pub returns-then-begin-clause-unmoved : goal.returns-then-begin-clause-unmoved
+returns-then-begin-clause-unmoved g c = λ e. absurd (has_thread _ _ _ _ _ _ c.write_on.ensures.ended e)
 
-pub returns-clause-unbooked : goal.returns-clause-unbooked
-returns-clause-unbooked g c = λ e. absurd (has_thread _ _ _ _ _ _ c.write_on.ensures.ended e)
+pub returns-then-begin-clause-unbooked : goal.returns-then-begin-clause-unbooked
+returns-then-begin-clause-unbooked g c = λ e. absurd (has_thread _ _ _ _ _ _ c.write_on.ensures.ended e)
 
-pub returns-clause-unwritten : goal.returns-clause-unwritten
-returns-clause-unwritten g c = λ e. absurd (has_thread _ _ _ _ _ _ c.write_on.ensures.ended e)
+pub returns-then-begin-clause-unwritten : goal.returns-then-begin-clause-unwritten
+returns-then-begin-clause-unwritten g c = λ e. absurd (has_thread _ _ _ _ _ _ c.write_on.ensures.ended e)

@@ -7,6 +7,6 @@ use Rattle.ymx_connect.proofs.reading.feed_all.Given as goal
 abbrev pub invariant-loop : goal.invariant-loop
 invariant-loop g l = record {
   next : (goal.iterator-loop g).can_next l.iterator' × (goal.iterator-loop g).is_finite l.iterator';
-  fed : FeedsFirst g.R.Recorder.KEEPS l.initial.seat l.seat l.bytes l.at None;
-  tended : Books g.R.Recorder.KEEPS l.initial.settler l.settler (Settles l.initial.settler.number);
+  fed : FeedsFirst g.R.Recorder.KEEPS l.initial.seats.0 l.seats.0 l.bytes l.at None;
+  tended : Books g.R.Recorder.KEEPS l.initial.seats.1 l.seats.1 (Settles l.initial.seats.1.number);
 }

@@ -8,6 +8,6 @@ abbrev pub invariant-loop : goal.invariant-loop
 invariant-loop g l = record {
   next : (goal.iterator-loop g).can_next l.iterator' × (goal.iterator-loop g).is_finite l.iterator';
   room : length l.buffer ≡ length l.initial.buffer;
-  fed : AllFed g.R.Recorder.KEEPS (g.I.Inlet.failures l.initial.reader) (g.I.Inlet.failures l.reader) (g.I.Inlet.remaining l.initial.reader) (g.I.Inlet.remaining l.reader) l.initial.seat l.seat l.count;
-  tended : Books g.R.Recorder.KEEPS l.initial.settler l.settler (Settles l.initial.settler.number);
+  fed : AllFed g.R.Recorder.KEEPS (g.I.Inlet.failures l.initial.device) (g.I.Inlet.failures l.device) (g.I.Inlet.remaining l.initial.device) (g.I.Inlet.remaining l.device) l.initial.seats.0 l.seats.0 l.count;
+  tended : Books g.R.Recorder.KEEPS l.initial.seats.1 l.seats.1 (Settles l.initial.seats.1.number);
 }
