@@ -75,13 +75,16 @@ def idle(words, most):
     remote = Program("remote", "-v", "--bind", ANY, "--target", address, *words)
     local = Program("local", "-v", "--listen", ANY, "--peer", remote.place(), *words)
     place = local.place()
-    ends, before = [], [resident(end) for end in (local, remote)]
-    for _ in range(USERS):
+    ends, before = [], []
+    for number in range(1 + USERS):
         user = call(place)
         user.sendall(b"?")
         other = accept(target)
         assert take(other, 1) == b"?"
         ends += [user, other]
+        if number == 0:
+            # both have their buffers, which are no user's
+            before = [resident(end) for end in (local, remote)]
     time.sleep(PAUSE)
     for end, was in zip((local, remote), before):
         taken = (resident(end) - was) / USERS
