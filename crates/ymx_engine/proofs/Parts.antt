@@ -1,6 +1,6 @@
 -- Parts of a turn: how they go on, and what one call is.
 use Rattle.std.proofs.Common.{◌≡◌, ◌⊎◌, inl, inr, ℕ, zero, suc, ◌+◌, ◌*◌, ◌≤◌, ◌<◌, ◌==◌, List, [], ◌∷◌, ◌++◌, length, take, drop, Bool, true, false, ◌||◌, ◌&&◌, nat_le, Option, refl, sym, ap, ◌∙◌, subst, arith, append-nil, take-append-drop, length-append}
-use Rattle.std.specs.Prelude.{option_map, IfSome}
+use Rattle.std.specs.Prelude.{option_map, IfSome, min}
 use Rattle.std.specs.List.{list_all}
 use Rattle.std.specs.Io.KnownBytes.{Appends, Consumes}
 use Rattle.std.proofs.lemmas.Grind.{common_steps}
@@ -25,7 +25,7 @@ use Rattle.ymx_engine.specs.declared.device.Pushed.TheVariants as pushed
 use Rattle.ymx_engine.specs.declared.ways.Ways.{Ways}
 use Rattle.ymx_engine.specs.declared.ways.Flow.{Flow}
 use Rattle.ymx_engine.specs.declared.ways.Flow.TheVariants as flow
-use Rattle.ymx_engine.specs.Devices.{Seen, Marks, may_have_more, may_take_more, after_pull, after_push, IsPulled, IsPushed, IsEnded, IsShut}
+use Rattle.ymx_engine.specs.Devices.{Seen, Marks, may_have_more, may_take_more, after_pull, after_push, IsPulled, IsPushed, IsEnded, IsShut, one_read}
 use Rattle.ymx_engine.specs.Events.{is_on, took_count, taken_at, taken, bytes_of, given_at, given, is_read_end, ends_at, has_end, finishes_at, has_finish, resets_at, has_reset, is_refusal, is_stop, stops_at, has_stop, is_memory_refusal, lacks_memory_at, lacks_memory}
 use Rattle.ymx_engine.specs.Lives.{all_of}
 use Rattle.ymx_engine.specs.Serves.{is_of_turn, is_emission, is_silent, is_stopped, Exchanges, GivesWhole, Turn, Part, Delivers, Sends, PutsDue}
@@ -637,18 +637,14 @@ pub record TellsStop (id : ℕ) (s t u : Session) (b : Seen) (x y z : Ways) : Ty
 part_status : {id : ℕ} {s t : Session} {out new : List ℕ} {a b : Seen} {w x : Ways} {m g : ℕ} → Part id s t out new a b w x m g → t.status ≡ s.status
 part_status {id} {s} {t} {out} {new} {a} {b} {w} {x} {m} {g} p = steady_all (is_of_turn id) (turn_steady id) p.moved.events s t p.moved.happen p.moved.own
 
--- the most that it may give, by another name
-pub turn_with : {id n most g : ℕ} {s t : Session} {out new : List ℕ} {a b : Seen} {w x : Ways} {more : Bool} → n ≡ most → Turn id n s t out new a b w x more g → Turn id most s t out new a b w x more g
-turn_with {id} {n} {most} {g} {s} {t} {out} {new} {a} {b} {w} {x} {more} same turn = subst (λ (k : ℕ). Turn id k s t out new a b w x more g) same turn
-
 -- Writes, then the question whether the stream takes bytes still, then a read. `more` is on where one of these says so, and where
 -- a session that is over was not told.
-pub turn_of : {id g most : ℕ} {r s t u : Session} {out new : List ℕ} {a b c d : Seen} {w x y z : Ways} → (pushes pulls more : Bool) → (p : Delivers id r s a b w x 8) → (q : Part id s t [] [] b c x y 1 0) → t ≡ s → (v : Part id t u out new c d y z 2 g) →
+pub turn_of : {id g most : ℕ} {r s t u : Session} {out new : List ℕ} {a b c d : Seen} {w x y z : Ways} → (pushes pulls more : Bool) → (p : Delivers id r s a b w x 8) → (q : Part id s t [] [] b c x y 1 0) → t ≡ s → (v : Part id t u out new c d y z 4 g) →
     (may_push x b.marks ≡ true → 0 < length (waiting id s) → pushes ≡ true) →
     (0 < most → may_pull y c.marks ≡ true → (0 < g) ⊎ ((may_pull z d.marks ≡ false) ⊎ (room_of id u ≡ 0))) →
     (0 < most → may_pull z d.marks ≡ true → 0 < room_of id u → pulls ≡ true) →
     (pushes ≡ true → may_push z d.marks ≡ true → more ≡ true) → (pulls ≡ true → more ≡ true) → (is_running u.status ≡ false → is_open z.to_peer ≡ true → more ≡ true) →
-    (g ≤ most) → (0 < most → GivesWhole g most (room_of id u) z d.marks) → TellsEnd id s t u b x z pushes → TellsStop id s t u b x y z →
+    (g ≤ most) → (0 < most → GivesWhole g (min most one_read) (room_of id u) z d.marks) → TellsEnd id s t u b x z pushes → TellsStop id s t u b x y z →
     (pushes ≡ true → (may_push w a.marks ≡ true) × (0 < length (waiting id r)) × (may_push x b.marks ≡ true)) →
     (more ≡ true → ((pushes ≡ true) × (may_push z d.marks ≡ true)) ⊎ (((may_pull z d.marks ≡ true) × (0 < g)) ⊎ ((is_running u.status ≡ false) × (is_open z.to_peer ≡ true)))) →
     Turn id most r u out new a d w z more g

@@ -2,7 +2,7 @@
 use Rattle.std.proofs.Common.{◌≡◌, ◌⊎◌, inl, inr, ℕ, zero, suc, ◌<◌, ◌≤◌, ◌==◌, ◌∷◌, [], List, if◌then◌else◌, length, Bool, true, false, ◌&&◌, not, refl, sym, subst, arith}
 use Rattle.std.specs.Prelude.{Contains}
 use Rattle.std.proofs.lemmas.Bool.Decides.{nat_tests}
-use Rattle.ymx_engine.specs.Devices.{one_frame, one_read}
+use Rattle.ymx_engine.specs.Devices.{one_frame, one_turn}
 use Rattle.ymx_engine.specs.Tunnels.{Tunnel}
 use Rattle.ymx_engine.specs.Turns.{Lines, IsFirst, takes_busy}
 use Rattle.ymx_engine.specs.Work.{ServesFirst, takes_more}
@@ -20,7 +20,7 @@ or_slow true true e = refl
 or_slow true false (inl e) = let no : true ≡ false = e in absurd cc
 or_slow true false (inr e) = let no : false ≡ true = e in absurd cc
 
-few_of : (takes none : Bool) (gave : ℕ) → gave ≤ (if takes then (if none then one_read else one_frame) else 0) → none ≡ false → gave ≤ one_frame
+few_of : (takes none : Bool) (gave : ℕ) → gave ≤ (if takes then (if none then one_turn else one_frame) else 0) → none ≡ false → gave ≤ one_frame
 few_of true true gave h e = let no : true ≡ false = e in absurd cc
 few_of true false gave h e = h
 few_of false none gave h e = omega (arith, h)

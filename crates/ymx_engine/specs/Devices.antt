@@ -77,9 +77,13 @@ after_push result offered m = record m { may_push = m.may_push && may_take_more 
 
 -- ---- calls
 
--- how many bytes there is room for in one call for bytes: 256 KiB
+-- how many bytes there is room for in one call for bytes: 128 KiB
 abbrev pub one_read : ℕ
-one_read = 262144
+one_read = 131072
+
+-- how many bytes a connection gives at most in one turn: two reads
+abbrev pub one_turn : ℕ
+one_turn = 262144
 
 -- how many bytes of a payload a frame carries at most
 abbrev pub one_frame : ℕ

@@ -1,5 +1,5 @@
 -- What a connection moves in one turn (this project's own).
-use Rattle.std.specs.Prelude.{ℕ, ◌≡◌, ◌⊎◌, ◌+◌, ◌<◌, ◌≤◌, ◌++◌, List, [], length, Bool, true, false}
+use Rattle.std.specs.Prelude.{ℕ, ◌≡◌, ◌⊎◌, ◌+◌, ◌<◌, ◌≤◌, ◌++◌, List, [], length, min, Bool, true, false}
 use Rattle.std.specs.List.{list_all}
 use Rattle.ymx_model.specs.session.Events.{Event}
 use Rattle.ymx_model.specs.declared.types.Event.TheVariants as event
@@ -11,7 +11,7 @@ use Rattle.ymx_model.specs.session.Calls.{read_from, write_to}
 use Rattle.ymx_law_session.specs.Limits.{IsWithin}
 use Rattle.ymx_session.specs.Streams.{waiting, room_of}
 use Rattle.ymx_engine.specs.declared.ways.Ways.{Ways}
-use Rattle.ymx_engine.specs.Devices.{Seen, Marks}
+use Rattle.ymx_engine.specs.Devices.{Seen, Marks, one_read}
 use Rattle.ymx_engine.specs.Events.{Happen, is_on, taken, given, has_end, has_finish, has_reset, is_stop, has_stop}
 use Rattle.ymx_engine.specs.Exchanges.{has_bytes}
 use Rattle.ymx_engine.specs.Lives.{Trades, all_of}
@@ -55,28 +55,28 @@ is_silent id s = tells_end (read_from id 1 s).reply
 abbrev pub is_stopped : ℕ → Session → Bool
 is_stopped id s = is_stop (write_to id [] s).reply
 
--- A device that may have more still, on whose stream there is room for more, gave as much as it might, unless its end is near.
-abbrev pub GivesWhole : (gave most room : ℕ) → Ways → Marks → Type 0
-GivesWhole gave most room now m = may_pull now m ≡ true → m.is_closing ≡ false → 0 < room → most ≤ gave
+-- A device that may have more still, on whose stream there is room for more, gave so much at least, unless its end is near.
+abbrev pub GivesWhole : (gave least room : ℕ) → Ways → Marks → Type 0
+GivesWhole gave least room now m = may_pull now m ≡ true → m.is_closing ≡ false → 0 < room → least ≤ gave
 
 -- One turn of a connection, in which it gives so many bytes at most, and isn't read where that is none. Nothing happened but what
--- `Exchanges` says, in at most eleven calls of the device, and its ways follow that. Where bytes waited that the device might
+-- `Exchanges` says, in at most thirteen calls of the device, and its ways follow that. Where bytes waited that the device might
 -- take, it took all, or may take none now. Where it might have bytes and was to be read, it gave some, or may have none now, or
--- the stream takes none; and where it may have more still, and the stream takes more, it gave as much as it might, unless its end
--- is near. No mark went on, unless the device was shut. It has more to do at least where bytes wait still that the device may
+-- the stream takes none; and where it may have more still, and the stream takes more, it gave as much as it might or a whole read,
+-- unless its end is near. No mark went on, unless the device was shut. It has more to do at least where bytes wait still that the device may
 -- take, or no more come; where it may have bytes that the stream takes, and was to be read; where the stream takes none any more,
 -- though it was not finished here, and where the session is over, while its way to the peer is open. It has more to do only where
 -- the device took bytes and may take more, gave bytes and may have more, or where the session is over and its way to the peer
 -- open: a turn in which no byte moved is the last in a session that runs.
 pub record Turn (id most : ℕ) (s t : Session) (out out_new : List ℕ) (before after : Seen) (was now : Ways) (more : Bool) (gave : ℕ) : Type 0 where
   pub moved : Exchanges id s t out out_new before after
-  pub few : after.calls ≤ before.calls + 11
+  pub few : after.calls ≤ before.calls + 13
   pub ways : now ≡ ways_after id moved.events was
   pub gives : gave ≡ length (all_of moved.trades.pieces)
   pub within : gave ≤ most
   pub delivers : may_push was before.marks ≡ true → (length (waiting id s) ≤ length (given id moved.events)) ⊎ (may_push now after.marks ≡ false)
   pub collects : 0 < most → may_pull was before.marks ≡ true → (0 < gave) ⊎ ((may_pull now after.marks ≡ false) ⊎ (room_of id t ≡ 0))
-  pub fills : 0 < most → GivesWhole gave most (room_of id t) now after.marks
+  pub fills : 0 < most → GivesWhole gave (min most one_read) (room_of id t) now after.marks
   pub pull_on : after.marks.may_pull ≡ true → (before.marks.may_pull ≡ true) ⊎ (has_stop id moved.events ≡ true)
   pub push_on : after.marks.may_push ≡ true → (before.marks.may_push ≡ true) ⊎ (has_stop id moved.events ≡ true)
   pub stays : IsWithin s → may_push now after.marks ≡ true → 0 < length (waiting id t) → more ≡ true

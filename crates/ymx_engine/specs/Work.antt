@@ -3,7 +3,7 @@ use Rattle.std.specs.Prelude.{ℕ, ◌≡◌, ◌⊎◌, ◌+◌, ◌≤◌, ◌
 use Rattle.std.specs.List.{list_all}
 use Rattle.ymx_model.specs.session.Sessions.{is_running}
 use Rattle.ymx_model.specs.session.Emissions.{is_ready}
-use Rattle.ymx_engine.specs.Devices.{one_frame, one_read}
+use Rattle.ymx_engine.specs.Devices.{one_frame, one_read, one_turn}
 use Rattle.ymx_engine.specs.Engines.{Engine}
 use Rattle.ymx_engine.specs.Exchanges.{has_bytes}
 use Rattle.ymx_engine.specs.Joins.{Leaves}
@@ -47,9 +47,9 @@ abbrev pub takes_more : Tunnel → Bool
 takes_more t = t.is_wire_over || (length t.engine.outgoing == 0) || t.wire.marks.may_push && nat_lt (length t.engine.outgoing) eight_frames
 
 -- How many bytes the connection that has its turn may give, while these wait: none where connections may not be read; one frame
--- where the wire is slow, or one waits that moves little; and else a whole read.
+-- where the wire is slow, or one waits that moves little; and else two whole reads.
 abbrev pub share : (waits : Lines) → Tunnel → ℕ
-share waits t = if takes_more t then (if length waits.fresh == 0 && not t.is_slow then one_read else one_frame) else 0
+share waits t = if takes_more t then (if length waits.fresh == 0 && not t.is_slow then one_turn else one_frame) else 0
 
 -- ---- one step
 

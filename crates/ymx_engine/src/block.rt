@@ -40,7 +40,7 @@ impl Model for Block {
 }
 
 impl Block {
-    /// So much memory, in bytes, of which none waits: from 262,144 to 1,000,000.
+    /// So much memory, in bytes, of which none waits: from 131,072 to 1,000,000.
     pub(crate) fn new(alloc: Global, size: usize) -> Result<Block, RefusedAllocation>
         requires some { one_read ≤ size }
         requires at_most { size ≤ most_zeros }
@@ -103,7 +103,7 @@ impl Block {
         }
     }
 
-    /// What a device gives waits. It is given room for 262,144 bytes at least.
+    /// What a device gives waits. It is given room for 131,072 bytes at least.
     pub(crate) fn pull_from<D: Device>(&mut self, device: &mut D) -> Pulled
         requires { self.old ≡ [] }
         ensures { (buffer : List ℕ) × (one_read ≤ length buffer) × IsPulled result buffer (D.seen device.old) (D.seen device.new) × (self.new ≡ take (pulled_count result) buffer) }

@@ -9,7 +9,10 @@ use ymx_memory::RefusedAllocation;
 use ymx_session::Touched;
 
 /// How many bytes are read from the peer, or from a device, at once.
-pub(crate) const BLOCK: usize = 262_144;
+pub(crate) const BLOCK: usize = 131_072;
+
+/// How many bytes a connection gives at most in one turn: two reads.
+pub(crate) const TURN: usize = 2 * BLOCK;
 
 /// How many bytes of a payload a frame carries at most.
 pub(crate) const FRAME: usize = 16_384;
@@ -17,7 +20,7 @@ pub(crate) const FRAME: usize = 16_384;
 /// Eight whole frames of 16,384 bytes. Once so many bytes wait for the peer, no connection is read.
 pub(crate) const FRAMES: usize = 131_168;
 
-/// How many bytes are written to the peer at once: as many as the sixteen frames that a read of a connection fills.
+/// How many bytes are written to the peer at once: as many as the sixteen frames that a turn of a connection fills.
 const OUTGOING: usize = 2 * FRAMES;
 
 /// The memory for bytes under way, and for the ids of streams that were touched.

@@ -1,6 +1,6 @@
 //! What moves between a stream and its device in one turn.
 
-ghost use Rattle.std.specs.Prelude.{◌≡◌, ◌⊎◌, ◌<◌, ◌≤◌, ◌++◌, ◌&&◌, not, [], length, true, false};
+ghost use Rattle.std.specs.Prelude.{◌≡◌, ◌⊎◌, ◌<◌, ◌≤◌, ◌++◌, ◌&&◌, not, [], length, min, true, false};
 ghost use Rattle.ymx_model.specs.declared.types.Event.TheVariants as event;
 ghost use Rattle.ymx_model.specs.session.Sessions.{is_running};
 ghost use Rattle.ymx_machine.specs.declared.types.Call.TheVariants as call;
@@ -14,7 +14,7 @@ ghost use Rattle.ymx_engine.specs.Serves.{Turn, Part, Delivers, GivesWhole, Hear
 ghost use Rattle.ymx_engine.specs.Ways.{is_open, may_push, may_pull, broken_off};
 
 use crate::block::Block;
-use crate::buffers::FRAME;
+use crate::buffers::{BLOCK, FRAME};
 use crate::calls::{Unreadable, ask, finish, is_stopped, reset, take_out};
 use crate::device::{Device, Pulled, Pushed};
 use crate::sending::{put_due, send};
@@ -45,8 +45,8 @@ impl TurnEnd {
     }
 }
 
-/// One turn of a connection: at most four writes to its device, and then one read from it, into this buffer, if that has room.
-/// What is due and what it gives waits behind what waits for the wire. It makes at most 11 calls of the device.
+/// One turn of a connection: at most four writes to its device, and then at most two reads from it, of `most` bytes together at
+/// most. What is due and what it gives waits behind what waits for the wire. It makes at most 13 calls of the device.
 pub(crate) fn serve<D: Device>(
     session: &mut Session,
     id: u32,
@@ -54,9 +54,10 @@ pub(crate) fn serve<D: Device>(
     device: &mut D,
     buffer: &mut [u8],
     outgoing: &mut Block,
+    most: usize,
 ) -> TurnEnd
-    requires room { length buffer.old ≤ one_read }
-    ensures turn { Turn id (length buffer.old) session.old session.new outgoing.old outgoing.new (D.seen device.old) (D.seen device.new) ways.old ways.new result.more result.gave }
+    requires room { one_read ≤ length buffer.old }
+    ensures turn { Turn id most session.old session.new outgoing.old outgoing.new (D.seen device.old) (D.seen device.new) ways.old ways.new result.more result.gave }
     // A device that may take bytes, of which none wait, hears where the stream has ended, or is no more.
     ensures hears_end { may_push ways.old (D.seen device.old).marks ≡ true → waiting id session.old ≡ [] → HearsEnd id session.old ways.new }
     // One that may take none, as where its connection is still being made, hears where the stream takes none any more.
@@ -64,7 +65,7 @@ pub(crate) fn serve<D: Device>(
 {
     let writes = deliver(session, id, ways, device);
     hear_stop(session, id, ways, device);
-    let read = collect(session, id, ways, device, buffer, outgoing);
+    let read = collect(session, id, ways, device, buffer, outgoing, most);
     TurnEnd {
         more: writes && ways.may_push(device) || read.more || is_untold(session, ways),
         gave: read.gave,
@@ -204,9 +205,48 @@ pub(crate) fn reset_and_shut<D: Device>(
     device.shut();
 }
 
-/// Reads from the device once, into this buffer, if that has room. What is due goes first, so that these bytes may go straight
-/// behind it. More may be read at once as long as none are lost.
+/// At most two reads from the device, of `most` bytes together at most.
 fn collect<D: Device>(
+    session: &mut Session,
+    id: u32,
+    ways: &mut Ways,
+    device: &mut D,
+    buffer: &mut [u8],
+    outgoing: &mut Block,
+    most: usize,
+) -> TurnEnd
+    requires room { one_read ≤ length buffer.old }
+    ensures part { Part id session.old session.new outgoing.old outgoing.new (D.seen device.old) (D.seen device.new) ways.old ways.new 4 result.gave }
+    ensures within { result.gave ≤ most }
+    ensures collects { 0 < most → may_pull ways.old (D.seen device.old).marks ≡ true → (0 < result.gave) ⊎ ((may_pull ways.new (D.seen device.new).marks ≡ false) ⊎ (room_of id session.new ≡ 0)) }
+    ensures fills { 0 < most → GivesWhole result.gave (min most one_read) (room_of id session.new) ways.new (D.seen device.new).marks }
+    ensures goes_on { result.more ≡ true → may_pull ways.new (D.seen device.new).marks ≡ true }
+    ensures gains { result.more ≡ true → 0 < result.gave }
+    ensures asks_on { 0 < most → may_pull ways.new (D.seen device.new).marks ≡ true → 0 < room_of id session.new → result.more ≡ true }
+    // The stream says no more of its end than it did, unless it was reset.
+    ensures ends { is_open ways.new.from_peer ≡ true → is_silent id session.new ≡ true → is_silent id session.old ≡ true }
+    ensures stops { is_open ways.new.to_peer ≡ true → is_stopped id session.new ≡ true → is_stopped id session.old ≡ true }
+{
+    if most == 0 || !ways.may_pull(device) {
+        return TurnEnd::NOTHING;
+    }
+    let room = &mut buffer[..most.min(BLOCK)];
+    let first = pull_once(session, id, ways, device, room, outgoing);
+    let left = most - first.gave;
+    if left == 0 || !first.more {
+        return first;
+    }
+    let room = &mut buffer[..left.min(BLOCK)];
+    let second = pull_once(session, id, ways, device, room, outgoing);
+    TurnEnd {
+        more: second.more,
+        gave: first.gave + second.gave,
+    }
+}
+
+/// Reads from the device once, into this buffer. What is due goes first, so that these bytes may go straight behind it. More may
+/// be read at once as long as none are lost.
+fn pull_once<D: Device>(
     session: &mut Session,
     id: u32,
     ways: &mut Ways,
@@ -215,20 +255,18 @@ fn collect<D: Device>(
     outgoing: &mut Block,
 ) -> TurnEnd
     requires room { length buffer.old ≤ one_read }
+    requires some { 0 < length buffer.old }
+    requires open { is_open ways.old.to_peer ≡ true }
     ensures part { Part id session.old session.new outgoing.old outgoing.new (D.seen device.old) (D.seen device.new) ways.old ways.new 2 result.gave }
+    ensures fills { GivesWhole result.gave (length buffer.old) (room_of id session.new) ways.new (D.seen device.new).marks }
     ensures within { result.gave ≤ length buffer.old }
-    ensures collects { 0 < length buffer.old → may_pull ways.old (D.seen device.old).marks ≡ true → (0 < result.gave) ⊎ ((may_pull ways.new (D.seen device.new).marks ≡ false) ⊎ (room_of id session.new ≡ 0)) }
-    ensures fills { 0 < length buffer.old → GivesWhole result.gave (length buffer.old) (room_of id session.new) ways.new (D.seen device.new).marks }
-    ensures goes_on { result.more ≡ true → may_pull ways.new (D.seen device.new).marks ≡ true }
-    ensures gains { result.more ≡ true → 0 < result.gave }
-    ensures asks_on { 0 < length buffer.old → may_pull ways.new (D.seen device.new).marks ≡ true → 0 < room_of id session.new → result.more ≡ true }
-    // The stream says no more of its end than it did, unless it was reset.
+    ensures collects { (0 < result.gave) ⊎ ((may_pull ways.new (D.seen device.new).marks ≡ false) ⊎ (room_of id session.new ≡ 0)) }
+    ensures goes_on { result.more ≡ true → 0 < result.gave }
+    ensures on { result.more ≡ true → may_pull ways.new (D.seen device.new).marks ≡ true }
+    ensures asks_on { may_pull ways.new (D.seen device.new).marks ≡ true → 0 < room_of id session.new → result.more ≡ true }
     ensures ends { is_open ways.new.from_peer ≡ true → is_silent id session.new ≡ true → is_silent id session.old ≡ true }
     ensures stops { is_open ways.new.to_peer ≡ true → is_stopped id session.new ≡ true → is_stopped id session.old ≡ true }
 {
-    if buffer.is_empty() || !ways.may_pull(device) {
-        return TurnEnd::NOTHING;
-    }
     put_due(session, outgoing);
     fill(session, id, ways, device, buffer, outgoing)
 }

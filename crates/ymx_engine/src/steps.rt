@@ -52,7 +52,6 @@ impl<D: Device + Drop> Lines<D> {
         most: usize,
     ) -> usize
         requires room { one_read ≤ length buffer.old }
-        requires bounded { most ≤ one_read }
         ensures served { (was : LineValue) → line_of id self.old ≡ Some was → TakesPart id most was session.old session.new outgoing.old outgoing.new self.old self.new result }
         ensures none { line_of id self.old ≡ None → (self.new ≡ self.old) × (session.new ≡ session.old) × (outgoing.new ≡ outgoing.old) × (result ≡ 0) }
     {
@@ -75,7 +74,6 @@ impl<D: Device + Drop> Lines<D> {
         most: usize,
     ) -> Option<Part>
         requires room { one_read ≤ length buffer.old }
-        requires bounded { most ≤ one_read }
         ensures some { IfSome result (λ part. (was : LineValue) × (line_of id self.old ≡ Some was) × (now : LineValue) × Puts id (Some now) self.old self.new × Turn id most session.old session.new outgoing.old outgoing.new was.seen now.seen was.ways now.ways part.more part.gave × (part.may_give ≡ may_pull now.ways now.seen.marks)) }
         ensures none { IfNone result (line_of id self.old ≡ None) }
         ensures same { IfNone result (self.new ≡ self.old) }
@@ -91,8 +89,9 @@ impl<D: Device + Drop> Lines<D> {
             id,
             &mut line.ways,
             &mut line.device,
-            &mut buffer[..most],
+            buffer,
             outgoing,
+            most,
         );
         let may_give = line.ways.may_pull(&line.device);
         found.is_busy = turn.moves_much(found.is_busy);

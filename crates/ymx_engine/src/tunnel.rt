@@ -9,7 +9,7 @@ ghost use Rattle.ymx_model.specs.session.Histories.{Gives};
 ghost use Rattle.ymx_model.specs.session.Sessions.{is_running};
 ghost use Rattle.ymx_law_session.specs.Limits.{IsWithin};
 ghost use Rattle.ymx_session.specs.Replies.{done_or, pinged_or, ponged_or};
-ghost use Rattle.ymx_engine.specs.Devices.{IsNoted, IsEnded, IsShut, one_frame, one_read};
+ghost use Rattle.ymx_engine.specs.Devices.{IsNoted, IsEnded, IsShut, one_frame};
 ghost use Rattle.ymx_engine.specs.Engines.{KeepsWire};
 ghost use Rattle.ymx_engine.specs.Runs.{Runs, Stays, Rests};
 ghost use Rattle.ymx_engine.specs.Served.{Serving, ServingBut};
@@ -17,7 +17,7 @@ ghost use Rattle.ymx_engine.specs.Turns.{Line as LineValue, line_of, IsIdle, Not
 ghost use Rattle.ymx_engine.specs.Work.{ServesFirst, HasItsTurn, share, takes_more};
 
 use crate::block::Block;
-use crate::buffers::{BLOCK, Buffers, FRAME, FRAMES};
+use crate::buffers::{Buffers, FRAME, FRAMES, TURN};
 use crate::device::{Device, Readiness};
 use crate::lines::Lines;
 use std::alloc::Global;
@@ -147,8 +147,9 @@ impl<D: Device + Drop, W: Device + Drop> Tunnel<D, W> {
 
     // ---- turns
 
-    /// Serves the connection whose turn it is, with its own device: at most four writes to it, and then one read from it: of a
-    /// frame while the wire is slow, or another waits that moves little, and else of 262,144 bytes. It isn't read while bytes wait that the wire doesn't take, or many wait. `None` where none waits for a turn.
+    /// Serves the connection whose turn it is, with its own device: at most four writes to it, and then reads from it: of one
+    /// frame while the wire is slow, or another waits that moves little, and else twice, of 131,072 bytes each. It isn't read while
+    /// bytes wait that the wire doesn't take, or many wait. `None` where none waits for a turn.
     pub fn serve_next(&mut self) -> Option<Served>
         ensures runs { Runs self.old self.new }
         ensures stays { Stays self.old self.new }
@@ -187,7 +188,6 @@ impl<D: Device + Drop, W: Device + Drop> Tunnel<D, W> {
     /// How many bytes the connection that has its turn may give.
     fn share(&self) -> usize
         ensures share { result ≡ share self.now.lines self.now }
-        ensures bounded { result ≤ one_read }
     {
         if !self.takes_more() {
             return 0;
@@ -195,7 +195,7 @@ impl<D: Device + Drop, W: Device + Drop> Tunnel<D, W> {
         if self.is_slow || self.lines.has_fresh() {
             return FRAME;
         }
-        BLOCK
+        TURN
     }
 
     /// Whether connections may be read: not while bytes wait that the wire doesn't take, nor while many wait.

@@ -7,9 +7,9 @@ use Rattle.ymx_engine.specs.Runs.{Runs}
 use Rattle.ymx_engine.specs.Tunnels.{Tunnel}
 use Rattle.ymx_engine.specs.Turns.{Line, Lines, line_of, is_over_at, IsIdle, IsBehind}
 use Rattle.ymx_engine.specs.Ways.{is_over}
-use Rattle.ymx_engine.specs.Work.{HasRead, Reads, ServesFirst, ServesOne, WorksOnce, Writes}
+use Rattle.ymx_engine.specs.Work.{HasRead, ServesFirst, ServesOne, WorksOnce, Writes}
 use Rattle.ymx_engine.proofs.Turning.{behind_few}
-use Rattle.ymx_engine.proofs.Attending.{has_read_then, has_written_then, one_then, read_once, runs_from, serves_first, serves_none, runs_same, then_has_read, then_has_written, then_one, runs_then, written_once}
+use Rattle.ymx_engine.proofs.Attending.{has_read_then, has_written_then, one_then, runs_from, serves_first, serves_none, runs_same, then_has_read, then_has_written, then_one, runs_then, written_once}
 
 -- nothing was done
 pub same : (a b : Tunnel) → b ≡ a → Runs a b
@@ -53,10 +53,6 @@ pub over_there : (id : ℕ) (t : Tunnel) → is_over_at id t.lines ≡ true → 
 over_there id t h l e = inl (over_way (line_of id t.lines) l e h)
 
 -- ---- rounds
-
--- the wire was read once more
-pub read_again : (a b c : Tunnel) → Runs a b → Reads b c → HasRead a c
-read_again a b c x reads = then_has_read a b c x.moves (read_once b c reads)
 
 -- one round: what comes before the wire is read, and behind it, until one has its turn and the wire is written to
 pub works_once : (a b c d e f g : Tunnel) → Runs a b → Runs b c → HasRead b c → Runs c d → Runs d e → ServesOne d e → Runs e f → Writes e f → Runs f g → WorksOnce a g

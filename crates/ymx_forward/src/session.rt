@@ -385,8 +385,6 @@ impl<R: Host, D: Outlet> SessionLoop<'_, '_, R, D> {
         self.note_pace();
         self.accept_users(poll);
         self.note_users();
-        // about as many bytes are read of the wire as are written to it, so that bytes wait at their own connections
-        self.tunnel.read_wire(LEAST_STRAIGHT);
         self.tunnel.read_wire(LEAST_STRAIGHT);
         self.tell_peer();
         self.abort_idle();

@@ -1,10 +1,8 @@
-use Rattle.std.proofs.Common.{Some, ap, ◌∙◌, refl, sym, arith}
-use Rattle.std.proofs.lemmas.List.{length-take-le}
+use Rattle.std.proofs.Common.{Some, ap, ◌∙◌, refl, sym}
 use Rattle.std.specs.Prelude.{nat_eq, cond}
 use Rattle.ymx_engine.specs.Turns.{Lines, line_of}
 use Rattle.ymx_engine.proofs.Entries.{is_some_at, line_none}
 use Rattle.ymx_engine.proofs.Marking.{in_place}
-use Rattle.ymx_engine.proofs.Parts.{turn_with}
 use Rattle.ymx_engine.proofs.lines.Lines.take_part.Goals as goal
 
 pub returns-in_default-clause-none : goal.returns-in_default-clause-none
@@ -20,6 +18,4 @@ pub returns-clause-some : goal.returns-clause-some
 returns-clause-some g c =
     let found = sym c.in-Some.ensures.value in
     let p = in_place g.D.Device.seen c.args.id c.in-Some.found.now (record c.in-Some.found.now { line = record { device = c.serve-turn.new.device; ways = c.serve-turn.new.ways }; is_busy = c.moves_much-found.result }) _ _ _ _ _ found (λ other. ((c.get_mut.follows.holds (record c.in-Some.found.now { line = record { device = c.serve-turn.new.device; ways = c.serve-turn.new.ways }; is_busy = c.moves_much-found.result })).3 (is_some_at found)).0 other) refl refl c.self.invariant in
-    let lent = length-take-le c.args.most c.args.buffer.now (omega (arith, c.requires.bounded, c.requires.room)) in
-    let turn = turn_with lent c.serve-turn.ensures.turn in
-    (_, ap (line_of c.args.id) (sym c.self.view_is) ∙ p.there, _, λ other. p.puts other ∙ ap (λ (t : Lines). cond (nat_eq c.args.id other) (Some (record { seen = g.D.Device.seen c.serve-turn.new.device; ways = c.serve-turn.new.ways })) (line_of other t)) c.self.view_is, turn, c.may_pull-may_give.ensures)
+    (_, ap (line_of c.args.id) (sym c.self.view_is) ∙ p.there, _, λ other. p.puts other ∙ ap (λ (t : Lines). cond (nat_eq c.args.id other) (Some (record { seen = g.D.Device.seen c.serve-turn.new.device; ways = c.serve-turn.new.ways })) (line_of other t)) c.self.view_is, c.serve-turn.ensures.turn, c.may_pull-may_give.ensures)
