@@ -108,7 +108,7 @@ impl Silence {
 }
 
 /// For how many milliseconds a slow line takes no bytes at once.
-const SLOW: u64 = 10;
+const SLOW: u64 = 4;
 
 /// How many bytes a line counts as slow for, once it was.
 const SLOW_BYTES: u64 = 1 << 18;
