@@ -70,6 +70,14 @@ def free_address():
         return f"127.0.0.1:{one.getsockname()[1]}"
 
 
+def fresh(program):
+    """A new copy of the program. In which pages of memory its file lies can change its speed by a tenth."""
+    copy = os.path.join(folder, f"copy of {os.path.basename(program)}")
+    with contextlib.suppress(FileNotFoundError):
+        os.remove(copy)
+    return shutil.copy(program, copy)
+
+
 def listens(address):
     """Whether somebody listens there; to call would be the one connection of `ymx remote`."""
     return f" {address} " in subprocess.run(["ss", "-ltn"], capture_output=True, text=True, check=True).stdout
@@ -137,11 +145,12 @@ def tunnel(kind, echo):
         far = Process([peer, "forward", "-at", ANY, "-to", echo.address])
         return Process([peer, "forward", "-at", ANY, "-to", far.address]), far
     if kind == "Go's yamux":
-        far = Process([peer, "remote", "-at", ANY, "-to", echo.address])
-        return Process([peer, "local", "-at", ANY, "-to", far.address]), far
+        program = fresh(peer)
+        far = Process([program, "remote", "-at", ANY, "-to", echo.address])
+        return Process([program, "local", "-at", ANY, "-to", far.address]), far
     options = ["--window", "1048576"] if kind == WIDE else []
     links, peers = (["--links", "4"], ["--peers", "4"]) if kind == LINKS else ([], [])
-    program = BEFORE if kind == "ymx before" else ymx
+    program = fresh(BEFORE if kind == "ymx before" else ymx)
     far = Process([program, "remote", "--bind", at, "--target", echo.address, *options, *peers], at)
     return Process([program, "local", "--listen", near, "--peer", far.address, *options, *links], near), far
 
