@@ -71,7 +71,7 @@ def free_address():
 
 
 def fresh(program):
-    """A new copy of the program. In which pages of memory its file lies can change its speed by a tenth."""
+    """A new copy of the program: one can be a tenth faster than another, probably by the pages of memory in which its file lies."""
     copy = os.path.join(folder, f"copy of {os.path.basename(program)}")
     with contextlib.suppress(FileNotFoundError):
         os.remove(copy)
