@@ -29,6 +29,15 @@ open_credit (Some e) = if e.writer.finished then 0 else e.writer.credit
 abbrev pub room_of : ℕ → Session → ℕ
 room_of id s = if is_some (stream_fault id s) || is_lost s.status then 0 else open_credit (look id s.table.entries)
 
+-- how many bytes the peer may still send
+abbrev pub granted_to : Option End → ℕ
+granted_to None = 0
+granted_to (Some e) = e.reader.granted
+
+-- how many bytes the peer may still send on the stream that the caller has under this id; 0, if there is no such stream
+abbrev pub granted_of : ℕ → Session → ℕ
+granted_of id s = if is_some (stream_fault id s) then 0 else granted_to (look id s.table.entries)
+
 -- the peer's end of a stream has arrived
 abbrev pub ended_of : Option End → Bool
 ended_of None = false

@@ -17,7 +17,7 @@ ghost use Rattle.ymx_model.specs.session.Histories.{Gives};
 ghost use Rattle.ymx_table.specs.Listing.{held_ids};
 ghost use Rattle.ymx_session.specs.NewSessions.{first_id, new_fault, IsNewFault};
 ghost use Rattle.ymx_machine.specs.shared.Replies.{bytes_moved};
-ghost use Rattle.ymx_session.specs.Streams.{waiting, room_of, has_ended, unsent_of, unsent_total, next_of, is_acknowledged, stream_ids, header_begun, payload_left};
+ghost use Rattle.ymx_session.specs.Streams.{waiting, room_of, granted_of, has_ended, unsent_of, unsent_total, next_of, is_acknowledged, stream_ids, header_begun, payload_left};
 ghost use Rattle.ymx_session.specs.Opens.{opens_left, records_left};
 ghost use Rattle.ymx_session.specs.Releases.{has_stream, goes_on, tended};
 ghost use Rattle.ymx_session.specs.Passing.{passing, passing_behind, IsPlainHeader, PassesBehind, Passes, TakesUnpassed, FeedsSome};
@@ -75,6 +75,18 @@ impl Session {
         ensures takes { (bytes : List ℕ) → bytes_moved (write_to id bytes self.now).reply ≡ min (length bytes) result }
     {
         self.state.room(id)
+    }
+
+    /// How many bytes the peer may still send on a stream, by the credit that was announced to it (flow control). With those
+    /// that wait to be read, and those that were read and not announced yet, they make up the window, until its end has come.
+    /// 0 where `read` would be refused with `Closed`, `NoStream` or `Reset`. One look-up.
+    pub fn granted(&self, id: u32) -> u32
+        ensures { result ≡ granted_of id self.now }
+    {
+        match self.state.stream(id) {
+            Ok(stream) => stream.granted(),
+            Err(_) => 0,
+        }
     }
 
     /// Whether the peer has finished a stream and all was read: a `read` would answer `End` (half-close). False where
