@@ -1,19 +1,19 @@
 -- Parts of a turn: how they go on, and what one call is.
-use Rattle.std.proofs.Common.{◌≡◌, ◌⊎◌, inl, inr, ℕ, zero, suc, ◌+◌, ◌*◌, ◌≤◌, ◌<◌, ◌==◌, List, [], ◌∷◌, ◌++◌, length, take, drop, Bool, true, false, ◌||◌, ◌&&◌, nat_le, Option, refl, sym, ap, ◌∙◌, subst, arith, append-nil, take-append-drop, length-append}
+use Rattle.std.proofs.Common.{◌≡◌, ◌⊎◌, inl, inr, ℕ, ◌+◌, ◌-◌, ◌≤◌, ◌<◌, List, [], ◌∷◌, ◌++◌, length, take, drop, Bool, true, false, ◌||◌, ◌&&◌, nat_le, Option, refl, sym, ap, ◌∙◌, subst, arith, append-nil, take-append-drop, take_all, length-append}
 use Rattle.std.specs.Prelude.{option_map, IfSome, min}
 use Rattle.std.specs.List.{list_all}
 use Rattle.std.specs.Io.KnownBytes.{Appends, Consumes}
 use Rattle.std.proofs.lemmas.Grind.{common_steps}
 use Rattle.std.proofs.lemmas.Bool.Decides.{nat_tests}
-use Rattle.std.proofs.lemmas.List.{length-take-le}
+use Rattle.std.proofs.Math.Seq.{take-append-add}
+use Rattle.std.proofs.lemmas.List.{length-take-le, take-append-le}
 use Rattle.std.proofs.lemmas.List.Folds.{list_all-append}
 use Rattle.ymx_model.specs.session.Events.{Event}
 use Rattle.ymx_model.specs.declared.types.Event.TheVariants as event
 use Rattle.ymx_machine.specs.declared.types.Call.TheVariants as call
 use Rattle.ymx_machine.specs.shared.Events.{Reply, Call}
-use Rattle.ymx_machine.specs.declared.types.Reply.TheVariants as reply
 use Rattle.ymx_model.specs.session.Sessions.{Session, is_running}
-use Rattle.ymx_model.specs.session.Calls.{read_from, write_to}
+use Rattle.ymx_model.specs.session.Calls.{write_to}
 use Rattle.ymx_model.specs.session.Emissions.{in_turn}
 use Rattle.ymx_model.specs.session.Histories.{Gives}
 use Rattle.ymx_law_session.specs.Limits.{IsWithin}
@@ -28,7 +28,7 @@ use Rattle.ymx_engine.specs.declared.ways.Flow.TheVariants as flow
 use Rattle.ymx_engine.specs.Devices.{Seen, Marks, may_have_more, may_take_more, after_pull, after_push, IsPulled, IsPushed, IsEnded, IsShut, one_read}
 use Rattle.ymx_engine.specs.Events.{is_on, took_count, taken_at, taken, bytes_of, given_at, given, is_read_end, ends_at, has_end, finishes_at, has_finish, resets_at, has_reset, is_refusal, is_stop, stops_at, has_stop, is_memory_refusal, lacks_memory_at, lacks_memory}
 use Rattle.ymx_engine.specs.Lives.{all_of}
-use Rattle.ymx_engine.specs.Serves.{is_of_turn, is_emission, is_silent, is_stopped, Exchanges, GivesWhole, Turn, Part, Delivers, Sends, PutsDue}
+use Rattle.ymx_engine.specs.Serves.{is_of_turn, is_emission, is_silent, is_stopped, Exchanges, IsEnough, GivesWhole, Turn, Part, Delivers, Sends, PutsDue}
 use Rattle.ymx_engine.specs.Ways.{is_open, break_if, broken_off, ways_at, ways_after, may_push, may_pull}
 use Rattle.ymx_engine.specs.Wires.{emitted}
 use Rattle.ymx_engine.proofs.Quiet.{both, quiet}
@@ -261,17 +261,12 @@ part_calm {id} {s} {t} {out} {new} {a} {b} {w} {x} {m} {g} p within = turn_is_ca
 
 -- bytes that went to the device
 
-long_append : (n : ℕ) (xs ys all : List ℕ) → all ≡ xs ++ ys → (n ≤ length xs) ⊎ (n ≤ length ys) → n ≤ length all
-long_append n xs ys all e (inl h) = omega (arith, ap length e, length-append xs ys, h)
-long_append n xs ys all e (inr h) = omega (arith, ap length e, length-append xs ys, h)
+long_append : (n : ℕ) (xs ys all : List ℕ) → all ≡ xs ++ ys → n ≤ length xs → n ≤ length all
+long_append n xs ys all e h = omega (arith, ap length e, length-append xs ys, h)
 
 pub went_first : {id : ℕ} {s t u : Session} {out mid new : List ℕ} {a b c : Seen} {w x y : Ways} {m n g h : ℕ} → (k : ℕ) → (p : Part id s t out mid a b w x m g) → (q : Part id t u mid new b c x y n h) → k ≤ length (given id p.moved.events) → k ≤ length (given id (part_then p q).moved.events)
 unfolding part_then exchanges_then
-went_first {id} k p q some = long_append k (given id p.moved.events) (given id q.moved.events) _ (given_then id p.moved.events q.moved.events) (inl some)
-
-pub went_second : {id : ℕ} {s t u : Session} {out mid new : List ℕ} {a b c : Seen} {w x y : Ways} {m n g h : ℕ} → (k : ℕ) → (p : Part id s t out mid a b w x m g) → (q : Part id t u mid new b c x y n h) → k ≤ length (given id q.moved.events) → k ≤ length (given id (part_then p q).moved.events)
-unfolding part_then exchanges_then
-went_second {id} k p q some = long_append k (given id p.moved.events) (given id q.moved.events) _ (given_then id p.moved.events q.moved.events) (inr some)
+went_first {id} k p q some = long_append k (given id p.moved.events) (given id q.moved.events) _ (given_then id p.moved.events q.moved.events) some
 
 -- ---- one call
 
@@ -357,21 +352,42 @@ and_none : (b : Bool) → (b && false) ≡ false
 and_none true = refl
 and_none false = refl
 
--- a device that was offered all that waits took all, or may take none now
-took_all : (w : Ways) (n offered waits went : ℕ) (a b : Marks) → b.may_push ≡ (a.may_push && nat_le offered n) → waits ≤ offered → n ≡ went → (waits ≤ went) ⊎ (may_push w b ≡ false)
-took_all w n offered waits went a b e fits same = by (nat_le offered n) refl
+-- more bytes are enough too
+pub more_enough : (id m n : ℕ) (s : Session) → m ≤ n → IsEnough m id s → IsEnough n id s
+more_enough id m n s le (inl all) = inl (omega (arith, all, le))
+more_enough id m n s le (inr (some, half)) = inr (omega (arith, some, le), omega (arith, half, le))
+
+-- where some wait none are not enough
+pub some_enough : (id n : ℕ) (s : Session) → 0 < length (waiting id s) → IsEnough n id s → 0 < n
+some_enough id n s some (inl all) = omega (arith, all, some)
+some_enough id n s some (inr half) = half.0
+
+-- as many as wait of so many are enough
+all_enough : (id most : ℕ) (s : Session) → IsEnough most id s → IsEnough (length (take most (waiting id s))) id s
+all_enough id most s enough = by (nat_le (length (waiting id s)) most) refl
   where
-    by : (all : Bool) → nat_le offered n ≡ all → (waits ≤ went) ⊎ (may_push w b ≡ false)
-    by true all = let le : offered ≤ n = grind (arith, nat_tests) in inl (omega (arith, le, fits, same))
+    by : (all : Bool) → nat_le (length (waiting id s)) most ≡ all → IsEnough (length (take most (waiting id s))) id s
+    by true all = inl (grind (arith, nat_tests, common_steps))
+    by false few =
+        let l : length (take most (waiting id s)) ≡ most = length-take-le most (waiting id s) (grind (arith, nat_tests)) in
+        subst (λ (n : ℕ). IsEnough n id s) (sym l) enough
+
+-- a device that was offered enough took it, or may take none now
+took_enough : (id : ℕ) (w : Ways) (n offered went : ℕ) (s : Session) (a b : Marks) → b.may_push ≡ (a.may_push && nat_le offered n) → IsEnough offered id s → n ≡ went → IsEnough went id s ⊎ (may_push w b ≡ false)
+took_enough id w n offered went s a b e enough same = by (nat_le offered n) refl
+  where
+    by : (all : Bool) → nat_le offered n ≡ all → IsEnough went id s ⊎ (may_push w b ≡ false)
+    by true all = let le : offered ≤ n = grind (arith, nat_tests) in inl (more_enough id offered went s (omega (arith, le, same)) enough)
     by false few = inr (rw (e, few, and_none a.may_push) refl)
 
 -- bytes that waited were pushed, and are taken out
-pub pushed_some : {id : ℕ} {s t : Session} {a b : Seen} {w : Ways} {bytes : List ℕ} → (n : ℕ) (told : Reply) → IsPushed (pushed.Took n) bytes a b → bytes ≡ waiting id s →
+pub pushed_some : {id : ℕ} {s t : Session} {a b : Seen} {w : Ways} {bytes : List ℕ} → (n most : ℕ) (told : Reply) → IsPushed (pushed.Took n) bytes a b → bytes ≡ take most (waiting id s) → IsEnough most id s →
     Gives in_turn s (event.Call (call.Read id n)) told t → bytes_of told ≡ take n (waiting id s) → is_read_end told ≡ false → is_refusal told ≡ false → Delivers id s t a b w w 2
 unfolding part_one
-pushed_some {id} {s} {t} {a} {b} {w} {bytes} n told p all g gave going granted =
+pushed_some {id} {s} {t} {a} {b} {w} {bytes} n most told p all enough g gave going granted =
     let i = same_id id in
-    let same : take n bytes ≡ bytes_of told = ap (take n) all ∙ sym gave in
+    let few : n ≤ length (take most (waiting id s)) = let within = p.within in omega (arith, within, ap length all) in
+    let same : take n bytes ≡ bytes_of told = ap (take n) all ∙ first_of n most (waiting id s) few ∙ sym gave in
     let ends : ends_at id (event.Call (call.Read id n)) told ≡ false = rw (i, going) refl in
     let stops : stops_at id (event.Call (call.Read id n)) told ≡ false = rw (i, granted) refl in
     let marks = push_after a.marks b.marks (pushed.Took n) (length bytes) p.marks in
@@ -382,8 +398,11 @@ pushed_some {id} {s} {t} {a} {b} {w} {bytes} n told p all g gave going granted =
           (p.over ∙ or_same a.over) (p.ended ∙ or_off _ a.ended ends) p.failed refl (p.shut ∙ or_off _ a.shut stops)
           (sym (ways_same id (event.Call (call.Read id n)) told w refl ends stops)) (let f = p.counted in omega arith)
           (only_same a.marks.may_pull b.marks.may_pull _ marks.0) (only_and a.marks.may_push _ b.marks.may_push _ marks.1);
-      delivers = λ may. took_all w n (length bytes) (length (waiting id s)) _ a.marks b.marks marks.1 (omega (arith, ap length all)) (sym (length-take-le n bytes p.within) ∙ sym (ap length (append-nil (given_at id (event.Call (call.Read id n)) told) ∙ given_is)));
+      delivers = λ may. took_enough id w n (length bytes) _ s a.marks b.marks marks.1 (subst (λ (v : List ℕ). IsEnough (length v) id s) (sym all) (all_enough id most s enough)) (sym (length-take-le n bytes p.within) ∙ sym (ap length (append-nil (given_at id (event.Call (call.Read id n)) told) ∙ given_is)));
     }
+  where
+    first_of : (n most : ℕ) (xs : List ℕ) → n ≤ length (take most xs) → take n (take most xs) ≡ take n xs
+    first_of n most xs few = grind (arith, common_steps)
 
 -- none were taken, and it may take none now
 pub pushed_none : {id : ℕ} {s : Session} {a b : Seen} {w : Ways} {bytes : List ℕ} → IsPushed pushed.NotNow bytes a b → Delivers id s s a b w w 2
@@ -394,6 +413,11 @@ pushed_none {id} {s} {a} {b} {w} {bytes} p =
           (only_same a.marks.may_pull b.marks.may_pull false marks.0) (only_and a.marks.may_push false b.marks.may_push false marks.1);
       delivers = λ may. inr (rw (marks.1 ∙ and_none a.marks.may_push) refl);
     }
+
+-- the calls may be more
+pub pushed_within : {id : ℕ} {s t : Session} {a b : Seen} {w x : Ways} → Delivers id s t a b w x 2 → Delivers id s t a b w x 3
+unfolding part_within
+pushed_within {id} {s} {t} {a} {b} {w} {x} d = record { part = part_within (omega arith) d.part; delivers = d.delivers }
 
 -- one that was shut takes none
 broken_push : (w x : Ways) (m : Marks) → x ≡ broken_off w → may_push x m ≡ false
@@ -512,53 +536,6 @@ due_then {id} {s} {t} {u} {out} {mid} {new} {a} {b} {w} {x} {m} {g} due p =
     let q = part_then (part_due due) p in
     record { moved = q.moved; few = let f = q.few in omega arith; ways = q.ways; gives = let f = q.gives in omega arith; pull_on = q.pull_on; push_on = q.push_on }
 
--- ---- one write after the other
-
--- the first one, or a further one
-pub first_or_more : {A : Type 0} → (k : ℕ) → (k ≡ 0 → A) → (0 < k → A) → A
-first_or_more zero f g = f refl
-first_or_more (suc k) f g = g (omega arith)
-
--- a further one was made, and may be again
-pub delivers_more : {id : ℕ} {r s t : Session} {a b c : Seen} {w x y : Ways} → (k : ℕ) → (p : Part id r s [] [] a b w x (2 * k) 0) → (0 < k → length (waiting id r) ≤ length (given id p.moved.events)) → (k ≡ 0 → s ≡ r) → (d : Delivers id s t b c x y 2) → may_push x b.marks ≡ true → may_push y c.marks ≡ true →
-    (q : Part id r t [] [] a c w y (2 * (k + 1)) 0) × (0 < k + 1 → length (waiting id r) ≤ length (given id q.moved.events)) × (k + 1 ≡ 0 → t ≡ r)
-unfolding part_within
-delivers_more {id} {r} {s} {t} {a} {b} {c} {w} {x} {y} k p went same d may on =
-    let le : 2 * k + 2 ≤ 2 * (k + 1) = omega arith in
-    (part_within le (part_then p d.part), λ h. first_or_more k (λ z. went_second (length (waiting id r)) p d.part (by (same z) (d.delivers may))) (λ z. went_first (length (waiting id r)) p d.part (went z)), λ h. absurd (omega (arith, h)))
-  where
-    by : s ≡ r → (length (waiting id s) ≤ length (given id d.part.moved.events)) ⊎ (may_push y c.marks ≡ false) → length (waiting id r) ≤ length (given id d.part.moved.events)
-    by e (inl all) = let l = ap (λ (v : Session). length (waiting id v)) e in omega (arith, l, all)
-    by e (inr off) = let no : true ≡ false = sym on ∙ off in cc
-
--- none more can be made
-pub delivers_off : {id k : ℕ} {r s : Session} {a b : Seen} {w x : Ways} → k ≤ 8 → Part id r s [] [] a b w x k 0 → may_push x b.marks ≡ false → Delivers id r s a b w x 8
-delivers_off {id} {k} {r} {s} {a} {b} {w} {x} le p off = record { part = part_within le p; delivers = λ may. inr off }
-
--- as many were made as may be
-pub delivers_all : {id k : ℕ} {r s : Session} {a b : Seen} {w x : Ways} → k ≤ 8 → (p : Part id r s [] [] a b w x k 0) → length (waiting id r) ≤ length (given id p.moved.events) → Delivers id r s a b w x 8
-unfolding part_within
-delivers_all {id} {k} {r} {s} {a} {b} {w} {x} le p went = record { part = part_within le p; delivers = λ may. inl went }
-
--- one more was made, and none may be behind it
-pub delivers_last : {id : ℕ} {r s t : Session} {a b c : Seen} {w x y : Ways} → (k : ℕ) → 2 * k + 2 ≤ 8 → (p : Part id r s [] [] a b w x (2 * k) 0) → (0 < k → length (waiting id r) ≤ length (given id p.moved.events)) → (k ≡ 0 → s ≡ r) →
-    Delivers id s t b c x y 2 → may_push x b.marks ≡ true → Delivers id r t a c w y 8
-unfolding part_within
-delivers_last {id} {r} {s} {t} {a} {b} {c} {w} {x} {y} k le p went same d may = record {
-  part = part_within le (part_then p d.part);
-  delivers = λ was. first_or_more k (λ z. by (same z) (d.delivers may)) (λ z. inl (went_first (length (waiting id r)) p d.part (went z)));
-}
-  where
-    by : s ≡ r → (length (waiting id s) ≤ length (given id d.part.moved.events)) ⊎ (may_push y c.marks ≡ false) → (length (waiting id r) ≤ length (given id (part_then p d.part).moved.events)) ⊎ (may_push y c.marks ≡ false)
-    by e (inl all) = let l = ap (λ (v : Session). length (waiting id v)) e in inl (went_second (length (waiting id r)) p d.part (omega (arith, l, all)))
-    by e (inr off) = inr off
-
-pub may_before : {a b : Seen} {w x : Ways} → x ≡ w → b ≡ a → may_push x b.marks ≡ true → may_push w a.marks ≡ true
-may_before {a} {b} {w} {x} e f on = ap (λ (v : Ways). may_push v a.marks) (sym e) ∙ ap (λ (v : Seen). may_push x v.marks) (sym f) ∙ on
-
-pub may_after : {a b : Seen} {w x : Ways} → x ≡ w → b ≡ a → may_push w a.marks ≡ true → may_push x b.marks ≡ true
-may_after {a} {b} {w} {x} e f on = ap (λ (v : Ways). may_push v b.marks) e ∙ ap (λ (v : Seen). may_push w v.marks) f ∙ on
-
 -- ---- what a device hears
 
 -- one that was shut
@@ -578,29 +555,21 @@ broken_to w x e = ap (λ (v : Ways). is_open v.to_peer) e ∙ by w.to_peer
     by flow.Ended = refl
     by flow.Broken = refl
 
-no_byte : (xs : List ℕ) → (length xs == 0) ≡ true → length xs ≡ 0
-no_byte xs h = grind (arith, nat_tests)
-
-a_byte : (xs : List ℕ) → (length xs == 0) ≡ false → 0 < length xs
-a_byte xs h = grind (arith, nat_tests)
-
--- two pieces of which neither has a byte
-pub none_of_two : (xs ys all : List ℕ) → xs ++ ys ≡ all → (length xs == 0) ≡ true → (length ys == 0) ≡ true → all ≡ []
-none_of_two [] [] all e h k = sym e
-none_of_two [] (y ∷ ys) all e h k = let n = no_byte (y ∷ ys) k in absurd (omega (arith, n))
-none_of_two (x ∷ xs) ys all e h k = let n = no_byte (x ∷ xs) h in absurd (omega (arith, n))
-
--- two pieces of which one has
-pub some_of_two : (xs ys all : List ℕ) → xs ++ ys ≡ all → ((length xs == 0) ≡ false) ⊎ ((length ys == 0) ≡ false) → 0 < length all
-some_of_two xs ys all e (inl h) = let n = a_byte xs h in omega (arith, n, ap length e, length-append xs ys)
-some_of_two xs ys all e (inr h) = let n = a_byte ys h in omega (arith, n, ap length e, length-append xs ys)
-
-pub waits_not : {A : Type 0} (ring : List ℕ) → ring ≡ [] → 0 < length ring → A
-waits_not ring none some = absurd (omega (arith, ap length none))
-
--- what was heard in a session that is the same
-pub hears_from : {A : Type 0} {s t : Session} (id : ℕ) → s ≡ t → waiting id t ≡ [] → (waiting id s ≡ [] → A ⊎ ((read_from id 1 s).reply ≡ reply.ReadWait)) → A ⊎ ((read_from id 1 t).reply ≡ reply.ReadWait)
-hears_from {A} {s} {t} id same none h = subst (λ (v : Session). A ⊎ ((read_from id 1 v).reply ≡ reply.ReadWait)) same (h (ap (waiting id) same ∙ none))
+-- so many bytes of two pieces
+pub first_of_two : (most : ℕ) (xs ys all first wrapped : List ℕ) → xs ++ ys ≡ all → first ≡ take most xs → wrapped ≡ take (most - length first) ys → first ++ wrapped ≡ take most all
+first_of_two most xs ys all first wrapped e f w =
+    rw (f, w, f) (by (nat_le most (length xs)) refl ∙ ap (take most) e)
+  where
+    by : (few : Bool) → nat_le most (length xs) ≡ few → take most xs ++ take (most - length (take most xs)) ys ≡ take most (xs ++ ys)
+    by true few =
+        let le : most ≤ length xs = grind (arith, nat_tests) in
+        let none : most - length (take most xs) ≡ 0 = omega (arith, length-take-le most xs le) in
+        ap (λ (n : ℕ). take most xs ++ take n ys) none ∙ append-nil (take most xs) ∙ sym (take-append-le most xs ys le)
+    by false many =
+        let le : length xs ≤ most = grind (arith, nat_tests) in
+        let whole : take most xs ≡ xs = take_all most xs le in
+        let sum : length xs + (most - length xs) ≡ most = omega (arith, le) in
+        ap (λ (v : List ℕ). v ++ take (most - length v) ys) whole ∙ sym (take-append-add xs ys (most - length xs)) ∙ ap (λ (n : ℕ). take n (xs ++ ys)) sum
 
 -- the way to it stays shut
 pub stays_shut : {id : ℕ} {s t : Session} {out new : List ℕ} {a b : Seen} {w x : Ways} {m g : ℕ} → Part id s t out new a b w x m g → is_open w.from_peer ≡ false → is_open x.from_peer ≡ false
@@ -637,9 +606,9 @@ pub record TellsStop (id : ℕ) (s t u : Session) (b : Seen) (x y z : Ways) : Ty
 part_status : {id : ℕ} {s t : Session} {out new : List ℕ} {a b : Seen} {w x : Ways} {m g : ℕ} → Part id s t out new a b w x m g → t.status ≡ s.status
 part_status {id} {s} {t} {out} {new} {a} {b} {w} {x} {m} {g} p = steady_all (is_of_turn id) (turn_steady id) p.moved.events s t p.moved.happen p.moved.own
 
--- Writes, then the question whether the stream takes bytes still, then a read. `more` is on where one of these says so, and where
+-- Writes, then the question whether the stream takes bytes still, then reads. `more` is on where one of these says so, and where
 -- a session that is over was not told.
-pub turn_of : {id g most : ℕ} {r s t u : Session} {out new : List ℕ} {a b c d : Seen} {w x y z : Ways} → (pushes pulls more : Bool) → (p : Delivers id r s a b w x 8) → (q : Part id s t [] [] b c x y 1 0) → t ≡ s → (v : Part id t u out new c d y z 4 g) →
+pub turn_of : {id g most : ℕ} {r s t u : Session} {out new : List ℕ} {a b c d : Seen} {w x y z : Ways} → (pushes pulls more : Bool) → (p : Delivers id r s a b w x 3) → (q : Part id s t [] [] b c x y 1 0) → t ≡ s → (v : Part id t u out new c d y z 4 g) →
     (may_push x b.marks ≡ true → 0 < length (waiting id s) → pushes ≡ true) →
     (0 < most → may_pull y c.marks ≡ true → (0 < g) ⊎ ((may_pull z d.marks ≡ false) ⊎ (room_of id u ≡ 0))) →
     (0 < most → may_pull z d.marks ≡ true → 0 < room_of id u → pulls ≡ true) →
@@ -662,7 +631,7 @@ turn_of {id} {g} {most} {r} {s} {t} {u} {out} {new} {a} {b} {c} {d} {w} {x} {y} 
       gives = let e = all.gives in omega arith;
       within = shared;
       delivers = λ may. elim (p.delivers may) [
-        | inl all ↦ inl (went_first (length (waiting id r)) first v (went_first (length (waiting id r)) p.part q all))
+        | inl enough ↦ inl (more_enough id (length (given id p.part.moved.events)) _ r (went_first _ first v (went_first _ p.part q (omega arith))) enough)
         | inr off ↦ inr (push_off v (push_off q off))
       ];
       fills = fills;
@@ -682,7 +651,7 @@ turn_of {id} {g} {most} {r} {s} {t} {u} {out} {new} {a} {b} {c} {d} {w} {x} {y} 
         | inl x ↦ let k = went x.0 in inl (
           x.1,
           elim (p.delivers k.0) [
-            | inl all ↦ some_bytes (given id (part_then first v).moved.events) (let long = went_first (length (waiting id r)) first v (went_first (length (waiting id r)) p.part q all) in omega (arith, long, k.1))
+            | inl enough ↦ some_bytes (given id (part_then first v).moved.events) (let some = some_enough id _ r k.1 enough in let long = went_first (length (given id p.part.moved.events)) first v (went_first _ p.part q (omega arith)) in omega (arith, long, some))
             | inr off ↦ absurd (let may = k.2 in cc)
           ],
         )

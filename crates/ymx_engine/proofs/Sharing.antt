@@ -1,5 +1,5 @@
 -- While another connection waits that moves little, the one that has its turn gives one frame at most.
-use Rattle.std.proofs.Common.{◌≡◌, ◌⊎◌, inl, inr, ℕ, zero, suc, ◌<◌, ◌≤◌, ◌==◌, ◌∷◌, [], List, if◌then◌else◌, length, Bool, true, false, ◌&&◌, not, refl, sym, subst, arith}
+use Rattle.std.proofs.Common.{◌≡◌, ◌⊎◌, inl, inr, ℕ, zero, suc, ◌<◌, ◌≤◌, ◌==◌, ◌∷◌, List, if◌then◌else◌, length, Bool, true, false, ◌&&◌, not, refl, sym, subst, arith}
 use Rattle.std.specs.Prelude.{Contains}
 use Rattle.std.proofs.lemmas.Bool.Decides.{nat_tests}
 use Rattle.ymx_engine.specs.Devices.{one_frame, one_turn}

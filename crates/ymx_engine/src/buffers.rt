@@ -42,7 +42,7 @@ impl Buffers {
     {
         Ok(Buffers {
             outgoing: Block::new(alloc, OUTGOING)?,
-            incoming: Block::new(alloc, BLOCK)?,
+            incoming: Block::new(alloc, FRAMES)?,
             buffer: ymx_memory::zeros(alloc, BLOCK)?,
             touched: Touched::new(alloc)?,
         })

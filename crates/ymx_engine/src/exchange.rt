@@ -10,13 +10,14 @@ ghost use Rattle.ymx_model.specs.session.Histories.{Gives};
 ghost use Rattle.ymx_session.specs.Streams.{waiting, room_of};
 ghost use Rattle.ymx_engine.specs.Devices.{IsPushed, IsShut, one_read};
 ghost use Rattle.ymx_engine.specs.Served.{GainsNone};
-ghost use Rattle.ymx_engine.specs.Serves.{Turn, Part, Delivers, GivesWhole, HearsEnd, HearsStop, is_silent, is_stopped};
+ghost use Rattle.ymx_engine.specs.Serves.{Turn, Part, Delivers, IsEnough, GivesWhole, HearsEnd, HearsStop, is_silent, is_stopped};
 ghost use Rattle.ymx_engine.specs.Ways.{is_open, may_push, may_pull, broken_off};
 
 use crate::block::Block;
 use crate::buffers::{BLOCK, FRAME};
 use crate::calls::{Unreadable, ask, finish, is_stopped, reset, take_out};
 use crate::device::{Device, Pulled, Pushed};
+use crate::row::front;
 use crate::sending::{put_due, send};
 use crate::ways::{Flow, Ways};
 use std::io::IoSlice;
@@ -45,8 +46,8 @@ impl TurnEnd {
     }
 }
 
-/// One turn of a connection: at most four writes to its device, and then at most two reads from it, of `most` bytes together at
-/// most. What is due and what it gives waits behind what waits for the wire. It makes at most 13 calls of the device.
+/// One turn of a connection: at most one write to its device, and then at most two reads from it, of `most` bytes together at most.
+/// What is due and what it gives waits behind what waits for the wire. It makes at most 8 calls of the device.
 pub(crate) fn serve<D: Device>(
     session: &mut Session,
     id: u32,
@@ -79,9 +80,10 @@ fn is_untold(session: &Session, ways: &Ways) -> bool
     !matches!(session.status(), Status::Running) && ways.to_peer.is_open()
 }
 
-/// At most four writes to the device, each with all that waits of the stream. Whether more may be written at once.
+/// Writes to the device once, where it may take bytes. Where none wait on the stream it is told why, if no more come. Whether more
+/// may be written at once.
 fn deliver<D: Device>(session: &mut Session, id: u32, ways: &mut Ways, device: &mut D) -> bool
-    ensures delivered { Delivers id session.old session.new (D.seen device.old) (D.seen device.new) ways.old ways.new 8 }
+    ensures delivered { Delivers id session.old session.new (D.seen device.old) (D.seen device.new) ways.old ways.new 3 }
     ensures goes_on { result ≡ true → may_push ways.new (D.seen device.new).marks ≡ true }
     // More may be written only where some could be.
     ensures some { result ≡ true → (may_push ways.old (D.seen device.old).marks ≡ true) × (0 < length (waiting id session.old)) }
@@ -93,33 +95,35 @@ fn deliver<D: Device>(session: &mut Session, id: u32, ways: &mut Ways, device: &
     // One that may take bytes still has a stream that takes some, unless the session is over.
     ensures takes { may_push ways.new (D.seen device.new).marks ≡ true → is_running session.new.status ≡ true → is_stopped id session.new ≡ false }
 {
-    'push: for turn in 0..4u64 {
-        if !ways.may_push(device) {
-            return false;
-        }
-        if !push_once(session, id, ways, device) {
-            return false;
-        }
+    if !ways.may_push(device) {
+        return false;
     }
-    true
-}
-
-/// Writes to the device once, all that waits. Whether more may be written.
-fn push_once<D: Device>(session: &mut Session, id: u32, ways: &mut Ways, device: &mut D) -> bool
-    requires { may_push ways.old (D.seen device.old).marks ≡ true }
-    ensures delivered { Delivers id session.old session.new (D.seen device.old) (D.seen device.new) ways.old ways.new 2 }
-    ensures goes_on { result ≡ true → may_push ways.new (D.seen device.new).marks ≡ true }
-    ensures some { result ≡ true → 0 < length (waiting id session.old) }
-    ensures hears_end { waiting id session.old ≡ [] → HearsEnd id session.old ways.new }
-    ensures stays { may_push ways.new (D.seen device.new).marks ≡ true → 0 < length (waiting id session.new) → result ≡ true }
-    ensures ends { may_push ways.new (D.seen device.new).marks ≡ true → is_silent id session.new ≡ true → result ≡ true }
-    ensures takes { may_push ways.new (D.seen device.new).marks ≡ true → is_running session.new.status ≡ true → is_stopped id session.new ≡ false }
-{
-    let (first, wrapped) = session.unread_slices(id);
-    if first.is_empty() && wrapped.is_empty() {
+    if session.unread_count(id) == 0 {
         hear_silence(session, id, ways, device);
         return false;
     }
+    if !push_once(session, id, ways, device) {
+        return false;
+    }
+    if session.unread_count(id) > 0 {
+        return true;
+    }
+    hear_silence(session, id, ways, device);
+    false
+}
+
+/// Writes to the device once: all that waits, or as much as makes credit due. This goes to the peer before more is taken, so that
+/// each half of the window is announced as it is read, and the peer can fill the other. Whether the device may take more.
+fn push_once<D: Device>(session: &mut Session, id: u32, ways: &mut Ways, device: &mut D) -> bool
+    requires some { 0 < length (waiting id session.old) }
+    ensures delivered { Delivers id session.old session.new (D.seen device.old) (D.seen device.new) ways.old ways.new 2 }
+    ensures goes_on { result ≡ may_push ways.new (D.seen device.new).marks }
+    ensures takes { may_push ways.new (D.seen device.new).marks ≡ true → is_running session.new.status ≡ true → is_stopped id session.new ≡ false }
+{
+    let most = until_credit(session, id);
+    let (first, wrapped) = session.unread_slices(id);
+    let first = front(first, most);
+    let wrapped = front(wrapped, most - first.len());
     match push_all(device, first, wrapped) {
         Pushed::Took(count) => {
             take_out(session, id, count);
@@ -130,6 +134,18 @@ fn push_once<D: Device>(session: &mut Session, id: u32, ways: &mut Ways, device:
             reset_and_shut(session, id, ways, device);
             false
         }
+    }
+}
+
+/// How many bytes are read on the stream until credit is due (flow control). No limit, where it is due.
+fn until_credit(session: &Session, id: u32) -> usize
+    ensures enough { IsEnough result id session.now }
+{
+    let half = session.window() as usize / 2;
+    let behind = half.saturating_sub(session.granted(id) as usize);
+    match session.unread_count(id).saturating_sub(behind) {
+        0 => usize::MAX,
+        count => count,
     }
 }
 
@@ -230,48 +246,25 @@ fn collect<D: Device>(
     if most == 0 || !ways.may_pull(device) {
         return TurnEnd::NOTHING;
     }
+    // what is due goes first, so that these bytes may go straight behind it
+    put_due(session, outgoing);
     let room = &mut buffer[..most.min(BLOCK)];
-    let first = pull_once(session, id, ways, device, room, outgoing);
+    let first = fill(session, id, ways, device, room, outgoing);
     let left = most - first.gave;
     if left == 0 || !first.more {
         return first;
     }
+    put_due(session, outgoing);
     let room = &mut buffer[..left.min(BLOCK)];
-    let second = pull_once(session, id, ways, device, room, outgoing);
+    let second = fill(session, id, ways, device, room, outgoing);
     TurnEnd {
         more: second.more,
         gave: first.gave + second.gave,
     }
 }
 
-/// Reads from the device once, into this buffer. What is due goes first, so that these bytes may go straight behind it. More may
-/// be read at once as long as none are lost.
-fn pull_once<D: Device>(
-    session: &mut Session,
-    id: u32,
-    ways: &mut Ways,
-    device: &mut D,
-    buffer: &mut [u8],
-    outgoing: &mut Block,
-) -> TurnEnd
-    requires room { length buffer.old ≤ one_read }
-    requires some { 0 < length buffer.old }
-    requires open { is_open ways.old.to_peer ≡ true }
-    ensures part { Part id session.old session.new outgoing.old outgoing.new (D.seen device.old) (D.seen device.new) ways.old ways.new 2 result.gave }
-    ensures fills { GivesWhole result.gave (length buffer.old) (room_of id session.new) ways.new (D.seen device.new).marks }
-    ensures within { result.gave ≤ length buffer.old }
-    ensures collects { (0 < result.gave) ⊎ ((may_pull ways.new (D.seen device.new).marks ≡ false) ⊎ (room_of id session.new ≡ 0)) }
-    ensures goes_on { result.more ≡ true → 0 < result.gave }
-    ensures on { result.more ≡ true → may_pull ways.new (D.seen device.new).marks ≡ true }
-    ensures asks_on { may_pull ways.new (D.seen device.new).marks ≡ true → 0 < room_of id session.new → result.more ≡ true }
-    ensures ends { is_open ways.new.from_peer ≡ true → is_silent id session.new ≡ true → is_silent id session.old ≡ true }
-    ensures stops { is_open ways.new.to_peer ≡ true → is_stopped id session.new ≡ true → is_stopped id session.old ≡ true }
-{
-    put_due(session, outgoing);
-    fill(session, id, ways, device, buffer, outgoing)
-}
-
-/// Reads from the device once, as many bytes as the stream takes, and the buffer has room for.
+/// Reads from the device once, as many bytes as the stream takes, and the buffer has room for. More may be read at once as long as
+/// none are lost.
 fn fill<D: Device>(
     session: &mut Session,
     id: u32,

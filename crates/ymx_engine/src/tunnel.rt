@@ -147,7 +147,7 @@ impl<D: Device + Drop, W: Device + Drop> Tunnel<D, W> {
 
     // ---- turns
 
-    /// Serves the connection whose turn it is, with its own device: at most four writes to it, and then reads from it: of one
+    /// Serves the connection whose turn it is, with its own device: a write to it, and then reads from it: of one
     /// frame while the wire is slow, or another waits that moves little, and else twice, of 131,072 bytes each. It isn't read while
     /// bytes wait that the wire doesn't take, or many wait. `None` where none waits for a turn.
     pub fn serve_next(&mut self) -> Option<Served>
