@@ -9,7 +9,7 @@ use std::io;
 use std::net::{SocketAddr, SocketAddrV4, TcpStream};
 use std::time::Duration;
 use ymx_engine::{Device, Pulled};
-use ymx_policy::{Session, keepalive_of};
+use ymx_policy::Session;
 
 /// How many bytes that still come are read at once.
 const DROPPED: usize = 8_192;
@@ -25,7 +25,6 @@ pub(crate) struct Peer {
 impl Peer {
     /// A peer over this connection, which never waits.
     pub(crate) fn of(socket: TcpConnection) -> Peer {
-        socket.send_at_once();
         let address = match socket.peer() {
             Some(SocketAddr::V4(address)) => Some(address),
             _ => None,
@@ -45,9 +44,7 @@ impl Peer {
         token: usize,
     ) -> Result<Socket, NoEvents> {
         let Peer { socket, address: _ } = self;
-        if let Some(keepalive) = keepalive_of(session.options.keepalive) {
-            socket.keep_alive(keepalive);
-        }
+        socket.prepare(session.options.keepalive);
         if let Some(seconds) = session.options.ping {
             socket.limit_silence(seconds.saturating_mul(2_000));
         }

@@ -9,7 +9,9 @@ use crate::places::PeerQueue;
 use crate::session::{LISTENER, Side, run_session};
 use crate::silence::{has_passed, shorter, time_of};
 use crate::stream::Stream;
-use crate::system::{NoEvents, Poll, StartFault, TcpConnection, Waker, begin_call, listen};
+use crate::system::{
+    NoEvents, Poll, StartFault, TcpConnection, Waker, begin_call, listen, prepare,
+};
 use crate::users::{Common, Users, place_of};
 use crate::voice::Context;
 use std::alloc::Global;
@@ -175,6 +177,7 @@ impl<'a, 's, R: Host, D: Outlet> Place<'a, 's, R, D> {
         let Some((listener, is_first)) = common.open(self.context.rt, users.address)? else {
             return Ok(Happened::AllCame);
         };
+        prepare(&listener, self.plan.terms().session.options.keepalive);
         let at = place_of(&listener, users.address);
         self.is_first = is_first;
         let users = Users::new(listener, users, common, self.prepare()?)?;

@@ -32,7 +32,7 @@ use ymx_engine::{Device, NotJoined, Readiness, Registry, Tunnel};
 use ymx_header::{FIRST_EXHAUSTED, MOST_RECORDS};
 use ymx_model::{CallFault, Config, Outlet, Role, Status};
 use ymx_page::{Declined, EndedConnection, Ending, Event, Origin};
-use ymx_policy::{Endpoint, Notice, Reason, Session as Asked, SessionEnd, keepalive_of};
+use ymx_policy::{Endpoint, Notice, Reason, Session as Asked, SessionEnd};
 use ymx_session::{NewFault, Session};
 
 /// The wire's token.
@@ -571,7 +571,6 @@ impl<R: Host, D: Outlet> SessionLoop<'_, '_, R, D> {
     {
         let context = self.context;
         let origin = context.begin(socket.peer());
-        self.prepare(&socket);
         let head = match self.session.endpoint {
             Endpoint::Local { names_users, .. } if names_users => socket.proxy_line(),
             _ => Head::new(),
@@ -579,15 +578,6 @@ impl<R: Host, D: Outlet> SessionLoop<'_, '_, R, D> {
         let device = Socket::connected(socket, origin, head);
         if let Err(why) = self.tunnel.open(device, &mut Tokens { poll }) {
             self.decline(origin, why);
-        }
-    }
-
-    /// What is written to this connection goes out at once, and the system asks whether its other side is still there, if it
-    /// is to.
-    fn prepare(&self, socket: &TcpConnection) {
-        socket.send_at_once();
-        if let Some(keepalive) = keepalive_of(self.session.options.keepalive) {
-            socket.keep_alive(keepalive);
         }
     }
 
@@ -666,7 +656,7 @@ impl<R: Host, D: Outlet> SessionLoop<'_, '_, R, D> {
                 return;
             }
         };
-        self.prepare(&socket);
+        socket.prepare(self.session.options.keepalive);
         let joined = self
             .tunnel
             .accept(Socket::begun(socket, origin), &mut Tokens { poll });

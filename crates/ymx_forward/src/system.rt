@@ -28,7 +28,7 @@ use std::time::Duration;
 use std::{io, net};
 use ymx_engine::Readiness;
 use ymx_model::{read, write};
-use ymx_policy::{Keepalive, Reason};
+use ymx_policy::{Reason, keepalive_of};
 
 /// How often a write of several pieces that a signal interrupted is made again before it counts as failed.
 const RETRIES: u32 = 1_000_000;
@@ -160,32 +160,41 @@ impl TcpConnection {
         }
     }
 
-    /// What is written goes out at once.
-    pub(crate) fn send_at_once(&self) {
-        let _ = self.inner.set_nodelay(true);
-    }
-
-    /// Where nothing comes for so long, the system asks the other side for a sign, and fails the connection where none comes.
-    pub(crate) fn keep_alive(&self, keepalive: Keepalive) {
-        self.set(c::IPPROTO_TCP, c::TCP_KEEPIDLE, keepalive.idle);
-        self.set(c::IPPROTO_TCP, c::TCP_KEEPINTVL, keepalive.interval);
-        self.set(c::IPPROTO_TCP, c::TCP_KEEPCNT, keepalive.probes);
-        self.set(c::SOL_SOCKET, c::SO_KEEPALIVE, 1);
+    /// What `prepare` says of a socket.
+    pub(crate) fn prepare(&self, keepalive: u32) {
+        prepare(&self.inner, keepalive);
     }
 
     /// The system fails the connection where what was sent isn't acknowledged for so many milliseconds.
     pub(crate) fn limit_silence(&self, milliseconds: u32) {
-        self.set(c::IPPROTO_TCP, c::TCP_USER_TIMEOUT, milliseconds);
+        set(
+            &self.inner,
+            c::IPPROTO_TCP,
+            c::TCP_USER_TIMEOUT,
+            milliseconds,
+        );
     }
+}
 
-    /// Sets this option of its socket.
-    fn set(&self, level: i32, option: i32, value: u32)
-        requires { SockOption level option }
-    {
-        let mut bytes = [0u8; 16];
-        bytes[..4].copy_from_slice(&value.to_ne_bytes());
-        let _ = unsafe { c::setsockopt(self.inner.as_raw_fd(), level, option, &bytes, 4) };
+/// What is written to this socket goes out at once. Where nothing comes for so many seconds, the system asks the other side for a
+/// sign, and fails the connection where none comes; never for 0. All that a listener accepts is so from the start.
+pub(crate) fn prepare<S: AsRawFd>(socket: &S, keepalive: u32) {
+    set(socket, c::IPPROTO_TCP, c::TCP_NODELAY, 1);
+    if let Some(keepalive) = keepalive_of(keepalive) {
+        set(socket, c::IPPROTO_TCP, c::TCP_KEEPIDLE, keepalive.idle);
+        set(socket, c::IPPROTO_TCP, c::TCP_KEEPINTVL, keepalive.interval);
+        set(socket, c::IPPROTO_TCP, c::TCP_KEEPCNT, keepalive.probes);
+        set(socket, c::SOL_SOCKET, c::SO_KEEPALIVE, 1);
     }
+}
+
+/// Sets this option of a socket.
+fn set<S: AsRawFd>(socket: &S, level: i32, option: i32, value: u32)
+    requires { SockOption level option }
+{
+    let mut bytes = [0u8; 16];
+    bytes[..4].copy_from_slice(&value.to_ne_bytes());
+    let _ = unsafe { c::setsockopt(socket.as_raw_fd(), level, option, &bytes, 4) };
 }
 
 impl Stream for TcpConnection {
