@@ -8,7 +8,7 @@ use std::alloc::Global;
 use ymx_memory::RefusedAllocation;
 use ymx_session::Touched;
 
-/// How many bytes are read from the peer, or from a device, at once.
+/// How many bytes are read from a device at once.
 pub(crate) const BLOCK: usize = 131_072;
 
 /// How many bytes a connection gives at most in one turn: two reads.
@@ -17,7 +17,8 @@ pub(crate) const TURN: usize = 2 * BLOCK;
 /// How many bytes of a payload a frame carries at most.
 pub(crate) const FRAME: usize = 16_384;
 
-/// Eight whole frames of 16,384 bytes. Once so many bytes wait for the peer, no connection is read.
+/// Eight whole frames of 16,384 bytes. So much is read from the peer at once, and once so many bytes wait for it, no connection is
+/// read.
 pub(crate) const FRAMES: usize = 131_168;
 
 /// How many bytes are written to the peer at once: as many as the sixteen frames that a turn of a connection fills.

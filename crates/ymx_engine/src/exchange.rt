@@ -21,8 +21,13 @@ use crate::row::front;
 use crate::sending::{put_due, send};
 use crate::ways::{Flow, Ways};
 use std::io::IoSlice;
+use ymx_header::MOST_RECORDS;
 use ymx_model::Status;
 use ymx_session::Session;
+
+/// How many more streams may be there where eight are. More streams than that keep a long line full though little more than half of
+/// each window is under way, and a write that stops where credit falls due costs them a tenth of the processor time.
+const LEFT_BY_FEW: usize = MOST_RECORDS - 8;
 
 /// What a turn came to, or its reads.
 #[derive(Clone, Copy)]
@@ -112,7 +117,7 @@ fn deliver<D: Device>(session: &mut Session, id: u32, ways: &mut Ways, device: &
     false
 }
 
-/// Writes to the device once: all that waits, or as much as makes credit due. This goes to the peer before more is taken, so that
+/// Writes to the device once: all that waits, or as much as makes credit due. That goes to the peer before more is taken, so that
 /// each half of the window is announced as it is read, and the peer can fill the other. Whether the device may take more.
 fn push_once<D: Device>(session: &mut Session, id: u32, ways: &mut Ways, device: &mut D) -> bool
     requires some { 0 < length (waiting id session.old) }
@@ -137,14 +142,19 @@ fn push_once<D: Device>(session: &mut Session, id: u32, ways: &mut Ways, device:
     }
 }
 
-/// How many bytes are read on the stream until credit is due (flow control). No limit, where it is due.
+/// How many of the bytes that wait are written at once: as many as make credit due (flow control), while few streams are there. All,
+/// where it is due already or none is.
 fn until_credit(session: &Session, id: u32) -> usize
     ensures enough { IsEnough result id session.now }
 {
+    let waits = session.unread_count(id);
+    if session.records_left() < LEFT_BY_FEW {
+        return waits;
+    }
     let half = session.window() as usize / 2;
     let behind = half.saturating_sub(session.granted(id) as usize);
-    match session.unread_count(id).saturating_sub(behind) {
-        0 => usize::MAX,
+    match waits.saturating_sub(behind) {
+        0 => waits,
         count => count,
     }
 }
