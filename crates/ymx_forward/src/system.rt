@@ -1,7 +1,6 @@
 //! What touches the system's sockets: connections, listeners, and the events that tell of them. Each function makes the
 //! calls that it names, in that order, and decides nothing. No contract sees which bytes the sockets carry, nor what the
-//! system does, so this file is to be read. No other makes such a call: sockets that never wait are private here. They come
-//! first, then the events, and at last the sockets that wait.
+//! system does, so this file is to be read. No other makes such a call: sockets that never wait are private here.
 
 ghost use Rattle.std.specs.Prelude.{◌≡◌, ◌<◌, ◌^◌, ◌==◌, length, None};
 ghost use Rattle.std.specs.Slice.Iter.{iter_rest, iter_steps};
@@ -110,8 +109,7 @@ impl Drop for TcpConnection {
     }
 }
 
-/// Aborts a connection, by connecting it to an address of the family AF_UNSPEC: its other end sees a reset, and what is
-/// unsent or unread is lost.
+/// Aborts a connection, by a call to an address of the family AF_UNSPEC: its other end sees a reset. What is unsent is lost.
 fn abort(connection: &mio::net::TcpStream) {
     let unspecified = [0u8; c::_SS_SIZE];
     let _ = unsafe { c::connect(connection.as_raw_fd(), &unspecified, 16) };
@@ -121,13 +119,13 @@ impl TcpConnection {
     /// One that waits, made one that never does.
     pub(crate) fn of(connection: TcpStream) -> io::Result<TcpConnection> {
         connection.set_nonblocking(true)?;
-        Ok(TcpConnection::new(mio::net::TcpStream::from_std(connection)))
+        Ok(TcpConnection::new(mio::net::TcpStream::from_std(connection), None))
     }
 
-    fn new(inner: mio::net::TcpStream) -> TcpConnection {
+    fn new(inner: mio::net::TcpStream, from: Option<SocketAddr>) -> TcpConnection {
         TcpConnection {
             inner,
-            from: None,
+            from,
             gives: true,
             takes: true,
         }
@@ -252,7 +250,7 @@ impl Stream for TcpConnection {
 
 /// Begins to connect to this address. It doesn't wait.
 pub(crate) fn begin_call<R: Net>(rt: &R, address: SocketAddr) -> io::Result<TcpConnection> {
-    Ok(TcpConnection::new(mio::net::TcpStream::connect(rt, address)?))
+    Ok(TcpConnection::new(mio::net::TcpStream::connect(rt, address)?, None))
 }
 
 /// Where connections come from, of which a poll tells. Its calls never wait. It is closed when it is dropped.
@@ -274,9 +272,7 @@ impl Listener {
     /// The next connection. Where none waits the error says so.
     pub(crate) fn next(&self) -> io::Result<TcpConnection> {
         let (connection, from) = self.inner.accept()?;
-        let mut accepted = TcpConnection::new(connection);
-        accepted.from = Some(from);
-        Ok(accepted)
+        Ok(TcpConnection::new(connection, Some(from)))
     }
 
     /// Whether a connection waits, which stays there.
@@ -371,8 +367,7 @@ impl Poll {
     }
 }
 
-/// What an event says: the token under which something was registered, and what that is ready for. Where it has failed it may
-/// be used at once, so that it says so.
+/// The token under which something was registered, and what an event says of it. What has failed may be used, and says so.
 pub(crate) fn said(event: &mio::event::Event) -> (usize, Readiness) {
     let Token(token) = event.token();
     let is_closing = event.is_read_closed() || event.is_error();
