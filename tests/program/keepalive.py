@@ -57,6 +57,11 @@ def settings(connection):
     return tuple(given) if asks else None, limit
 
 
+def sends_at_once(connection):
+    """Whether what is written to it waits for no more (TCP_NODELAY)."""
+    return connection.getsockopt(socket.IPPROTO_TCP, socket.TCP_NODELAY) != 0
+
+
 def tunnel(near, far):
     """Both ends with these words, a user, and the target's side of his connection."""
     target, address = listen()
@@ -80,10 +85,11 @@ def told(near, far, wanted, limit, wires=1):
             expected = wanted, limit if is_wire else 0
             # another link may be there before it has its options
             end = time.monotonic() + 60
-            while settings(connection) != expected and time.monotonic() < end:
+            while (settings(connection) != expected or not sends_at_once(connection)) and time.monotonic() < end:
                 time.sleep(0.01)
             got = settings(connection)
             assert got == expected, f"{got} of {'the wire' if is_wire else 'a connection'}"
+            assert sends_at_once(connection), f"{'the wire' if is_wire else 'a connection'} waits to send"
 
 
 def told_of_caller(wanted, *words):
