@@ -1,14 +1,16 @@
 -- Bytes come to wait on a stream, and room on it, only by feeds.
-use Rattle.std.proofs.Common.{◌≡◌, ◌≢◌, ◌⊎◌, inl, inr, ℕ, ◌<◌, List, [], ◌∷◌, length, drop, ◌-◌, Bool, true, false, ◌==◌, ◌&&◌, ◌||◌, nat_lt, if◌then◌else◌, Option, None, Some, refl, sym, subst, arith, length-drop}
+use Rattle.std.proofs.Common.{◌≡◌, ◌≢◌, ◌⊎◌, inl, inr, ℕ, ◌<◌, ◌≤◌, List, [], ◌∷◌, length, drop, ◌-◌, Bool, true, false, ◌==◌, ◌&&◌, ◌||◌, nat_lt, not, if◌then◌else◌, Option, None, Some, refl, sym, ap, ◌∙◌, subst, arith, length-drop}
 use Rattle.std.specs.Prelude.{is_some, option_map}
 use Rattle.std.specs.List.{list_all}
 use Rattle.ymx_machine.specs.declared.types.Call.TheVariants as call
-use Rattle.ymx_machine.specs.declared.types.CallFault.TheVariants.{Closed as ClosedFault}
+use Rattle.ymx_machine.specs.declared.types.CallFault.{CallFault}
+use Rattle.ymx_machine.specs.declared.types.CallFault.TheVariants.{Closed as ClosedFault, Reset as ResetFault, NoStream}
 use Rattle.ymx_machine.specs.shared.Events.{Reply, Call}
 use Rattle.ymx_machine.specs.shared.Lists.{look, change, without, Distinct}
-use Rattle.ymx_machine.specs.shared.Phases.Phase.{WasReset}
+use Rattle.ymx_machine.specs.shared.Phases.{Phase, is_reset, is_live, is_lingering}
+use Rattle.ymx_machine.specs.shared.Phases.Phase.{WasReset, Lingering}
 use Rattle.ymx_machine.specs.shared.Replies.{write_reply, read_reply, finish_reply, reset_reply, bytes_moved, is_done}
-use Rattle.ymx_machine.proofs.Lists.{look-change_same, look-change_other, look-without_same, look-without_other}
+use Rattle.ymx_machine.proofs.Lists.{look-change_same, look-change_there, look-change_other, look-without_same, look-without_other}
 use Rattle.ymx_machine.proofs.Tests.{split, same_or_not, one_some, both_of}
 use Rattle.ymx_model.specs.declared.types.FrameKind.{FrameKind}
 use Rattle.ymx_model.specs.declared.types.FrameKind.TheVariants.{Open, OpenWith, Accept, Reset, Credit, Data, Fin}
@@ -17,10 +19,10 @@ use Rattle.ymx_model.specs.declared.types.Response.{Response}
 use Rattle.ymx_model.specs.declared.types.Status.{Status}
 use Rattle.ymx_model.specs.declared.types.Status.TheVariants.{Running, Lost, Broken, Closed}
 use Rattle.ymx_model.specs.session.Records.{End, end_write, end_read, end_finish, end_reset}
-use Rattle.ymx_model.specs.session.FramesDue.{begin_frame, next_kind, spelled}
-use Rattle.ymx_model.specs.session.Tables.{with_record, pass_turn, remove_record}
-use Rattle.ymx_model.specs.session.Sessions.{Session, is_closed, is_lost, is_running, is_broken, is_spent, on_stream, settle, nothing_outgoing}
-use Rattle.ymx_model.specs.session.Calls.{outcome, write_outcome, read_outcome, finish_outcome, reset_outcome, status_input_ends, feed_end}
+use Rattle.ymx_model.specs.session.FramesDue.{begin_frame, next_kind, is_due}
+use Rattle.ymx_model.specs.session.Tables.{with_record, remove_record}
+use Rattle.ymx_model.specs.session.Sessions.{Session, Outgoing, is_closed, is_lost, is_running, is_broken, is_spent, belongs_to, on_stream, nothing_outgoing}
+use Rattle.ymx_model.specs.session.Calls.{outcome, write_outcome, read_outcome, read_from, finish_outcome, reset_outcome, status_input_ends, feed_end}
 use Rattle.ymx_model.specs.session.Emissions.{Choice, begin, begin_answer, begin_stream, begin_kind, begins, alarm_frame, go_away_frame, ping_frame, moves_on, settles, Ready, Flows, in_turn}
 use Rattle.ymx_model.specs.session.Emissions.Choice.{TheAlarm, TheGoAway, TheAnswer, ThePing, AStream}
 use Rattle.ymx_model.specs.session.GoAway.{away_due, begin_away}
@@ -33,11 +35,12 @@ use Rattle.ymx_law_session.specs.Limits.{IsWithin}
 use Rattle.ymx_law_session.proofs.limits.CallsKeep.{with-keeps}
 use Rattle.ymx_law_session.proofs.limits.EmissionsKeep.{some_if, if_some, none_if, ready-keeps, moves-keep}
 use Rattle.ymx_law_session.proofs.limits.HistoriesKeep.{gives-keep}
-use Rattle.ymx_session.specs.Replies.{end_fault}
+use Rattle.ymx_session.specs.Replies.{end_fault, stream_fault}
 use Rattle.ymx_session.specs.Streams.{unread_of, open_credit, waiting, room_of}
+use Rattle.ymx_session.proofs.Records.{MayRead, waiting-is, read-leaves}
 use Rattle.ymx_engine.specs.Devices.{Seen}
 use Rattle.ymx_engine.specs.Events.{Happen}
-use Rattle.ymx_engine.specs.Serves.{is_of_turn, Exchanges}
+use Rattle.ymx_engine.specs.Serves.{is_of_turn, is_emission, Exchanges}
 use Rattle.ymx_engine.specs.Wires.{is_of_flush}
 
 -- where bytes of this stream wait, some waited before; and where it takes some, it took some before
@@ -115,38 +118,24 @@ none_came s id = record { bytes = λ w. w; room = λ r. r }
 
 -- ---- one record changes, or goes
 
-less_same : (o p : Option End) → p ≡ o → Less o p
-less_same o p e = subst (λ (v : Option End). Less o v) (sym e) (λ w. w, λ r. r)
+less_same : (o : Option End) → Less o o
+less_same o = (λ w. w, λ r. r)
 
-mapped : (f : End → End) (o : Option End) → ((e : End) → Less (Some e) (Some (f e))) → Less o (option_map f o)
-mapped f None less = (λ w. w, λ r. r)
-mapped f (Some e) less = less e
-
-changed : (id j : ℕ) (f : End → End) (ps : List (ℕ × End)) → ((e : End) → Less (Some e) (Some (f e))) → Less (look j ps) (look j (change id f ps))
-changed id j f ps less = by (same_or_not j id)
+changed : (R : Option End → Option End → Type 0) → ((o : Option End) → R o o) → (id j : ℕ) (f : End → End) (ps : List (ℕ × End)) → ((e : End) → R (Some e) (Some (f e))) → R (look j ps) (look j (change id f ps))
+changed R none id j f ps one = by (same_or_not j id)
   where
-    by : (j ≡ id) ⊎ (j ≢ id) → Less (look j ps) (look j (change id f ps))
-    by (inr n) = less_same (look j ps) (look j (change id f ps)) (look-change_other id j f ps n)
+    mapped : (o : Option End) → R o (option_map f o)
+    mapped None = none None
+    mapped (Some e) = one e
+
+    by : (j ≡ id) ⊎ (j ≢ id) → R (look j ps) (look j (change id f ps))
+    by (inr n) = subst (R (look j ps)) (sym (look-change_other id j f ps n)) (none (look j ps))
     by (inl e) =
         let same : look j (change id f ps) ≡ option_map f (look j ps) = subst (λ (k : ℕ). look j (change k f ps) ≡ option_map f (look j ps)) e (look-change_same j f ps) in
-        subst (λ (o : Option End). Less (look j ps) o) (sym same) (mapped f (look j ps) less)
+        subst (R (look j ps)) (sym same) (mapped (look j ps))
 
 pub on_came : (id : ℕ) (f : End → End) (s : Session) → ((e : End) → Less (Some e) (Some (f e))) → NoneCame s (on_stream id f s)
-on_came id f s less j = came_by j s (on_stream id f s) (λ c. c, λ r. r) (changed id j f s.table.entries less)
-
-gone : (id j : ℕ) (ps : List (ℕ × End)) → Distinct ps → Less (look j ps) (look j (without id ps))
-gone id j ps distinct = by (same_or_not j id)
-  where
-    by : (j ≡ id) ⊎ (j ≢ id) → Less (look j ps) (look j (without id ps))
-    by (inr n) = less_same (look j ps) (look j (without id ps)) (look-without_other id j ps n)
-    by (inl e) =
-        let none : look j (without id ps) ≡ None = subst (λ (k : ℕ). look j (without k ps) ≡ None) e (look-without_same j ps distinct) in
-        subst (λ (o : Option End). Less (look j ps) o) (sym none) (λ w. absurd (omega (arith, w)), λ w. absurd (omega (arith, w)))
-
-settled_came : (id : ℕ) (s : Session) → Distinct s.table.entries → NoneCame s (settle id s)
-settled_came id s distinct =
-    split (NoneCame s) (is_spent s.table.window s.outgoing id (look id s.table.entries)) (record s { table = remove_record id s.table }) s
-    (λ t j. came_by j s (record s { table = remove_record id s.table }) (λ c. c, λ r. r) (gone id j s.table.entries distinct)) (λ f. none_came s)
+on_came id f s less j = came_by j s (on_stream id f s) (λ c. c, λ r. r) (changed Less less_same id j f s.table.entries less)
 
 -- ---- calls on a stream
 
@@ -186,56 +175,133 @@ called_came c s t told h (NoMemory needs answer state) = subst (NoneCame s) (sym
 
 -- ---- what goes out
 
-frame_less : (window limit : ℕ) (kind : FrameKind) (e : End) → Less (Some e) (Some (begin_frame window limit kind e))
-frame_less window limit Open e = (λ w. w, λ r. r)
-frame_less window limit OpenWith e = (λ w. w, λ r. r)
-frame_less window limit Accept e = (λ w. w, λ r. r)
-frame_less window limit Reset e = (λ w. w, λ r. r)
-frame_less window limit Credit e = (λ w. w, λ r. r)
-frame_less window limit Data e = (λ w. w, λ r. r)
-frame_less window limit Fin e = (λ w. w, λ r. r)
+-- what waits in a record, and how many bytes it takes, is the same
+abbrev Same : Option End → Option End → Type 0
+Same o p = (had p ≡ had o) × (credit_had p ≡ credit_had o)
 
-kind_came : (id limit : ℕ) (e : End) (k : Option FrameKind) (s t : Session) → begin_kind id limit e k s ≡ Some t → NoneCame s t
-kind_came id limit e None s t b = cc
-kind_came id limit e (Some kind) s t b = subst (NoneCame s) (one_some _ t b) (λ j.
-    came_by j s (record s { table = pass_turn id (with_record id (begin_frame s.table.window limit kind) s.table); outgoing = record { bytes = spelled kind s.table.window limit id e; of = Some id } }) (λ c. c, λ r. r)
-    (changed id j (begin_frame s.table.window limit kind) s.table.entries (frame_less s.table.window limit kind)))
+-- so of each stream, and the session runs on, or doesn't
+abbrev pub Kept : Session → Session → Type 0
+Kept s t = (t.status ≡ s.status) × ((j : ℕ) → Same (look j s.table.entries) (look j t.table.entries))
 
-stream_came : (id limit : ℕ) (o : Option End) (s t : Session) → begin_stream id limit o s ≡ Some t → NoneCame s t
-stream_came id limit None s t b = cc
-stream_came id limit (Some e) s t b =
-    kind_came id limit e (next_kind s.table.window e) s t (none_if (limit == 0 || nat_lt first_credit limit) (begin_kind id limit e (next_kind s.table.window e) s) t b).1
+none_same : (o : Option End) → Same o o
+none_same o = (refl, refl)
 
-answer_came : (xs : List Response) (s t : Session) → begin_answer xs s ≡ Some t → NoneCame s t
-answer_came [] s t b = cc
-answer_came (r ∷ more) s t b = subst (NoneCame s) (one_some _ t b) (λ j. record { bytes = λ w. w; room = λ r. r })
+none_kept : (s : Session) → Kept s s
+none_kept s = (refl, λ j. (refl, refl))
 
-begin_came : (c : Choice) (s t : Session) → begin c s ≡ Some t → NoneCame s t
-begin_came TheAlarm s t b = subst (NoneCame s) (sym (some_if (s.alarm && is_broken s.status) (begins alarm_frame (record s { alarm = false })) t b).1) (λ j. record { bytes = λ w. w; room = λ r. r })
-begin_came TheGoAway s t b = subst (NoneCame s) (sym (some_if (is_running s.status && away_due s.away.here) (begins go_away_frame (record s { away = begin_away s.away })) t b).1) (λ j. record { bytes = λ w. w; room = λ r. r })
-begin_came TheAnswer s t b = answer_came s.answers s t (if_some (is_running s.status) (begin_answer s.answers s) t b).1
-begin_came (ThePing n) s t b = subst (NoneCame s) (sym (some_if (is_running s.status && has_asked n s.pings.pending) (begins (ping_frame n) (record s { pings = begin_ping n s.pings })) t b).1) (λ j. record { bytes = λ w. w; room = λ r. r })
-begin_came (AStream id limit) s t b = stream_came id limit (look id s.table.entries) s t (if_some (is_running s.status) (begin_stream id limit (look id s.table.entries) s) t b).1
+kept_then : (s t u : Session) → Kept s t → Kept t u → Kept s u
+kept_then s t u (e, x) (f, y) = (f ∙ e, λ j. ((y j).0 ∙ (x j).0, (y j).1 ∙ (x j).1))
 
-ready_came : (may : Choice → Session → Bool) (s t : Session) → Ready may s t → NoneCame s t
-ready_came may s t (inl h) = subst (NoneCame s) (sym h.1) (λ j. record { bytes = λ w. w; room = λ r. r })
-ready_came may s t (inr (e, (c, ok, b))) = begin_came c s t b
+kept_came : (s t : Session) → Kept s t → NoneCame s t
+kept_came s t (e, x) j = came_by j s t (λ c. ap is_closed (sym e) ∙ c, λ r. ap is_running (sym e) ∙ r) (λ w. subst (λ (xs : List ℕ). 0 < length xs) (x j).0 w, λ w. subst (λ (n : ℕ). 0 < n) (x j).1 w)
 
-settles_came : (of : Option ℕ) (s : Session) → Distinct s.table.entries → NoneCame s (settles of s)
-settles_came None s distinct = none_came s
-settles_came (Some id) s distinct = settled_came id s distinct
+-- what waits on a stream of a session that is closed, or isn't
+abbrev waits_in : Bool → Option End → List ℕ
+waits_in closed o = if is_some (if closed then Some ClosedFault else end_fault o) then [] else unread_of o
 
-moves_came : (n : ℕ) (s : Session) → Distinct s.table.entries → NoneCame s (moves_on n s)
-moves_came n s distinct =
-    split (NoneCame s) (nat_lt n (length s.outgoing.bytes)) _ (settles s.outgoing.of (record s { outgoing = nothing_outgoing }))
-    (λ t j. record { bytes = λ w. w; room = λ r. r }) (λ f j. comes_then j s (record s { outgoing = nothing_outgoing }) (settles s.outgoing.of (record s { outgoing = nothing_outgoing })) (record { bytes = λ w. w; room = λ r. r }) (settles_came s.outgoing.of (record s { outgoing = nothing_outgoing }) distinct j))
+pub kept_waits : (id : ℕ) (s t : Session) → Kept s t → waiting id t ≡ waiting id s
+kept_waits id s t (e, x) = ap (λ (st : Status). waits_in (is_closed st) (look id t.table.entries)) e ∙ by (is_closed s.status)
+  where
+    by : (c : Bool) → waits_in c (look id t.table.entries) ≡ waits_in c (look id s.table.entries)
+    by true = refl
+    by false = (x id).0
 
-flows_came : (may : Choice → Session → Bool) (bytes : List ℕ) (s t : Session) → Flows may bytes s t → IsWithin s → NoneCame s t
-flows_came may [] s t e w = subst (NoneCame s) (sym e) (none_came s)
-flows_came may (b ∷ bytes) s t (ready, r, first, p) w =
+frame_same : (window limit : ℕ) (kind : FrameKind) (e : End) → Same (Some e) (Some (begin_frame window limit kind e))
+frame_same window limit Open e = (refl, refl)
+frame_same window limit OpenWith e = (refl, refl)
+frame_same window limit Accept e = (refl, refl)
+frame_same window limit Reset e = (refl, refl)
+frame_same window limit Credit e = (refl, refl)
+frame_same window limit Data e = (refl, refl)
+frame_same window limit Fin e = (refl, refl)
+
+kind_kept : (id limit : ℕ) (e : End) (k : Option FrameKind) (s t : Session) → begin_kind id limit e k s ≡ Some t → Kept s t
+kind_kept id limit e None s t b = cc
+kind_kept id limit e (Some kind) s t b = subst (Kept s) (one_some _ t b) (refl, λ j. changed Same none_same id j (begin_frame s.table.window limit kind) s.table.entries (frame_same s.table.window limit kind))
+
+stream_kept : (id limit : ℕ) (o : Option End) (s t : Session) → begin_stream id limit o s ≡ Some t → Kept s t
+stream_kept id limit None s t b = cc
+stream_kept id limit (Some e) s t b =
+    kind_kept id limit e (next_kind s.table.window e) s t (none_if (limit == 0 || nat_lt first_credit limit) (begin_kind id limit e (next_kind s.table.window e) s) t b).1
+
+answer_kept : (xs : List Response) (s t : Session) → begin_answer xs s ≡ Some t → Kept s t
+answer_kept [] s t b = cc
+answer_kept (r ∷ more) s t b = subst (Kept s) (one_some _ t b) (refl, λ j. (refl, refl))
+
+begin_kept : (c : Choice) (s t : Session) → begin c s ≡ Some t → Kept s t
+begin_kept TheAlarm s t b = subst (Kept s) (sym (some_if (s.alarm && is_broken s.status) (begins alarm_frame (record s { alarm = false })) t b).1) (refl, λ j. (refl, refl))
+begin_kept TheGoAway s t b = subst (Kept s) (sym (some_if (is_running s.status && away_due s.away.here) (begins go_away_frame (record s { away = begin_away s.away })) t b).1) (refl, λ j. (refl, refl))
+begin_kept TheAnswer s t b = answer_kept s.answers s t (if_some (is_running s.status) (begin_answer s.answers s) t b).1
+begin_kept (ThePing n) s t b = subst (Kept s) (sym (some_if (is_running s.status && has_asked n s.pings.pending) (begins (ping_frame n) (record s { pings = begin_ping n s.pings })) t b).1) (refl, λ j. (refl, refl))
+begin_kept (AStream id limit) s t b = stream_kept id limit (look id s.table.entries) s t (if_some (is_running s.status) (begin_stream id limit (look id s.table.entries) s) t b).1
+
+ready_kept : (may : Choice → Session → Bool) (s t : Session) → Ready may s t → Kept s t
+ready_kept may s t (inl h) = subst (Kept s) (sym h.1) (none_kept s)
+ready_kept may s t (inr (e, (c, ok, b))) = begin_kept c s t b
+
+lingers : (p : Phase) → is_lingering p ≡ true → is_some (if is_reset p then Some ResetFault else if not (is_live p) then Some NoStream else None) ≡ true
+lingers Lingering h = refl
+lingers p h = cc
+
+-- a record that was given up had nothing for a caller
+spent_same : (window : ℕ) (begun : Outgoing) (id : ℕ) (o : Option End) → is_spent window begun id o ≡ true → Same o None
+spent_same window begun id None h = cc
+spent_same window begun id (Some e) h = let f = lingers e.phase (both_of (is_lingering e.phase) (not (is_due window e)) (both_of (is_lingering e.phase && not (is_due window e)) (not (belongs_to begun.of id)) h).0).0 in (rw f refl, rw f refl)
+
+gone : (id j : ℕ) (ps : List (ℕ × End)) → Distinct ps → Same (look id ps) None → Same (look j ps) (look j (without id ps))
+gone id j ps distinct nothing = by (same_or_not j id)
+  where
+    by : (j ≡ id) ⊎ (j ≢ id) → Same (look j ps) (look j (without id ps))
+    by (inr n) = subst (Same (look j ps)) (sym (look-without_other id j ps n)) (none_same (look j ps))
+    by (inl e) =
+        let none : look j (without id ps) ≡ None = subst (λ (k : ℕ). look j (without k ps) ≡ None) e (look-without_same j ps distinct) in
+        subst (Same (look j ps)) (sym none) (subst (λ (k : ℕ). Same (look k ps) None) (sym e) nothing)
+
+settles_kept : (of : Option ℕ) (s : Session) → Distinct s.table.entries → Kept s (settles of s)
+settles_kept None s distinct = none_kept s
+settles_kept (Some id) s distinct =
+    split (Kept s) (is_spent s.table.window s.outgoing id (look id s.table.entries)) (record s { table = remove_record id s.table }) s
+    (λ t. (refl, λ j. gone id j s.table.entries distinct (spent_same s.table.window s.outgoing id (look id s.table.entries) t))) (λ f. none_kept s)
+
+moves_kept : (n : ℕ) (s : Session) → Distinct s.table.entries → Kept s (moves_on n s)
+moves_kept n s distinct =
+    split (Kept s) (nat_lt n (length s.outgoing.bytes)) _ (settles s.outgoing.of (record s { outgoing = nothing_outgoing }))
+    (λ t. (refl, λ j. (refl, refl))) (λ f. settles_kept s.outgoing.of (record s { outgoing = nothing_outgoing }) distinct)
+
+flows_kept : (may : Choice → Session → Bool) (bytes : List ℕ) (s t : Session) → Flows may bytes s t → IsWithin s → Kept s t
+flows_kept may [] s t e w = subst (Kept s) (sym e) (none_kept s)
+flows_kept may (b ∷ bytes) s t (ready, r, first, p) w =
     let within = ready-keeps may s ready r w in
-    came_then s ready t (ready_came may s ready r)
-    (came_then ready (moves_on 1 ready) t (moves_came 1 ready within.table.distinct) (flows_came may bytes (moves_on 1 ready) t p (moves-keep 1 ready within)))
+    kept_then s ready t (ready_kept may s ready r)
+    (kept_then ready (moves_on 1 ready) t (moves_kept 1 ready within.table.distinct) (flows_kept may bytes (moves_on 1 ready) t p (moves-keep 1 ready within)))
+
+-- what waits on a stream stays as what is due goes out
+pub due_waits : (id : ℕ) (es : List (Event × Reply)) (s t : Session) → Happen es s t → list_all (λ (e : Event × Reply). is_emission e.0) es ≡ true → IsWithin s → waiting id t ≡ waiting id s
+due_waits id [] s t h own w = ap (waiting id) h
+due_waits id ((event.Emit room, told) ∷ es) s t (next, g, h) own w =
+    due_waits id es next t h own (gives-keep in_turn s next (event.Emit room) told g w) ∙ kept_waits id s next (flows_kept in_turn g.0 s next g.2.flows w)
+due_waits id ((event.Call c, told) ∷ es) s t h own w = cc
+due_waits id ((event.Feed bytes, told) ∷ es) s t h own w = cc
+due_waits id ((event.FeedEnd, told) ∷ es) s t h own w = cc
+
+-- a read takes its bytes from the front of what waits
+pub read_left : (id n : ℕ) (told : Reply) (s t : Session) → Gives in_turn s (event.Call (call.Read id n)) told t → 0 < n → n ≤ length (waiting id s) → waiting id t ≡ drop n (waiting id s)
+read_left id n told s t (NoMemory needs answer state) some few = cc
+read_left id n told s t (HasOutcome answer state) some few = by (stream_fault id s) refl (look id s.table.entries) refl
+  where
+    none : waiting id s ≡ [] → ⊥
+    none e = omega (arith, ap length e, some, few)
+
+    by : (f : Option CallFault) → stream_fault id s ≡ f → (o : Option End) → look id s.table.entries ≡ o → waiting id t ≡ drop n (waiting id s)
+    by (Some f) h o l = absurd (none (rw h refl))
+    by None h None l = absurd (none (rw (h, l) refl))
+    by None h (Some e) l =
+        let all = waiting-is id e s h l in
+        let may : MayRead id n e s = record { may = h; there = l; asked = some; unread = omega (arith, some, few, ap length all) } in
+        let next : on_stream id (end_read n) s ≡ (read_from id n s).next = read-leaves id n n e (with_record id (end_read n) s.table) s s refl may (omega (arith, few, ap length all)) refl in
+        let found = look-change_there id (end_read n) s.table.entries e l in
+        let granted : stream_fault id (on_stream id (end_read n) s) ≡ None = rw found (rw l at h) in
+        ap (waiting id) (state ∙ sym next) ∙ waiting-is id (end_read n e) (on_stream id (end_read n) s) granted found ∙ ap (drop n) (sym all)
 
 -- ---- events
 
@@ -277,7 +343,7 @@ calm_came (event.Call call.GoAway) told s t calm g w = cc
 calm_came (event.Call call.Close) told s t calm g w = cc
 calm_came (event.Feed bytes) told s t calm g w = cc
 calm_came event.FeedEnd told s t calm g w = subst (NoneCame s) (sym g.1) (λ j. came_same j s (feed_end s) (still_open s.status, still_runs s.status) refl)
-calm_came (event.Emit room) told s t calm g w = flows_came in_turn g.0 s t g.2.flows w
+calm_came (event.Emit room) told s t calm g w = kept_came s t (flows_kept in_turn g.0 s t g.2.flows w)
 
 -- what the limits say, and that no stream gained anything
 pub record IsCalm (s t : Session) : Type 0 where

@@ -1,5 +1,5 @@
 -- What a device hears in a turn of its stream's end, and of writes.
-use Rattle.std.proofs.Common.{◌≡◌, inl, inr, ℕ, ◌<◌, length, List, Bool, true, false, not, ◌&&◌, refl, sym, ap, ◌∙◌}
+use Rattle.std.proofs.Common.{◌≡◌, inl, inr, ℕ, ◌<◌, length, List, [], Bool, true, false, not, ◌&&◌, refl, sym, ap, ◌∙◌}
 use Rattle.ymx_machine.specs.declared.types.Call.TheVariants as call
 use Rattle.ymx_machine.specs.shared.Events.{Reply}
 use Rattle.ymx_model.specs.declared.types.Event.TheVariants as event
@@ -10,7 +10,7 @@ use Rattle.ymx_session.specs.Streams.{waiting}
 use Rattle.ymx_engine.specs.declared.ways.Ways.{Ways}
 use Rattle.ymx_engine.specs.Devices.{Seen, Marks}
 use Rattle.ymx_engine.specs.Served.{GainsNone}
-use Rattle.ymx_engine.specs.Serves.{HearsEnd, PutsDue, Sends, Part, tells_end, is_silent, is_stopped}
+use Rattle.ymx_engine.specs.Serves.{HearsEnd, PutsDue, TakesAndGives, Part, tells_end, is_silent, is_stopped}
 use Rattle.ymx_engine.specs.Ways.{is_open, may_push}
 use Rattle.ymx_engine.proofs.Asking.{wait_goes}
 use Rattle.ymx_engine.proofs.Ending.{NoneEnd, emissions_end_none, turn_still, read_goes, waiting_goes}
@@ -49,7 +49,7 @@ status_was id n told s t g runs = sym (ap is_running (steady_status (event.Call 
 pub due_ends : (s t : Session) (out new : List ℕ) → PutsDue s t out new → NoneEnd s t
 due_ends s t out new x = emissions_end_none x.events s t x.happen x.own
 
-pub sends_end : (id : ℕ) (bytes : List ℕ) (s t : Session) (out new : List ℕ) → Sends id bytes s t out new → NoneEnd s t
+pub sends_end : (id : ℕ) (bytes : List ℕ) (s t : Session) (out new : List ℕ) → TakesAndGives id bytes [] s t out new → NoneEnd s t
 sends_end id bytes s t out new x = turn_still id x.events s t x.happen x.own x.gives x.resets
 
 -- a way that is open was

@@ -28,7 +28,7 @@ use Rattle.ymx_engine.specs.declared.ways.Flow.TheVariants as flow
 use Rattle.ymx_engine.specs.Devices.{Seen, Marks, may_have_more, may_take_more, after_pull, after_push, IsPulled, IsPushed, IsEnded, IsShut, one_read}
 use Rattle.ymx_engine.specs.Events.{is_on, took_count, taken_at, taken, bytes_of, given_at, given, is_read_end, ends_at, has_end, finishes_at, has_finish, resets_at, has_reset, is_refusal, is_stop, stops_at, has_stop, is_memory_refusal, lacks_memory_at, lacks_memory}
 use Rattle.ymx_engine.specs.Lives.{all_of}
-use Rattle.ymx_engine.specs.Serves.{is_of_turn, is_emission, is_silent, is_stopped, Exchanges, IsEnough, GivesWhole, Turn, Part, Delivers, Sends, PutsDue}
+use Rattle.ymx_engine.specs.Serves.{is_of_turn, is_emission, is_silent, is_stopped, Exchanges, GivesWhole, Turn, Part, Delivers, TakesAndGives, PutsDue}
 use Rattle.ymx_engine.specs.Ways.{is_open, break_if, broken_off, ways_at, ways_after, may_push, may_pull}
 use Rattle.ymx_engine.specs.Wires.{emitted}
 use Rattle.ymx_engine.proofs.Quiet.{both, quiet}
@@ -36,7 +36,7 @@ use Rattle.ymx_engine.proofs.Asking.{empty_never_lacks}
 use Rattle.ymx_engine.proofs.Coming.{IsCalm, turn_is_calm}
 use Rattle.ymx_engine.proofs.Exchanging.{happen_then, taken_then, given_then, end_then, finish_then, reset_then, stop_then, lacks_then, or_second, or_none, or_same, same_id, or_off, or_on, refused_goes, same_consumes, same_appends, at_end, still, none_pulled, none_pushed, end_granted, some_bytes}
 use Rattle.ymx_engine.proofs.Hearing.{never}
-use Rattle.ymx_engine.proofs.Serving.{puts_then}
+use Rattle.ymx_engine.proofs.Serving.{puts_then, all_emissions}
 use Rattle.ymx_engine.proofs.Steady.{steady_all, turn_steady}
 use Rattle.ymx_engine.proofs.Trading.{trades_quiet, trades_then, all_then}
 use Rattle.ymx_engine.proofs.WaysAfter.{ways_then, to_peer_was, from_peer_was, stop_breaks_to, stop_breaks_from, ways_same, ways_kept, ways_broken, ways_finished, ways_ended, ways_lacked}
@@ -208,18 +208,6 @@ part_due {id} {s} {t} {out} {new} {a} {w} x =
       pull_on = λ on. inl on;
       push_on = λ on. inl on;
     }
-  where
-    emission_of_turn : (id : ℕ) (e : Event) → is_emission e ≡ true → is_of_turn id e ≡ true
-    emission_of_turn id (event.Call c) h = let no : ⊥ = cc in absurd no
-    emission_of_turn id (event.Feed bytes) h = let no : ⊥ = cc in absurd no
-    emission_of_turn id event.FeedEnd h = let no : ⊥ = cc in absurd no
-    emission_of_turn id (event.Emit room) h = refl
-
-    all_emissions : (id : ℕ) (es : List (Event × Reply)) → list_all (λ e. is_emission e.0) es ≡ true → list_all (λ e. is_of_turn id e.0) es ≡ true
-    all_emissions id [] h = refl
-    all_emissions id (e ∷ es) h =
-        let two = both (is_emission e.0) (list_all (λ e. is_emission e.0) es) h in
-        rw (emission_of_turn id e.0 two.0) (all_emissions id es two.1)
 
 -- ---- what a part leaves
 
@@ -352,72 +340,64 @@ and_none : (b : Bool) → (b && false) ≡ false
 and_none true = refl
 and_none false = refl
 
--- more bytes are enough too
-pub more_enough : (id m n : ℕ) (s : Session) → m ≤ n → IsEnough m id s → IsEnough n id s
-more_enough id m n s le (inl all) = inl (omega (arith, all, le))
-more_enough id m n s le (inr (some, half)) = inr (omega (arith, some, le), omega (arith, half, le))
-
--- where some wait none are not enough
-pub some_enough : (id n : ℕ) (s : Session) → 0 < length (waiting id s) → IsEnough n id s → 0 < n
-some_enough id n s some (inl all) = omega (arith, all, some)
-some_enough id n s some (inr half) = half.0
-
--- as many as wait of so many are enough
-all_enough : (id most : ℕ) (s : Session) → IsEnough most id s → IsEnough (length (take most (waiting id s))) id s
-all_enough id most s enough = by (nat_le (length (waiting id s)) most) refl
+-- a device that was offered all that waits took all, or may take none now
+took_all : (w : Ways) (n offered waits went : ℕ) (a b : Marks) → b.may_push ≡ (a.may_push && nat_le offered n) → waits ≤ offered → n ≡ went → (waits ≤ went) ⊎ (may_push w b ≡ false)
+took_all w n offered waits went a b e fits same = by (nat_le offered n) refl
   where
-    by : (all : Bool) → nat_le (length (waiting id s)) most ≡ all → IsEnough (length (take most (waiting id s))) id s
-    by true all = inl (grind (arith, nat_tests, common_steps))
-    by false few =
-        let l : length (take most (waiting id s)) ≡ most = length-take-le most (waiting id s) (grind (arith, nat_tests)) in
-        subst (λ (n : ℕ). IsEnough n id s) (sym l) enough
-
--- a device that was offered enough took it, or may take none now
-took_enough : (id : ℕ) (w : Ways) (n offered went : ℕ) (s : Session) (a b : Marks) → b.may_push ≡ (a.may_push && nat_le offered n) → IsEnough offered id s → n ≡ went → IsEnough went id s ⊎ (may_push w b ≡ false)
-took_enough id w n offered went s a b e enough same = by (nat_le offered n) refl
-  where
-    by : (all : Bool) → nat_le offered n ≡ all → IsEnough went id s ⊎ (may_push w b ≡ false)
-    by true all = let le : offered ≤ n = grind (arith, nat_tests) in inl (more_enough id offered went s (omega (arith, le, same)) enough)
+    by : (all : Bool) → nat_le offered n ≡ all → (waits ≤ went) ⊎ (may_push w b ≡ false)
+    by true all = let le : offered ≤ n = grind (arith, nat_tests) in inl (omega (arith, le, fits, same))
     by false few = inr (rw (e, few, and_none a.may_push) refl)
 
 -- bytes that waited were pushed, and are taken out
-pub pushed_some : {id : ℕ} {s t : Session} {a b : Seen} {w : Ways} {bytes : List ℕ} → (n most : ℕ) (told : Reply) → IsPushed (pushed.Took n) bytes a b → bytes ≡ take most (waiting id s) → IsEnough most id s →
-    Gives in_turn s (event.Call (call.Read id n)) told t → bytes_of told ≡ take n (waiting id s) → is_read_end told ≡ false → is_refusal told ≡ false → Delivers id s t a b w w 2
-unfolding part_one
-pushed_some {id} {s} {t} {a} {b} {w} {bytes} n most told p all enough g gave going granted =
-    let i = same_id id in
-    let few : n ≤ length (take most (waiting id s)) = let within = p.within in omega (arith, within, ap length all) in
-    let same : take n bytes ≡ bytes_of told = ap (take n) all ∙ first_of n most (waiting id s) few ∙ sym gave in
-    let ends : ends_at id (event.Call (call.Read id n)) told ≡ false = rw (i, going) refl in
-    let stops : stops_at id (event.Call (call.Read id n)) told ≡ false = rw (i, granted) refl in
+pub pushed_some : {id : ℕ} {s t : Session} {out new : List ℕ} {a b : Seen} {w : Ways} {bytes : List ℕ} → (n : ℕ) → IsPushed (pushed.Took n) bytes a b → bytes ≡ waiting id s → TakesAndGives id [] (take n (waiting id s)) s t out new → Delivers id s t out new a b w w 2
+pushed_some {id} {s} {t} {out} {new} {a} {b} {w} {bytes} n p all x =
+    let gives : given id x.events ≡ take n bytes = x.gives ∙ ap (take n) (sym all) in
     let marks = push_after a.marks b.marks (pushed.Took n) (length bytes) p.marks in
-    let given_is : given_at id (event.Call (call.Read id n)) told ≡ take n bytes = rw i (sym same) in
     record {
-      part = part_one (call.Read id n) told false g i refl
-          (same_consumes a.left b.left p.left) (subst (Appends a.had b.had) (sym given_is) p.took) (λ h. cc)
-          (p.over ∙ or_same a.over) (p.ended ∙ or_off _ a.ended ends) p.failed refl (p.shut ∙ or_off _ a.shut stops)
-          (sym (ways_same id (event.Call (call.Read id n)) told w refl ends stops)) (let f = p.counted in omega arith)
-          (only_same a.marks.may_pull b.marks.may_pull _ marks.0) (only_and a.marks.may_push _ b.marks.may_push _ marks.1);
-      delivers = λ may. took_enough id w n (length bytes) _ s a.marks b.marks marks.1 (subst (λ (v : List ℕ). IsEnough (length v) id s) (sym all) (all_enough id most s enough)) (sym (length-take-le n bytes p.within) ∙ sym (ap length (append-nil (given_at id (event.Call (call.Read id n)) told) ∙ given_is)));
+      part = record {
+        moved = record {
+          events = x.events;
+          happen = x.happen;
+          own = x.own;
+          trades = record {
+            pieces = [];
+            kept = x.takes;
+            to_peer = same_consumes a.left b.left p.left;
+            from_peer = subst (Appends a.had b.had) (sym gives) p.took;
+            whole = λ h. let f = x.finishes in let no : ⊥ = cc in absurd no;
+            over = p.over ∙ or_off _ a.over x.finishes;
+            ended = p.ended ∙ or_off _ a.ended x.ends;
+            fails = false;
+            failed = p.failed;
+            reset = x.resets;
+            cause = λ h. cc;
+            shut = p.shut ∙ or_off _ a.shut x.stops;
+          };
+          to_wire = x.to_wire;
+        };
+        few = let f = p.counted in omega arith;
+        ways = sym (ways_kept id x.events w x.finishes x.ends x.stops);
+        gives = refl;
+        pull_on = only_same a.marks.may_pull b.marks.may_pull _ marks.0;
+        push_on = only_and a.marks.may_push _ b.marks.may_push _ marks.1;
+      };
+      delivers = λ may. took_all w n (length bytes) (length (waiting id s)) _ a.marks b.marks marks.1 (omega (arith, ap length all)) (sym (length-take-le n bytes p.within) ∙ sym (ap length gives));
     }
-  where
-    first_of : (n most : ℕ) (xs : List ℕ) → n ≤ length (take most xs) → take n (take most xs) ≡ take n xs
-    first_of n most xs few = grind (arith, common_steps)
 
 -- none were taken, and it may take none now
-pub pushed_none : {id : ℕ} {s : Session} {a b : Seen} {w : Ways} {bytes : List ℕ} → IsPushed pushed.NotNow bytes a b → Delivers id s s a b w w 2
-pushed_none {id} {s} {a} {b} {w} {bytes} p =
+pub pushed_none : {id : ℕ} {s : Session} {out : List ℕ} {a b : Seen} {w : Ways} {bytes : List ℕ} → IsPushed pushed.NotNow bytes a b → Delivers id s s out out a b w w 2
+pushed_none {id} {s} {out} {a} {b} {w} {bytes} p =
     let marks = push_after a.marks b.marks pushed.NotNow (length bytes) p.marks in
     record {
-      part = part_none (same_consumes a.left b.left p.left) (none_pushed pushed.NotNow bytes a b p refl) p.over p.ended (still false a.failed b.failed p.failed refl) p.shut (let f = p.counted in omega arith)
-          (only_same a.marks.may_pull b.marks.may_pull false marks.0) (only_and a.marks.may_push false b.marks.may_push false marks.1);
+      part = part_beside out (part_none (same_consumes a.left b.left p.left) (none_pushed pushed.NotNow bytes a b p refl) p.over p.ended (still false a.failed b.failed p.failed refl) p.shut (let f = p.counted in omega arith)
+          (only_same a.marks.may_pull b.marks.may_pull false marks.0) (only_and a.marks.may_push false b.marks.may_push false marks.1));
       delivers = λ may. inr (rw (marks.1 ∙ and_none a.marks.may_push) refl);
     }
 
 -- the calls may be more
-pub pushed_within : {id : ℕ} {s t : Session} {a b : Seen} {w x : Ways} → Delivers id s t a b w x 2 → Delivers id s t a b w x 3
+pub pushed_within : {id : ℕ} {s t : Session} {out new : List ℕ} {a b : Seen} {w x : Ways} → Delivers id s t out new a b w x 2 → Delivers id s t out new a b w x 3
 unfolding part_within
-pushed_within {id} {s} {t} {a} {b} {w} {x} d = record { part = part_within (omega arith) d.part; delivers = d.delivers }
+pushed_within {id} {s} {t} {out} {new} {a} {b} {w} {x} d = record { part = part_within (omega arith) d.part; delivers = d.delivers }
 
 -- one that was shut takes none
 broken_push : (w x : Ways) (m : Marks) → x ≡ broken_off w → may_push x m ≡ false
@@ -430,8 +410,8 @@ broken_push w x m e = ap (λ (v : Ways). may_push v m) e ∙ by m.may_push w.fro
     by false f = refl
 
 -- it failed as bytes were pushed
-pub pushed_failed : {id : ℕ} {s t : Session} {a b c : Seen} {w x : Ways} {bytes : List ℕ} → (told : Reply) → IsPushed pushed.Failed bytes a b → Gives in_turn s (event.Call (call.Reset id)) told t → IsShut b c → x ≡ broken_off w → Delivers id s t a c w x 2
-pushed_failed {id} {s} {t} {a} {b} {c} {w} {x} {bytes} told p g q e = record { part = push_failed told p g q e; delivers = λ may. inr (broken_push w x c.marks e) }
+pub pushed_failed : {id : ℕ} {s t : Session} {out : List ℕ} {a b c : Seen} {w x : Ways} {bytes : List ℕ} → (told : Reply) → IsPushed pushed.Failed bytes a b → Gives in_turn s (event.Call (call.Reset id)) told t → IsShut b c → x ≡ broken_off w → Delivers id s t out out a c w x 2
+pushed_failed {id} {s} {t} {out} {a} {b} {c} {w} {x} {bytes} told p g q e = record { part = part_beside out (push_failed told p g q e); delivers = λ may. inr (broken_push w x c.marks e) }
 
 -- nothing came
 pub pulled_none : {id : ℕ} {s : Session} {a b : Seen} {w : Ways} {buffer : List ℕ} → IsPulled pulled.NotNow buffer a b → Part id s s [] [] a b w w 2 0
@@ -452,7 +432,7 @@ finished {id} {s} {t} {a} {b} {w} {buffer} told p g open_ =
     (only_and a.marks.may_pull false b.marks.may_pull _ marks.0) (only_same a.marks.may_push b.marks.may_push _ marks.1)
 
 -- bytes came, and the stream took them
-pub gave_sent : {id : ℕ} {s t : Session} {out new : List ℕ} {a b : Seen} {w : Ways} {bytes buffer : List ℕ} → (n : ℕ) → IsPulled (pulled.Gave n) buffer a b → bytes ≡ take n buffer → Sends id bytes s t out new → Part id s t out new a b w w 2 n
+pub gave_sent : {id : ℕ} {s t : Session} {out new : List ℕ} {a b : Seen} {w : Ways} {bytes buffer : List ℕ} → (n : ℕ) → IsPulled (pulled.Gave n) buffer a b → bytes ≡ take n buffer → TakesAndGives id bytes [] s t out new → Part id s t out new a b w w 2 n
 gave_sent {id} {s} {t} {out} {new} {a} {b} {w} {bytes} {buffer} n p same x =
     let marks = pull_after a.marks b.marks (pulled.Gave n) (length buffer) p.marks in
     record {
@@ -486,7 +466,7 @@ gave_sent {id} {s} {t} {out} {new} {a} {b} {w} {bytes} {buffer} n p same x =
 
 -- bytes came, for some of which there was no memory: the stream was reset, and the device shut
 pub gave_lost : {id : ℕ} {s m t u : Session} {out new : List ℕ} {a b c : Seen} {w x : Ways} {bytes buffer : List ℕ} → (n count : ℕ) (told last : Reply) → IsPulled (pulled.Gave n) buffer a b → bytes ≡ take n buffer →
-    Sends id (take count bytes) s m out new → Gives in_turn m (event.Call (call.Write id (drop count bytes))) told t → took_count told ≡ 0 → is_memory_refusal told ≡ true → 0 < length (drop count bytes) →
+    TakesAndGives id (take count bytes) [] s m out new → Gives in_turn m (event.Call (call.Write id (drop count bytes))) told t → took_count told ≡ 0 → is_memory_refusal told ≡ true → 0 < length (drop count bytes) →
     Gives in_turn t (event.Call (call.Reset id)) last u → IsShut b c → x ≡ broken_off (record w { lacked_memory = true }) → Part id s u out new a c w x 2 n
 gave_lost {id} {s} {m} {t} {u} {out} {new} {a} {b} {c} {w} {x} {bytes} {buffer} n count told last p same y g none lacks some r q e =
     let i = same_id id in
@@ -555,22 +535,6 @@ broken_to w x e = ap (λ (v : Ways). is_open v.to_peer) e ∙ by w.to_peer
     by flow.Ended = refl
     by flow.Broken = refl
 
--- so many bytes of two pieces
-pub first_of_two : (most : ℕ) (xs ys all first wrapped : List ℕ) → xs ++ ys ≡ all → first ≡ take most xs → wrapped ≡ take (most - length first) ys → first ++ wrapped ≡ take most all
-first_of_two most xs ys all first wrapped e f w =
-    rw (f, w, f) (by (nat_le most (length xs)) refl ∙ ap (take most) e)
-  where
-    by : (few : Bool) → nat_le most (length xs) ≡ few → take most xs ++ take (most - length (take most xs)) ys ≡ take most (xs ++ ys)
-    by true few =
-        let le : most ≤ length xs = grind (arith, nat_tests) in
-        let none : most - length (take most xs) ≡ 0 = omega (arith, length-take-le most xs le) in
-        ap (λ (n : ℕ). take most xs ++ take n ys) none ∙ append-nil (take most xs) ∙ sym (take-append-le most xs ys le)
-    by false many =
-        let le : length xs ≤ most = grind (arith, nat_tests) in
-        let whole : take most xs ≡ xs = take_all most xs le in
-        let sum : length xs + (most - length xs) ≡ most = omega (arith, le) in
-        ap (λ (v : List ℕ). v ++ take (most - length v) ys) whole ∙ sym (take-append-add xs ys (most - length xs)) ∙ ap (λ (n : ℕ). take n (xs ++ ys)) sum
-
 -- the way to it stays shut
 pub stays_shut : {id : ℕ} {s t : Session} {out new : List ℕ} {a b : Seen} {w x : Ways} {m g : ℕ} → Part id s t out new a b w x m g → is_open w.from_peer ≡ false → is_open x.from_peer ≡ false
 stays_shut {id} {s} {t} {out} {new} {a} {b} {w} {x} {m} {g} p off =
@@ -608,7 +572,7 @@ part_status {id} {s} {t} {out} {new} {a} {b} {w} {x} {m} {g} p = steady_all (is_
 
 -- Writes, then the question whether the stream takes bytes still, then reads. `more` is on where one of these says so, and where
 -- a session that is over was not told.
-pub turn_of : {id g most : ℕ} {r s t u : Session} {out new : List ℕ} {a b c d : Seen} {w x y z : Ways} → (pushes pulls more : Bool) → (p : Delivers id r s a b w x 3) → (q : Part id s t [] [] b c x y 1 0) → t ≡ s → (v : Part id t u out new c d y z 4 g) →
+pub turn_of : {id g most : ℕ} {r s t u : Session} {out mid new : List ℕ} {a b c d : Seen} {w x y z : Ways} → (pushes pulls more : Bool) → (p : Delivers id r s out mid a b w x 3) → (q : Part id s t [] [] b c x y 1 0) → t ≡ s → (v : Part id t u mid new c d y z 4 g) →
     (may_push x b.marks ≡ true → 0 < length (waiting id s) → pushes ≡ true) →
     (0 < most → may_pull y c.marks ≡ true → (0 < g) ⊎ ((may_pull z d.marks ≡ false) ⊎ (room_of id u ≡ 0))) →
     (0 < most → may_pull z d.marks ≡ true → 0 < room_of id u → pulls ≡ true) →
@@ -618,8 +582,9 @@ pub turn_of : {id g most : ℕ} {r s t u : Session} {out new : List ℕ} {a b c 
     (more ≡ true → ((pushes ≡ true) × (may_push z d.marks ≡ true)) ⊎ (((may_pull z d.marks ≡ true) × (0 < g)) ⊎ ((is_running u.status ≡ false) × (is_open z.to_peer ≡ true)))) →
     Turn id most r u out new a d w z more g
 unfolding part_beside
-turn_of {id} {g} {most} {r} {s} {t} {u} {out} {new} {a} {b} {c} {d} {w} {x} {y} {z} pushes pulls more p q same v stays collects asks_on by-pushes by-pulls hears shared fills tells stops went rests =
-    let first = part_beside out (part_then p.part q) in
+turn_of {id} {g} {most} {r} {s} {t} {u} {out} {mid} {new} {a} {b} {c} {d} {w} {x} {y} {z} pushes pulls more p q same v stays collects asks_on by-pushes by-pulls hears shared fills tells stops went rests =
+    let beside = part_beside mid q in
+    let first = part_then p.part beside in
     let all = part_then first v in
     let silent : may_push z d.marks ≡ true → is_silent id u ≡ true → pushes ≡ true = λ may h.
     let on = tells.ends (both d.marks.may_push (is_open z.from_peer) may).1 h in
@@ -631,7 +596,7 @@ turn_of {id} {g} {most} {r} {s} {t} {u} {out} {new} {a} {b} {c} {d} {w} {x} {y} 
       gives = let e = all.gives in omega arith;
       within = shared;
       delivers = λ may. elim (p.delivers may) [
-        | inl enough ↦ inl (more_enough id (length (given id p.part.moved.events)) _ r (went_first _ first v (went_first _ p.part q (omega arith))) enough)
+        | inl all ↦ inl (went_first (length (waiting id r)) first v (went_first (length (waiting id r)) p.part beside all))
         | inr off ↦ inr (push_off v (push_off q off))
       ];
       fills = fills;
@@ -640,8 +605,8 @@ turn_of {id} {g} {most} {r} {s} {t} {u} {out} {new} {a} {b} {c} {d} {w} {x} {y} 
       push_on = all.push_on;
       stays = λ within may some.
           let before = part_calm p.part within in
-          let beside = part_calm q before.within in
-          let after = part_calm v beside.within in
+          let between = part_calm q before.within in
+          let after = part_calm v between.within in
           by-pushes (stays (could_push q (could_push v may)) (subst (λ (e : Session). 0 < length (waiting id e)) same ((after.came id).bytes some))) may;
       asks_on = λ on may some. by-pulls (asks_on on may some);
       hears = hears;
@@ -651,7 +616,7 @@ turn_of {id} {g} {most} {r} {s} {t} {u} {out} {new} {a} {b} {c} {d} {w} {x} {y} 
         | inl x ↦ let k = went x.0 in inl (
           x.1,
           elim (p.delivers k.0) [
-            | inl enough ↦ some_bytes (given id (part_then first v).moved.events) (let some = some_enough id _ r k.1 enough in let long = went_first (length (given id p.part.moved.events)) first v (went_first _ p.part q (omega arith)) in omega (arith, long, some))
+            | inl all ↦ some_bytes (given id (part_then first v).moved.events) (let long = went_first (length (waiting id r)) first v (went_first (length (waiting id r)) p.part beside all) in omega (arith, long, k.1))
             | inr off ↦ absurd (let may = k.2 in cc)
           ],
         )

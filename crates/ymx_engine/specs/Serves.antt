@@ -1,5 +1,5 @@
 -- What a connection moves in one turn (this project's own).
-use Rattle.std.specs.Prelude.{ℕ, ◌≡◌, ◌⊎◌, ◌+◌, ◌*◌, ◌<◌, ◌≤◌, ◌++◌, List, [], length, min, Bool, true, false}
+use Rattle.std.specs.Prelude.{ℕ, ◌≡◌, ◌⊎◌, ◌+◌, ◌<◌, ◌≤◌, ◌++◌, List, [], length, min, Bool, true, false}
 use Rattle.std.specs.List.{list_all}
 use Rattle.ymx_model.specs.session.Events.{Event}
 use Rattle.ymx_model.specs.declared.types.Event.TheVariants as event
@@ -9,7 +9,7 @@ use Rattle.ymx_model.specs.session.Sessions.{Session}
 use Rattle.ymx_model.specs.session.Sessions.{is_running}
 use Rattle.ymx_model.specs.session.Calls.{read_from, write_to}
 use Rattle.ymx_law_session.specs.Limits.{IsWithin}
-use Rattle.ymx_session.specs.Streams.{waiting, room_of, granted_of}
+use Rattle.ymx_session.specs.Streams.{waiting, room_of}
 use Rattle.ymx_engine.specs.declared.ways.Ways.{Ways}
 use Rattle.ymx_engine.specs.Devices.{Seen, Marks, one_read}
 use Rattle.ymx_engine.specs.Events.{Happen, is_on, taken, given, has_end, has_finish, has_reset, is_stop, has_stop}
@@ -59,14 +59,9 @@ is_stopped id s = is_stop (write_to id [] s).reply
 abbrev pub GivesWhole : (gave least room : ℕ) → Ways → Marks → Type 0
 GivesWhole gave least room now m = may_pull now m ≡ true → m.is_closing ≡ false → 0 < room → least ≤ gave
 
--- So many bytes are all that wait on the stream, or as many as make credit due (flow control): then what the peer may send and what
--- waits are half the window at most.
-abbrev pub IsEnough : (count id : ℕ) → Session → Type 0
-IsEnough count id s = (length (waiting id s) ≤ count) ⊎ ((0 < count) × (2 * (granted_of id s + length (waiting id s)) ≤ s.table.window + 2 * count))
-
 -- One turn of a connection, in which it gives so many bytes at most, and isn't read where that is none. Nothing happened but what
 -- `Exchanges` says, in at most eight calls of the device, and its ways follow that. Where bytes waited that the device might
--- take, it took enough, or may take none now. Where it might have bytes and was to be read, it gave some, or may have none now, or
+-- take, it took all, or may take none now. Where it might have bytes and was to be read, it gave some, or may have none now, or
 -- the stream takes none; and where it may have more still, and the stream takes more, it gave as much as it might or a whole read,
 -- unless its end is near. No mark went on, unless the device was shut. It has more to do at least where bytes wait still that the device may
 -- take, or no more come; where it may have bytes that the stream takes, and was to be read; where the stream takes none any more,
@@ -79,7 +74,7 @@ pub record Turn (id most : ℕ) (s t : Session) (out out_new : List ℕ) (before
   pub ways : now ≡ ways_after id moved.events was
   pub gives : gave ≡ length (all_of moved.trades.pieces)
   pub within : gave ≤ most
-  pub delivers : may_push was before.marks ≡ true → IsEnough (length (given id moved.events)) id s ⊎ (may_push now after.marks ≡ false)
+  pub delivers : may_push was before.marks ≡ true → (length (waiting id s) ≤ length (given id moved.events)) ⊎ (may_push now after.marks ≡ false)
   pub collects : 0 < most → may_pull was before.marks ≡ true → (0 < gave) ⊎ ((may_pull now after.marks ≡ false) ⊎ (room_of id t ≡ 0))
   pub fills : 0 < most → GivesWhole gave (min most one_read) (room_of id t) now after.marks
   pub pull_on : after.marks.may_pull ≡ true → (before.marks.may_pull ≡ true) ⊎ (has_stop id moved.events ≡ true)
@@ -103,19 +98,19 @@ pub record Part (id : ℕ) (s t : Session) (out out_new : List ℕ) (before afte
   pub pull_on : after.marks.may_pull ≡ true → (before.marks.may_pull ≡ true) ⊎ (has_stop id moved.events ≡ true)
   pub push_on : after.marks.may_push ≡ true → (before.marks.may_push ≡ true) ⊎ (has_stop id moved.events ≡ true)
 
--- A part in which the device gave nothing, and nothing came to wait for the wire. Where bytes waited that the device might take,
--- it took enough, or may take none now.
-pub record Delivers (id : ℕ) (s t : Session) (before after : Seen) (was now : Ways) (calls : ℕ) : Type 0 where
-  pub part : Part id s t [] [] before after was now calls 0
-  pub delivers : may_push was before.marks ≡ true → IsEnough (length (given id part.moved.events)) id s ⊎ (may_push now after.marks ≡ false)
+-- A part in which the device gave nothing. Where bytes waited that the device might take, it took all, or may take none now.
+pub record Delivers (id : ℕ) (s t : Session) (out out_new : List ℕ) (before after : Seen) (was now : Ways) (calls : ℕ) : Type 0 where
+  pub part : Part id s t out out_new before after was now calls 0
+  pub delivers : may_push was before.marks ≡ true → (length (waiting id s) ≤ length (given id part.moved.events)) ⊎ (may_push now after.marks ≡ false)
 
--- Nothing happened but writes of this stream, which took just these bytes, and emissions, which wait behind what waited.
-pub record Sends (id : ℕ) (bytes : List ℕ) (s t : Session) (out out_new : List ℕ) : Type 0 where
+-- Nothing happened but writes and reads of this stream, which took and gave just these bytes, and emissions, which wait behind what
+-- waited.
+pub record TakesAndGives (id : ℕ) (took gave : List ℕ) (s t : Session) (out out_new : List ℕ) : Type 0 where
   pub events : List (Event × Reply)
   pub happen : Happen events s t
   pub own : list_all (λ e. is_of_turn id e.0) events ≡ true
-  pub takes : taken id events ≡ bytes
-  pub gives : given id events ≡ []
+  pub takes : taken id events ≡ took
+  pub gives : given id events ≡ gave
   pub ends : has_end id events ≡ false
   pub finishes : has_finish id events ≡ false
   pub resets : has_reset id events ≡ false

@@ -1,6 +1,6 @@
 //! What moves between a stream and its device in one turn.
 
-ghost use Rattle.std.specs.Prelude.{◌≡◌, ◌⊎◌, ◌<◌, ◌≤◌, ◌++◌, ◌&&◌, not, [], length, min, true, false};
+ghost use Rattle.std.specs.Prelude.{◌≡◌, ◌⊎◌, ◌<◌, ◌≤◌, ◌++◌, ◌&&◌, not, [], length, take, min, true, false};
 ghost use Rattle.ymx_model.specs.declared.types.Event.TheVariants as event;
 ghost use Rattle.ymx_model.specs.session.Sessions.{is_running};
 ghost use Rattle.ymx_machine.specs.declared.types.Call.TheVariants as call;
@@ -10,24 +10,18 @@ ghost use Rattle.ymx_model.specs.session.Histories.{Gives};
 ghost use Rattle.ymx_session.specs.Streams.{waiting, room_of};
 ghost use Rattle.ymx_engine.specs.Devices.{IsPushed, IsShut, one_read};
 ghost use Rattle.ymx_engine.specs.Served.{GainsNone};
-ghost use Rattle.ymx_engine.specs.Serves.{Turn, Part, Delivers, IsEnough, GivesWhole, HearsEnd, HearsStop, is_silent, is_stopped};
+ghost use Rattle.ymx_engine.specs.Serves.{Turn, Part, Delivers, TakesAndGives, GivesWhole, HearsEnd, HearsStop, is_silent, is_stopped};
 ghost use Rattle.ymx_engine.specs.Ways.{is_open, may_push, may_pull, broken_off};
 
 use crate::block::Block;
 use crate::buffers::{BLOCK, FRAME};
 use crate::calls::{Unreadable, ask, finish, is_stopped, reset, take_out};
 use crate::device::{Device, Pulled, Pushed};
-use crate::row::front;
 use crate::sending::{put_due, send};
 use crate::ways::{Flow, Ways};
 use std::io::IoSlice;
-use ymx_header::MOST_RECORDS;
 use ymx_model::Status;
 use ymx_session::Session;
-
-/// How many more streams may be there where eight are. More streams than that keep a long line full though little more than half of
-/// each window is under way, and a write that stops where credit falls due costs them a tenth of the processor time.
-const LEFT_BY_FEW: usize = MOST_RECORDS - 8;
 
 /// What a turn came to, or its reads.
 #[derive(Clone, Copy)]
@@ -69,7 +63,7 @@ pub(crate) fn serve<D: Device>(
     // One that may take none, as where its connection is still being made, hears where the stream takes none any more.
     ensures tells { may_push ways.old (D.seen device.old).marks ≡ false → HearsStop id session.old ways.new }
 {
-    let writes = deliver(session, id, ways, device);
+    let writes = deliver(session, id, ways, device, outgoing);
     hear_stop(session, id, ways, device);
     let read = collect(session, id, ways, device, buffer, outgoing, most);
     TurnEnd {
@@ -87,8 +81,14 @@ fn is_untold(session: &Session, ways: &Ways) -> bool
 
 /// Writes to the device once, where it may take bytes. Where none wait on the stream it is told why, if no more come. Whether more
 /// may be written at once.
-fn deliver<D: Device>(session: &mut Session, id: u32, ways: &mut Ways, device: &mut D) -> bool
-    ensures delivered { Delivers id session.old session.new (D.seen device.old) (D.seen device.new) ways.old ways.new 3 }
+fn deliver<D: Device>(
+    session: &mut Session,
+    id: u32,
+    ways: &mut Ways,
+    device: &mut D,
+    outgoing: &mut Block,
+) -> bool
+    ensures delivered { Delivers id session.old session.new outgoing.old outgoing.new (D.seen device.old) (D.seen device.new) ways.old ways.new 3 }
     ensures goes_on { result ≡ true → may_push ways.new (D.seen device.new).marks ≡ true }
     // More may be written only where some could be.
     ensures some { result ≡ true → (may_push ways.old (D.seen device.old).marks ≡ true) × (0 < length (waiting id session.old)) }
@@ -107,7 +107,7 @@ fn deliver<D: Device>(session: &mut Session, id: u32, ways: &mut Ways, device: &
         hear_silence(session, id, ways, device);
         return false;
     }
-    if !push_once(session, id, ways, device) {
+    if !push_once(session, id, ways, device, outgoing) {
         return false;
     }
     if session.unread_count(id) > 0 {
@@ -117,21 +117,23 @@ fn deliver<D: Device>(session: &mut Session, id: u32, ways: &mut Ways, device: &
     false
 }
 
-/// Writes to the device once: all that waits, or as much as makes credit due. That goes to the peer before more is taken, so that
-/// each half of the window is announced as it is read, and the peer can fill the other. Whether the device may take more.
-fn push_once<D: Device>(session: &mut Session, id: u32, ways: &mut Ways, device: &mut D) -> bool
+/// Writes to the device once, all that waits. Whether it may take more.
+fn push_once<D: Device>(
+    session: &mut Session,
+    id: u32,
+    ways: &mut Ways,
+    device: &mut D,
+    outgoing: &mut Block,
+) -> bool
     requires some { 0 < length (waiting id session.old) }
-    ensures delivered { Delivers id session.old session.new (D.seen device.old) (D.seen device.new) ways.old ways.new 2 }
+    ensures delivered { Delivers id session.old session.new outgoing.old outgoing.new (D.seen device.old) (D.seen device.new) ways.old ways.new 2 }
     ensures goes_on { result ≡ may_push ways.new (D.seen device.new).marks }
     ensures takes { may_push ways.new (D.seen device.new).marks ≡ true → is_running session.new.status ≡ true → is_stopped id session.new ≡ false }
 {
-    let most = until_credit(session, id);
     let (first, wrapped) = session.unread_slices(id);
-    let first = front(first, most);
-    let wrapped = front(wrapped, most - first.len());
     match push_all(device, first, wrapped) {
         Pushed::Took(count) => {
-            take_out(session, id, count);
+            take_out_announcing(session, id, count, outgoing);
             ways.may_push(device)
         }
         Pushed::NotNow => false,
@@ -142,21 +144,27 @@ fn push_once<D: Device>(session: &mut Session, id: u32, ways: &mut Ways, device:
     }
 }
 
-/// How many of the bytes that wait are written at once: as many as make credit due (flow control), while few streams are there. All,
-/// where it is due already or none is.
-fn until_credit(session: &Session, id: u32) -> usize
-    ensures enough { IsEnough result id session.now }
+/// Takes out the first `count` of the bytes that wait. Where credit falls due within them (flow control), it goes to the peer before
+/// the rest is taken: each half of the window is announced as it is read, so that the peer can fill the other.
+fn take_out_announcing(session: &mut Session, id: u32, count: usize, outgoing: &mut Block)
+    requires some { 0 < count }
+    requires there { count ≤ length (waiting id session.old) }
+    ensures took { TakesAndGives id [] (take count (waiting id session.old)) session.old session.new outgoing.old outgoing.new }
+    ensures takes { is_running session.new.status ≡ true → is_stopped id session.new ≡ false }
 {
-    let waits = session.unread_count(id);
-    if session.records_left() < LEFT_BY_FEW {
-        return waits;
+    let first = until_credit(session, id).max(1).min(count);
+    take_out(session, id, first);
+    if first < count {
+        put_due(session, outgoing);
+        take_out(session, id, count - first);
     }
+}
+
+/// How many of the bytes that wait are to be read until credit falls due, at half the window (flow control).
+fn until_credit(session: &Session, id: u32) -> usize {
     let half = session.window() as usize / 2;
     let behind = half.saturating_sub(session.granted(id) as usize);
-    match waits.saturating_sub(behind) {
-        0 => waits,
-        count => count,
-    }
+    session.unread_count(id).saturating_sub(behind)
 }
 
 /// Offers the device all of these bytes, which lie in two pieces, in one call.

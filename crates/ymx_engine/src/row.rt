@@ -16,7 +16,7 @@ use ymx_session::Session;
 const LEAST_IN_ROW: usize = 4_096;
 
 /// The first so many of these bytes, or all.
-pub(crate) fn front(bytes: &[u8], count: usize) -> &[u8]
+fn front(bytes: &[u8], count: usize) -> &[u8]
     ensures { result.now ≡ take count bytes.now }
 {
     &bytes[..count.min(bytes.len())]
