@@ -17,12 +17,11 @@ pub(crate) const TURN: usize = 2 * BLOCK;
 /// How many bytes of a payload a frame carries at most.
 pub(crate) const FRAME: usize = 16_384;
 
-/// Eight whole frames of 16,384 bytes. So much is read from the peer at once, and once so many bytes wait for it, no connection is
-/// read.
+/// Eight whole frames of 16,384 bytes. Once so many bytes wait for the peer, no connection is read.
 pub(crate) const FRAMES: usize = 131_168;
 
-/// How many bytes are written to the peer at once: as many as the sixteen frames that a turn of a connection fills.
-const OUTGOING: usize = 2 * FRAMES;
+/// How many bytes are written to the peer at once, and read from it: sixteen whole frames, which a turn of a connection fills.
+const WIRE: usize = 2 * FRAMES;
 
 /// The memory for bytes under way, and for the ids of streams that were touched.
 ///
@@ -42,8 +41,8 @@ impl Buffers {
         ensures space { IfOk result (λ memory. one_read ≤ length memory.buffer.items) }
     {
         Ok(Buffers {
-            outgoing: Block::new(alloc, OUTGOING)?,
-            incoming: Block::new(alloc, FRAMES)?,
+            outgoing: Block::new(alloc, WIRE)?,
+            incoming: Block::new(alloc, WIRE)?,
             buffer: ymx_memory::zeros(alloc, BLOCK)?,
             touched: Touched::new(alloc)?,
         })
