@@ -9,7 +9,9 @@ usage: beside.py YMX
 
 import os
 import random
+import signal
 import socket
+import struct
 import sys
 import threading
 import time
@@ -22,6 +24,9 @@ RST = 8
 IDLE = 300
 MEGABYTE = random.Random(5).randbytes(1_000_000)
 AT_ONCE = 65_536
+# So many users come at once, whose streams come in a few pieces of data: a field of `struct tcp_info` of linux/tcp.h counts them.
+AT_ONCE_USERS, FEW = 60, 6
+PIECES, PIECES_AT = struct.Struct("=I"), 152
 # How much of a wire the system may hold unsent, and how much a frame carries at most.
 UNSENT, FRAME = 65_536, 16_384
 FAILED = "0 bytes to the peer (connection failed: refused), 0 bytes from the peer (connection failed: refused)"
@@ -291,6 +296,23 @@ def waits_on_a_slow_line(peer, target):
     return most
 
 
+def users_at_once():
+    """Users who wait at the listener together are taken together: their streams come to the peer in a few pieces."""
+    program, connection = local()
+    place = program.place()
+    program.process.send_signal(signal.SIGSTOP)
+    users = [call(place) for _ in range(AT_ONCE_USERS)]
+    program.process.send_signal(signal.SIGCONT)
+    for number in range(AT_ONCE_USERS):
+        assert take(connection, HEADER.size) == frame(WINDOW, SYN, 2 * number + 1, 0)
+    pieces = PIECES.unpack_from(connection.getsockopt(socket.IPPROTO_TCP, socket.TCP_INFO, 256), PIECES_AT)[0]
+    assert pieces <= FEW, f"{AT_ONCE_USERS} streams in {pieces} pieces"
+    program.process.kill()
+    program.end()
+    for user in users:
+        user.close()
+
+
 def send_all(connection, data):
     try:
         connection.sendall(data)
@@ -303,6 +325,7 @@ TESTS = (
     *((f"one at {name} who reads nothing", unread_beside_others, (name,)) for name in ("local", "remote")),
     *((f"half-closes at {name}", half_closes, (name,)) for name in ("local", "remote")),
     ("a target that refuses", a_target_that_refuses, ()),
+    (f"{AT_ONCE_USERS} users at once", users_at_once, ()),
     *([("a word on a slow line", a_word_on_a_slow_line, ())] if raw.COUNTS else []),
 )
 

@@ -204,11 +204,11 @@ impl Users {
         self.may_wait
     }
 
-    /// Whether more are open here than its share, where so many are.
+    /// Whether more are open here than its share, where so many are: one place alone never has more.
     fn is_ahead(&self, open: usize) -> bool {
         let all = self.common.open.load(Ordering::SeqCst);
-        let places = self.common.places.load(Ordering::SeqCst);
-        open.saturating_mul(places) > all
+        let others = self.common.places.load(Ordering::SeqCst).saturating_sub(1);
+        open.saturating_mul(others) > all.saturating_sub(self.open)
     }
 
     /// Whether others have their turn first, as it is ahead, and no time went by since one was accepted.
