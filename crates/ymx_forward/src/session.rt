@@ -48,10 +48,9 @@ const STREAMS: usize = 2;
 /// How many connections are accepted at most before bytes move again.
 const ACCEPTS: u32 = 64;
 
-/// How many bytes of a payload go straight to their connection at least. A peer that puts a whole write into one frame
-/// sends so many. Frames of our own carry 16,384 bytes: eight of a stream come together, and one write out of its ring
-/// takes them all, where each by itself would take a write of its own.
-const LEAST_STRAIGHT: usize = 65_536;
+/// How many bytes of a frame's payload go straight to their connection at least, in one call with up to three more frames of its
+/// stream. Fewer go through the stream's ring, as a copy of them costs less than a call.
+const LEAST_STRAIGHT: usize = 8_192;
 
 /// How many bytes of connections are taken before they are written to the wire.
 const UNWRITTEN: u64 = 131_072;
