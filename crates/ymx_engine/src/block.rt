@@ -13,6 +13,7 @@ ghost use Rattle.ymx_session.specs.Through.{WritesThrough};
 ghost use Rattle.ymx_session.specs.Touched.{NotesChanges};
 ghost use Rattle.ymx_engine.specs.Devices.{IsPulled, one_read, pulled_count};
 
+use crate::buffers::WIRE;
 use crate::device::{Device, Pulled};
 use std::alloc::Global;
 use std::marker::Model;
@@ -26,6 +27,8 @@ pub(crate) struct Block {
     memory: Vec<u8>,
     at: usize,
     end: usize,
+    /// A device has filled all of the memory at once.
+    was_filled: bool,
 }
 
 impl Model for Block {
@@ -51,6 +54,7 @@ impl Block {
             memory,
             at: 0,
             end: 0,
+            was_filled: false,
         })
     }
 
@@ -103,18 +107,37 @@ impl Block {
         }
     }
 
-    /// What a device gives waits. It is given room for 131,072 bytes at least.
+    /// What a device gives waits. It is given room for 131,072 bytes at least, and where it fills that, for more from then on.
     pub(crate) fn pull_from<D: Device>(&mut self, device: &mut D) -> Pulled
         requires { self.old ≡ [] }
         ensures { (buffer : List ℕ) × (one_read ≤ length buffer) × IsPulled result buffer (D.seen device.old) (D.seen device.new) × (self.new ≡ take (pulled_count result) buffer) }
     {
+        if self.was_filled {
+            self.grow();
+        }
         let pulled = device.pull(self.memory.as_mut_slice());
         self.at = 0;
         self.end = match pulled {
             Pulled::Gave(count) => count,
             _ => 0,
         };
+        self.was_filled = self.end == self.memory.len();
         pulled
+    }
+
+    /// Its memory, in which no bytes wait, becomes that of `WIRE` bytes, if it has less and that can be had.
+    fn grow(&mut self)
+        requires { self.old ≡ [] }
+        ensures { self.new ≡ [] }
+    {
+        if self.memory.len() >= WIRE {
+            return;
+        }
+        if let Ok(memory) = ymx_memory::zeros(*self.memory.allocator(), WIRE) {
+            self.memory = memory;
+            self.at = 0;
+            self.end = 0;
+        }
     }
 
     /// The session is fed the first of the bytes that wait, so many at most, and what it takes waits no more.

@@ -20,8 +20,9 @@ pub(crate) const FRAME: usize = 16_384;
 /// Eight whole frames of 16,384 bytes. Once so many bytes wait for the peer, no connection is read.
 pub(crate) const FRAMES: usize = 131_168;
 
-/// How many bytes are written to the peer at once, and read from it: sixteen whole frames, which a turn of a connection fills.
-const WIRE: usize = 2 * FRAMES;
+/// How many bytes are written to the peer at once: sixteen whole frames, which a turn of a connection fills. So many are read
+/// from it at once, too, when it has once given `FRAMES` at once: an idle tunnel keeps no more.
+pub(crate) const WIRE: usize = 2 * FRAMES;
 
 /// The memory for bytes under way, and for the ids of streams that were touched.
 ///
@@ -42,7 +43,7 @@ impl Buffers {
     {
         Ok(Buffers {
             outgoing: Block::new(alloc, WIRE)?,
-            incoming: Block::new(alloc, WIRE)?,
+            incoming: Block::new(alloc, FRAMES)?,
             buffer: ymx_memory::zeros(alloc, BLOCK)?,
             touched: Touched::new(alloc)?,
         })
