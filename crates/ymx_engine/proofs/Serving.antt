@@ -84,8 +84,8 @@ handles_due a b s out same waits incoming x =
 
 -- ---- bytes that are sent
 
-pub sends_none : (id : ℕ) (s : Session) (out : List ℕ) → TakesAndGives id [] [] s s out out
-sends_none id s out = record {
+pub exchanged_none : (id : ℕ) (s : Session) (out : List ℕ) → TakesAndGives id [] [] s s out out
+exchanged_none id s out = record {
   events = [];
   happen = refl;
   own = refl;
@@ -98,8 +98,8 @@ sends_none id s out = record {
   to_wire = append-nil out;
 }
 
-pub sends_then : (id : ℕ) (xs ys gs hs : List ℕ) (s t u : Session) (out mid new : List ℕ) → TakesAndGives id xs gs s t out mid → TakesAndGives id ys hs t u mid new → TakesAndGives id (xs ++ ys) (gs ++ hs) s u out new
-sends_then id xs ys gs hs s t u out mid new x y =
+pub exchanged_then : (id : ℕ) (xs ys gs hs : List ℕ) (s t u : Session) (out mid new : List ℕ) → TakesAndGives id xs gs s t out mid → TakesAndGives id ys hs t u mid new → TakesAndGives id (xs ++ ys) (gs ++ hs) s u out new
+exchanged_then id xs ys gs hs s t u out mid new x y =
     let es = x.events in
     let fs = y.events in
     record {
@@ -151,7 +151,7 @@ sends_rest id count told bytes rest s m t out new same x g all granted =
       to_wire = append-nil new;
     } in
     let whole : take count bytes ++ rest ≡ bytes = ap (λ (v : List ℕ). take count bytes ++ v) same ∙ take-append-drop count bytes in
-    subst (λ (v : List ℕ). TakesAndGives id v [] s t out new) whole (sends_then id (take count bytes) rest [] [] s m t out new new x y)
+    subst (λ (v : List ℕ). TakesAndGives id v [] s t out new) whole (exchanged_then id (take count bytes) rest [] [] s m t out new new x y)
 
 -- ---- bytes that are taken out
 
@@ -182,5 +182,5 @@ reads_two id m n told last ring s t u v out new g gave going granted due h more 
     ap (λ (v : List ℕ). v ++ take n (drop m ring)) (sym (take_both m (m + n) ring (omega arith)))
     ∙ ap (λ (v : List ℕ). take m (take (m + n) ring) ++ v) (sym (drop-take m n ring)) ∙ take-append-drop m (take (m + n) ring) in
     subst (λ (w : List ℕ). TakesAndGives id [] w s v out new) split
-    (sends_then id [] [] (take m ring) (take n (drop m ring)) s t v out out new (reads_one id m told (take m ring) s t out g gave going granted)
-    (sends_then id [] [] [] (take n (drop m ring)) t u v out new new between (reads_one id n last (take n (drop m ring)) u v new h more on goes)))
+    (exchanged_then id [] [] (take m ring) (take n (drop m ring)) s t v out out new (reads_one id m told (take m ring) s t out g gave going granted)
+    (exchanged_then id [] [] [] (take n (drop m ring)) t u v out new new between (reads_one id n last (take n (drop m ring)) u v new h more on goes)))
