@@ -19,11 +19,12 @@ use std::sync::Wait;
 use std::thread::Threads;
 use std::time::Clock;
 use ymx_arguments::{CommandFault, Task, foreign_option, parse};
-use ymx_forward::{Host, run_end, run_selftest};
+use ymx_forward::{run_end, run_selftest};
 use ymx_frames::{FramesEnd, frames};
 use ymx_model::{Inlet, Outlet, push_all};
 use ymx_policy::Plan;
 use ymx_script::{ScriptEnd, script};
+use ymx_sockets::Host;
 
 /// How many milliseconds the last words of an end may wait to be said.
 const LAST_WORDS: u16 = 1_000;

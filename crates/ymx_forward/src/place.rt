@@ -2,18 +2,7 @@
 
 ghost use Rattle.std.specs.Prelude.{None};
 
-use crate::Host;
-use crate::accepting::{Caller, PeerAcceptor};
-use crate::peer::Peer;
 use crate::places::PeerQueue;
-use crate::session::{LISTENER, Side, run_session};
-use crate::silence::{has_passed, shorter, time_of};
-use crate::stream::Stream;
-use crate::system::{
-    NoEvents, Poll, StartFault, TcpConnection, Waker, begin_call, listen, prepare,
-};
-use crate::users::{Common, Users, place_of};
-use crate::voice::Context;
 use std::alloc::Global;
 use std::io::ErrorKind;
 use std::net::SocketAddr;
@@ -21,11 +10,17 @@ use std::sync::Arc;
 use std::sync::atomic::Ordering;
 use std::time::Duration;
 use std::{io, thread};
+use ymx_loop::{Side, run_session};
 use ymx_model::{CallFault, Outlet};
 use ymx_page::{Declined, Event};
 use ymx_policy::{
     Ask, Callee, Deed, Endpoint, Happened, Notice, Peers, Plan, Reason, Session, Users as Comers,
     Words, World, run,
+};
+use ymx_sockets::{
+    Caller, Common, Context, Host, LISTENER, NoEvents, Peer, PeerAcceptor, Poll, StartFault,
+    Stream, TcpConnection, Users, Waker, begin_call, has_passed, listen, place_of, prepare,
+    shorter, time_of,
 };
 
 /// How many users are closed at once at most: as many as wait in the system.
@@ -121,8 +116,7 @@ impl<'a, 's, R: Host, D: Outlet> Place<'a, 's, R, D> {
             poll.hear_signal(Arc::try_clone(&self.common.drain)?);
             if self.is_woken {
                 let waker = Arc::new(alloc, Waker::new(&poll, LISTENER)?)?;
-                let seat = self.common.drain.wakes(rt, waker);
-                self.seat = Some(seat.ok_or(StartFault::OutOfMemory)?);
+                self.seat = Some(self.common.drain.wakes(rt, waker)?);
             }
             self.poll = Some(poll);
         }

@@ -1,25 +1,20 @@
 //! `ymx local` and `ymx remote`: one place or several, each in a thread of its own, and what they share.
 
-use crate::Host;
-use crate::accepting::{Caller, PeerAcceptor};
-use crate::drain::Drain;
-use crate::peer::Peer;
 use crate::place::run_place;
-use crate::session::LISTENER;
-use crate::status::Page;
-use crate::system::{Poll, StartFault, Waker, listen};
-use crate::users::{Common, place_of};
-use crate::voice::{Context, Sink, context_of};
 use crossbeam_channel::{Receiver, Sender, bounded};
 use std::alloc::{AllocError, Global};
 use std::net::{SocketAddr, SocketAddrV4};
 use std::sync::atomic::{AtomicBool, AtomicUsize, Ordering};
-use std::sync::{Arc, Mutex, Wait};
+use std::sync::{Arc, Wait};
 use std::thread;
 use std::thread::{Threads, join_mut};
 use ymx_model::Outlet;
-use ymx_page::{Counts, Event};
+use ymx_page::Event;
 use ymx_policy::{Endpoint, Fault, Named, Notice, PeerAddress, Plan, Reason};
+use ymx_sockets::{
+    Caller, Common, Context, Drain, Host, LISTENER, Page, Peer, PeerAcceptor, Poll, StartFault,
+    Waker, context_of, listen, new_sink, place_of,
+};
 
 /// Runs an end of a tunnel by this plan, and beside it its page, if it has one. `ymx local` forwards each connection that comes as
 /// a stream of a session with its peer; `ymx remote` connects each stream of its peers to the target. Says faults on `errors`. On
@@ -55,22 +50,6 @@ pub fn run_end<R: Host + Threads + Sync, D: Outlet + Send>(
     } else {
         0
     }
-}
-
-/// Where all is told, with nothing counted yet.
-pub(crate) fn new_sink<'a, D: Outlet>(
-    alloc: Global,
-    is_verbose: bool,
-    errors: &'a mut D,
-    lines: &'a mut D,
-) -> Mutex<Sink<'a, D>> {
-    let counts = Counts::new(alloc);
-    Mutex::new(Sink {
-        errors,
-        lines,
-        is_verbose,
-        counts,
-    })
 }
 
 /// An end of a tunnel.
@@ -229,8 +208,7 @@ impl<'a, 's, R: Host + Threads + Sync, D: Outlet + Send> End<'a, 's, R, D> {
         let mut poll = Poll::new(rt, alloc)?;
         poll.hear_signal(Arc::try_clone(&self.common.drain)?);
         let waker = Arc::new(alloc, Waker::new(&poll, LISTENER)?)?;
-        let seat = self.common.drain.wakes(rt, waker);
-        let _ = seat.ok_or(StartFault::OutOfMemory)?;
+        let _ = self.common.drain.wakes(rt, waker)?;
         let callers = PeerAcceptor::new(listener, at, self.plan.terms().from, true, &poll)?;
         Ok((poll, callers))
     }

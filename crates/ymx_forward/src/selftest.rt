@@ -9,17 +9,7 @@ ghost use Rattle.std.specs.Prelude.{◌≡◌, true, false, IfOk, IfSome, OnOk};
 ghost use Rattle.std.specs.Io.KnownBytes.{Appends, Keeps};
 ghost use Rattle.ymx_forward.specs.Echoes.{echo_lines, line_of};
 
-use crate::Host;
-use crate::drain::Drain;
 use crate::echoing::{Echoed, line_of, size_of};
-use crate::peer::Peer;
-use crate::places::new_sink;
-use crate::session::{Side, run_session};
-use crate::system::{
-    Poll, StartFault, TcpConnection, accept, address_of, connect, echo, finish, listen, send,
-};
-use crate::users::{Common, Users};
-use crate::voice::context_of;
 use arrayvec::ArrayString;
 use crossbeam_channel::{Receiver, Sender, bounded};
 use std::alloc::{AllocError, Global};
@@ -28,8 +18,13 @@ use std::net::{Ipv4Addr, Net, SocketAddr, SocketAddrV4, TcpListener, TcpStream};
 use std::sync::{Arc, Wait};
 use std::thread::{Threads, join_mut};
 use std::{io, thread};
+use ymx_loop::{Side, run_session};
 use ymx_model::{Outlet, WriterOutlet, push_all};
 use ymx_policy::{Endpoint, Fault, Session, SessionOptions, Users as Comers, fault_text};
+use ymx_sockets::{
+    Common, Drain, Host, Peer, Poll, StartFault, TcpConnection, Users, accept, address_of, connect,
+    context_of, echo, finish, listen, new_sink, send,
+};
 
 /// How many connections there are.
 const CONNECTIONS: u8 = 3;

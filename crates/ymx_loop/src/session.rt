@@ -1,0 +1,915 @@
+//! The loop that runs one session of a tunnel: what it does between two looks at the events.
+//!
+//! All that moves is moved by calls of [`ymx_engine::Tunnel`], which owns the wire and the connections. Each function
+//! here that makes such calls says that they are all it did: `Runs`.
+
+ghost use Rattle.std.specs.Prelude.{◌≡◌, ◌⊎◌, true, false, None, Some, IfOk, IfErr, not};
+ghost use Rattle.ymx_engine.specs.Runs.{Runs, IsOver};
+ghost use Rattle.ymx_engine.specs.Served.{Serving};
+ghost use Rattle.ymx_engine.specs.Turns.{Line as LineValue, line_of};
+ghost use Rattle.ymx_engine.specs.Ways.{is_over};
+ghost use Rattle.ymx_engine.specs.Work.{ServesOne, WorksOnce};
+ghost use Rattle.ymx_sockets.specs.Counts.{CountsOne};
+ghost use Rattle.ymx_loop.specs.Loops.{NeedsEvents, WaitsInNeed, WorksBetween};
+ghost use Rattle.ymx_loop.specs.declared.session.Outcome.TheVariants as OutcomeOf;
+ghost use Rattle.ymx_law_session.specs.Limits.{IsWithin};
+ghost use Rattle.ymx_model.specs.session.Sessions.{is_running};
+
+use crate::silence::{Cause, Due, Pace, Silence, is_sign};
+use crate::socket::{Socket, close};
+use std::alloc::Global;
+use std::net::{SocketAddr, SocketAddrV4};
+use std::sync::Arc;
+use std::time::Duration;
+use ymx_engine::{Device, NotJoined, Readiness, Registry, Tunnel};
+use ymx_header::{FIRST_EXHAUSTED, MOST_RECORDS};
+use ymx_model::{CallFault, Config, Outlet, Role, Status};
+use ymx_page::{Declined, EndedConnection, Ending, Event, Origin};
+use ymx_policy::{Endpoint, Notice, Reason, Session as Asked, SessionEnd};
+use ymx_session::{NewFault, Session};
+use ymx_sockets::{
+    Context, Drain, Head, Host, LISTENER, NoEvents, Peer, Poll, SIGNALLED, Said, Stream,
+    TcpConnection, Users, begin_call, has_passed, shorter, time_of,
+};
+
+/// The wire's token.
+const WIRE: usize = 0;
+
+/// The token of a stream is its id plus this. There is no stream 0, so the token 2 is free for the listener for peers.
+/// In a session no id is given twice, so an event that comes late is of a stream that is no more.
+const STREAMS: usize = 2;
+
+/// How many connections are accepted at most before bytes move again.
+const ACCEPTS: u32 = 64;
+
+/// How many bytes of a frame's payload go straight to their connection at least, in one call with up to three more frames of its
+/// stream. Fewer go through the stream's ring, as a copy of them costs less than a call.
+const LEAST_STRAIGHT: usize = 8_192;
+
+/// How many bytes of connections are taken before they are written to the wire.
+const UNWRITTEN: u64 = 131_072;
+
+/// How many seconds nothing may move where a session was lost and another follows, and how many a peer may be silent at the
+/// end before its connection is closed, where others may wait.
+const PATIENCE: u64 = 10;
+
+/// How many seconds it waits for events there, and where connections may be idle for too long.
+const GLANCE: u64 = 1;
+
+/// How many seconds a session lasts at least after which the peer is called again at once.
+const LASTING: u64 = 1;
+
+/// Where connections come from, or where they go to.
+#[derive(Drop)]
+pub enum Side {
+    /// They come from users.
+    Local(Users),
+    /// They go to a target. Once the drain asks for that no more streams of the peer are taken.
+    Remote(Arc<Drain, Global>),
+}
+
+impl Side {
+    /// Its role in the session.
+    fn role(&self) -> Role {
+        match self {
+            Side::Local(_) => Role::Client,
+            Side::Remote(_) => Role::Server,
+        }
+    }
+
+    /// Whether no more connections are to come, as that was asked for.
+    fn is_drained(&self) -> bool {
+        match self {
+            Side::Local(_) => false,
+            Side::Remote(drain) => drain.is_asked(),
+        }
+    }
+}
+
+/// Registers connections with a poll, each under the token of its stream.
+#[derive(Drop)]
+struct Tokens<'a> {
+    poll: &'a Poll,
+}
+
+impl<S: Stream + Drop> Registry<Socket<S>> for Tokens<'_> {
+    ghost told = { λ _. None };
+
+    fn register(&mut self, id: u32, device: &mut Socket<S>) -> bool {
+        device.register(self.poll, (id as usize) + STREAMS)
+    }
+}
+
+/// How a loop came to its end.
+#[derive(Clone, Copy, PartialEq, Eq)]
+enum Outcome {
+    /// This side and all its connections had ended, and the wire had taken all that was due or had failed.
+    Over,
+    /// The session was lost, another one follows, and nothing had moved for too long.
+    Left,
+    /// The system refused to tell of events.
+    Unwatched,
+}
+
+/// Runs such a session with this peer, in this thread alone, and says how it ended. Once its side has ended it sends all
+/// that is due, closes its writing side, and waits for the peer to close the connection.
+///
+/// A client ends after its count of connections, or at an accept that fails. Without a count it also ends at the first
+/// connection that is accepted after the session was lost or, where another session follows, as soon as it is lost. A
+/// server ends with the session. Both end only once all connections have. Where another session follows, connections
+/// that have taken nothing for ten seconds since the loss are closed.
+pub fn run_session<R: Host, D: Outlet>(
+    context: Context<'_, '_, R, D>,
+    poll: &mut Poll,
+    side: &mut Side,
+    peer: Peer,
+    session: Asked,
+) -> SessionEnd {
+    let began = time_of(context.rt);
+    let address = peer.address;
+    let mut how = match Socket::wire(peer.into_connection(&session), poll, WIRE) {
+        Ok(wire) => run_over(context, poll, side, wire, (session, address)),
+        Err(_) => unwatched(),
+    };
+    how.peer = address;
+    how.has_lasted = has_passed(began, time_of(context.rt), Duration::from_secs(LASTING));
+    how
+}
+
+/// How a session ends whose events the system refuses to tell.
+fn unwatched() -> SessionEnd {
+    let mut how = SessionEnd::clean();
+    how.is_unwatched = true;
+    how
+}
+
+/// Runs such a session over this wire, with the peer at this address, if it is known, and closes the wire.
+fn run_over<R: Host, D: Outlet>(
+    context: Context<'_, '_, R, D>,
+    poll: &mut Poll,
+    side: &mut Side,
+    wire: Socket,
+    asked: (Asked, Option<SocketAddrV4>),
+) -> SessionEnd {
+    let (session, peer) = asked;
+    let tunnel = match new_tunnel(context.alloc, wire, side.role(), session.options.window) {
+        Ok(tunnel) => tunnel,
+        Err(NewFault::OutOfMemory(_)) => {
+            let mut how = SessionEnd::clean();
+            how.lacked_memory = true;
+            return how;
+        }
+        Err(_) => return unwatched(),
+    };
+    let mut session_loop = SessionLoop {
+        context,
+        tunnel,
+        side,
+        session,
+        peer,
+        how: SessionEnd::clean(),
+        unwritten: 0,
+        passed: (0, 0),
+        rejected: 0,
+        is_end_told: false,
+        is_full: false,
+        watched_at: time_of(context.rt),
+        pace: Pace::new(),
+        is_heard: !session.is_sounded,
+        is_leaving: false,
+        still_since: None,
+        silence: Silence::new(time_of(context.rt), session.options.ping),
+        pending: None,
+    };
+    let outcome = session_loop.run(poll);
+    session_loop.note_users();
+    session_loop.tell_counts();
+    session_loop.tell_end();
+    let how = session_loop.ended(outcome);
+    let limit = session_loop.close_limit();
+    let SessionLoop { tunnel, .. } = session_loop;
+    let mut wire = tunnel.into_wire();
+    close(context.rt, poll, &mut wire, how.broken.is_some(), limit);
+    how
+}
+
+/// One session of a tunnel's end.
+#[derive(Drop)]
+struct SessionLoop<'a, 's, R, D> {
+    context: Context<'a, 's, R, D>,
+    tunnel: Tunnel<Socket, Socket>,
+    side: &'a mut Side,
+    session: Asked,
+    /// Where the peer is, if that is known.
+    peer: Option<SocketAddrV4>,
+    /// What was noted of how it ends.
+    how: SessionEnd,
+    /// How many bytes connections have given since the wire was last written to.
+    unwritten: u64,
+    /// How many bytes have passed to the peer, and from it, since that was told.
+    passed: (u64, u64),
+    /// How many of the peer's streams were told to have been rejected for want of memory.
+    rejected: u64,
+    is_end_told: bool,
+    /// It was told that users wait as all places are taken.
+    is_full: bool,
+    /// When it was last looked for connections that are idle for too long.
+    watched_at: Option<Duration>,
+    pace: Pace,
+    /// The peer has given a sign of life, or isn't asked for one.
+    is_heard: bool,
+    /// The peer was told that no more of its streams are taken.
+    is_leaving: bool,
+    /// Since when nothing has moved. None where something just did.
+    still_since: Option<Duration>,
+    silence: Option<Silence>,
+    /// The number of the ping that the peer was last sent, until its answer is collected.
+    pending: Option<u32>,
+}
+
+impl<R: Host, D: Outlet> SessionLoop<'_, '_, R, D> {
+    /// Runs until this side and all its connections have ended, and the wire has taken all that is due or has failed. Where
+    /// another session follows, it is also left once the session is lost and nothing has moved for too long.
+    fn run(&mut self, poll: &mut Poll) -> Outcome
+        requires serves { Serving self.old.tunnel }
+        ensures runs { Runs self.old.tunnel self.new.tunnel }
+        // It waits for events only where nothing can be moved without one.
+        ensures waits { WaitsInNeed self.old.tunnel self.new.tunnel poll.old.waits poll.new.waits }
+        // Between two looks at the events it works a whole round.
+        ensures rounds { WorksBetween self.old.tunnel self.new.tunnel poll.old.looks poll.new.looks }
+        // A loop that wasn't left is over: nothing is due, or the wire has failed, and no connection is left.
+        ensures over { result ≡ OutcomeOf.Over → IsOver self.new.tunnel }
+    {
+        self.begin();
+        for _ in self.context.rt.forever() {
+            if self.is_over() {
+                return Outcome::Over;
+            }
+            let limit = self.hear_silence();
+            if let Err(refused) = self.await_events(poll, limit) {
+                self.give_up_wire(Cause::Unwatched(refused));
+                self.leave_all();
+                return Outcome::Unwatched;
+            }
+            if self.is_to_be_left() {
+                self.leave_all();
+                return Outcome::Left;
+            }
+            self.take_turn(poll);
+        }
+        unreachable!()
+    }
+
+    /// Tells that it begins, and asks the peer for its first sign of life, if it is to give one before it is given users.
+    fn begin(&mut self)
+        ensures { Runs self.old.tunnel self.new.tunnel }
+    {
+        let context = self.context;
+        context.tell(Event::SessionBegan(self.places()));
+        if self.session.is_sounded {
+            self.ask();
+        }
+    }
+
+    /// Hears whether the peer is silent: then it is asked for a sign, and given up where none comes. How long it may be
+    /// silent yet, or None if for ever.
+    fn hear_silence(&mut self) -> Option<Duration>
+        ensures { Runs self.old.tunnel self.new.tunnel }
+    {
+        if self.is_lost() {
+            return None;
+        }
+        let now = time_of(self.context.rt);
+        let mut silence = self.silence?;
+        silence.note_sent(now, self.tunnel.wire().pushed);
+        silence.hear(now, self.tunnel.wire().pulled, self.tunnel.unframed());
+        let due = silence.due(now);
+        self.silence = Some(silence);
+        match due {
+            Due::In(left) => Some(left),
+            Due::Ping => {
+                self.ask();
+                Some(silence.patience)
+            }
+            Due::Loss(silent) => {
+                self.give_up_wire(Cause::Silent(silent));
+                Some(Duration::ZERO)
+            }
+        }
+    }
+
+    /// Asks the peer for a sign, unless the answer to the last ping is still to come.
+    fn ask(&mut self)
+        ensures { Runs self.old.tunnel self.new.tunnel }
+    {
+        if !self.is_answer_due() {
+            self.pending = self.tunnel.ping().ok();
+        }
+    }
+
+    /// Whether the answer to the last ping is still to come.
+    fn is_answer_due(&mut self) -> bool
+        ensures { Runs self.old.tunnel self.new.tunnel }
+    {
+        match self.pending {
+            Some(number) => matches!(self.tunnel.ponged(number), Ok(false)),
+            None => false,
+        }
+    }
+
+    /// The connection to the peer is cut off, for this cause alone.
+    fn give_up_wire(&mut self, _cause: Cause)
+        ensures runs { Runs self.old.tunnel self.new.tunnel }
+        ensures lost { is_running self.new.tunnel.engine.session.status ≡ false }
+    {
+        self.tunnel.give_up_wire();
+    }
+
+    /// Waits for events for so long at most, unless something can be done without one, and notes what they say.
+    fn await_events(&mut self, poll: &mut Poll, limit: Option<Duration>) -> Result<(), NoEvents>
+        ensures runs { Runs self.old.tunnel self.new.tunnel }
+        ensures waits { Serving self.old.tunnel → (poll.new.waits ≡ poll.old.waits) ⊎ (NeedsEvents self.old.tunnel × CountsOne poll.old.waits poll.new.waits) }
+        ensures looked { CountsOne poll.old.looks poll.new.looks }
+    {
+        self.take_events(poll, limit)?;
+        self.note_all(poll);
+        Ok(())
+    }
+
+    /// Takes the events that are there or, if nothing can be done without one, waits for some, for so long at most.
+    fn take_events(&mut self, poll: &mut Poll, limit: Option<Duration>) -> Result<(), NoEvents>
+        ensures same { self.new.tunnel ≡ self.old.tunnel }
+        ensures waits { Serving self.old.tunnel → (poll.new.waits ≡ poll.old.waits) ⊎ (NeedsEvents self.old.tunnel × CountsOne poll.old.waits poll.new.waits) }
+        ensures looked { CountsOne poll.old.looks poll.new.looks }
+    {
+        if self.has_work() {
+            self.still_since = None;
+            return poll.look();
+        }
+        if self.still_since.is_none() {
+            self.still_since = time_of(self.context.rt);
+        }
+        poll.wait(shorter(self.timeout(), limit))?;
+        if poll.events().next().is_some() {
+            self.still_since = None;
+        } else if let Side::Local(users) = &mut *self.side {
+            users.note_waited();
+        }
+        Ok(())
+    }
+
+    /// How long it waits for events. None if for as long as none comes.
+    fn timeout(&self) -> Option<Duration> {
+        let may_idle = self.session.options.idle.is_some() && !self.tunnel.is_empty();
+        let is_left = self.session.is_followed && self.is_lost();
+        let glance = (may_idle || is_left).then_some(Duration::from_secs(GLANCE));
+        match &*self.side {
+            Side::Local(users) => shorter(users.limit(), glance),
+            Side::Remote(_) => glance,
+        }
+    }
+
+    /// Does what can be done now.
+    fn take_turn(&mut self, poll: &Poll)
+        ensures runs { Runs self.old.tunnel self.new.tunnel }
+        // The wire is read and written, and each connection that waits for a turn comes nearer, has it or leaves.
+        ensures works { WorksOnce self.old.tunnel self.new.tunnel }
+    {
+        self.note_pace();
+        self.accept_users(poll);
+        self.note_users();
+        self.tunnel.read_wire(LEAST_STRAIGHT);
+        self.tell_peer();
+        self.abort_idle();
+        self.heed_drain();
+        self.accept_streams(poll);
+        self.serve_queued();
+        self.unwritten = 0;
+        self.tunnel.flush();
+        self.end_lost_wire();
+        self.note_pace();
+        self.tell_counts();
+    }
+
+    /// Notes whether the line is slow.
+    fn note_pace(&mut self)
+        ensures { Runs self.old.tunnel self.new.tunnel }
+    {
+        let is_slow = self.pace.is_slow(self.context.rt, self.tunnel.wire());
+        self.tunnel.note_pace(is_slow);
+    }
+
+    // ---- what it looks at
+
+    /// Whether something can be done with no event.
+    fn has_work(&self) -> bool
+        // Where it has none, nothing can be moved without an event.
+        ensures { Serving self.now.tunnel → result ≡ false → NeedsEvents self.now.tunnel }
+    {
+        let has_offer = self.free_target().is_some() && self.tunnel.offered_count() > 0;
+        has_offer || self.has_user() || self.tunnel.has_work()
+    }
+
+    /// Whether a user may wait who is to be accepted now: those that come for the next session are left to it, and others
+    /// to when there is a place, and the peer has given a sign of life.
+    fn has_user(&self) -> bool {
+        let Side::Local(users) = &*self.side else {
+            return false;
+        };
+        let can_open_later = !self.is_lost()
+            && !self.tunnel.is_peer_away()
+            && self.tunnel.next_id() < FIRST_EXHAUSTED;
+        let has_place = self.tunnel.len() < self.places() && self.tunnel.opens_left() > 0;
+        users.may_accept(self.tunnel.len())
+            && !self.leaves_users()
+            && (!can_open_later || has_place && self.is_heard)
+    }
+
+    /// How many connections it may have at once.
+    fn places(&self) -> usize {
+        match self.session.endpoint {
+            Endpoint::Local { .. } => MOST_RECORDS,
+            Endpoint::Remote { workers, .. } => workers as usize,
+        }
+    }
+
+    /// Where a stream goes to that is accepted now. None where it has to wait, or none is accepted at all.
+    fn free_target(&self) -> Option<SocketAddrV4> {
+        match self.session.endpoint {
+            Endpoint::Remote { target, .. } if self.tunnel.len() < self.places() => Some(target),
+            _ => None,
+        }
+    }
+
+    /// Whether users wait as all places are taken: at a `remote` their streams do.
+    fn keeps_waiting(&mut self) -> bool
+        ensures { self.new.tunnel ≡ self.old.tunnel }
+    {
+        if self.tunnel.len() < self.places() || self.is_lost() {
+            return false;
+        }
+        match &mut *self.side {
+            Side::Local(users) => users.are_waiting(),
+            Side::Remote(_) => self.tunnel.offered_count() > 0,
+        }
+    }
+
+    /// Whether this side and all its connections have ended, and nothing more goes over the wire.
+    fn is_over(&self) -> bool
+        ensures { result ≡ true → IsOver self.now.tunnel }
+    {
+        let is_side_over = match &*self.side {
+            Side::Local(users) => users.acceptor.is_over() || self.leaves_users(),
+            Side::Remote(_) => {
+                (self.is_lost() || self.is_leaving) && self.tunnel.offered_count() == 0
+            }
+        };
+        is_side_over && self.tunnel.is_empty() && self.tunnel.is_over()
+    }
+
+    /// Whether the session is over.
+    fn is_lost(&self) -> bool
+        ensures { result ≡ not (is_running self.now.tunnel.engine.session.status) }
+    {
+        !matches!(self.tunnel.status(), Status::Running)
+    }
+
+    /// Whether the session was lost, another one follows, and nothing has moved for too long.
+    fn is_to_be_left(&self) -> bool
+        ensures { result ≡ true → is_running self.now.tunnel.engine.session.status ≡ false }
+    {
+        self.session.is_followed
+            && self.is_lost()
+            && has_passed(
+                self.still_since,
+                time_of(self.context.rt),
+                Duration::from_secs(PATIENCE),
+            )
+    }
+
+    /// Whether users are left to the next session: another one follows, and this one is over, or its peer takes no more streams.
+    fn leaves_users(&self) -> bool {
+        self.session.is_followed && (self.is_lost() || self.tunnel.is_peer_away())
+    }
+
+    // ---- events
+
+    /// Notes what the events say that are there.
+    fn note_all(&mut self, poll: &Poll)
+        ensures { Runs self.old.tunnel self.new.tunnel }
+    {
+        'event: for event in poll.events() {
+            self.note(Said::of(event));
+        }
+    }
+
+    /// Notes what an event says.
+    fn note(&mut self, said: Said)
+        ensures { Runs self.old.tunnel self.new.tunnel }
+    {
+        let ready = Readiness {
+            can_pull: said.can_read,
+            can_push: said.can_write,
+            is_closing: said.is_closing,
+        };
+        match said.token {
+            WIRE if self.tunnel.wire().has_failed() => {}
+            WIRE => self.tunnel.note_wire(ready),
+            LISTENER | SIGNALLED => {
+                if let Side::Local(users) = &mut *self.side {
+                    users.note_event();
+                }
+            }
+            token => {
+                if let Ok(id) = u32::try_from(token - STREAMS) {
+                    self.tunnel.note_line(id, ready);
+                }
+            }
+        }
+    }
+
+    // ---- users who come
+
+    /// Opens a stream for each user that waits, as far as there is a place.
+    fn accept_users(&mut self, poll: &Poll)
+        ensures { Runs self.old.tunnel self.new.tunnel }
+    {
+        'accept: for _ in 0..ACCEPTS {
+            if !self.has_user() {
+                return;
+            }
+            let open = self.tunnel.len();
+            let Side::Local(users) = &mut *self.side else {
+                return;
+            };
+            let Some(socket) = users.accept(open) else {
+                return;
+            };
+            self.begin_user(socket, poll);
+        }
+    }
+
+    /// Notes how many users are open.
+    fn note_users(&mut self)
+        ensures { self.new.tunnel ≡ self.old.tunnel }
+    {
+        let open = self.tunnel.len();
+        if let Side::Local(users) = &mut *self.side {
+            users.note_open(self.context, open);
+        }
+    }
+
+    /// Opens a stream for a user.
+    fn begin_user(&mut self, socket: TcpConnection, poll: &Poll)
+        ensures { Runs self.old.tunnel self.new.tunnel }
+    {
+        let context = self.context;
+        let origin = context.begin(socket.peer());
+        let head = match self.session.endpoint {
+            Endpoint::Local { names_users, .. } if names_users => socket.proxy_line(),
+            _ => Head::new(),
+        };
+        let device = Socket::connected(socket, origin, head);
+        if let Err(why) = self.tunnel.open(device, &mut Tokens { poll }) {
+            self.decline(origin, why);
+        }
+    }
+
+    /// Says why a user got no stream. Once the session is lost it is the last one, unless others are counted on.
+    fn decline(&mut self, origin: Origin, why: NotJoined)
+        ensures { self.new.tunnel ≡ self.old.tunnel }
+    {
+        let context = self.context;
+        let declined = match why {
+            NotJoined::BySession(fault) => Declined::BySession(fault),
+            // no id is given twice, so this never is
+            NotJoined::Twice => Declined::BySession(CallFault::NoStream),
+            NotJoined::OutOfMemory(_) => Declined::OutOfMemory,
+            NotJoined::Unregistered => Declined::Unwatched,
+        };
+        match declined {
+            Declined::BySession(CallFault::OutOfMemory(_)) | Declined::OutOfMemory => {
+                self.how.lacked_memory = true;
+            }
+            Declined::Unwatched => {
+                // he counts as one that could not be accepted
+                self.how.accept_failed = true;
+                if let Side::Local(users) = &mut *self.side {
+                    users.acceptor.fail_unwatched();
+                }
+            }
+            Declined::BySession(_) => {}
+        }
+        let is_lost = self.is_lost();
+        if let Side::Local(users) = &mut *self.side {
+            if is_lost && users.is_endless() {
+                users.acceptor.stop();
+            }
+        }
+        context.tell(Event::Declined(origin, declined));
+    }
+
+    // ---- streams that come
+
+    /// Tells the peer, once, that no more of its streams are taken, if that was asked for.
+    fn heed_drain(&mut self)
+        ensures { Runs self.old.tunnel self.new.tunnel }
+    {
+        if !self.is_leaving && !self.is_lost() && self.side.is_drained() {
+            let _ = self.tunnel.go_away();
+            self.is_leaving = true;
+        }
+    }
+
+    /// Begins a connection to the target for each stream that waits, as far as the limit lets it.
+    fn accept_streams(&mut self, poll: &Poll)
+        ensures { Runs self.old.tunnel self.new.tunnel }
+    {
+        'offered: for _ in 0..self.tunnel.offered_count() {
+            let Some(target) = self.free_target() else {
+                return;
+            };
+            self.begin_stream(target, poll);
+        }
+    }
+
+    /// Begins a connection to the target for the stream that came first. If it can't begin, the stream is reset.
+    fn begin_stream(&mut self, target: SocketAddrV4, poll: &Poll)
+        ensures { Runs self.old.tunnel self.new.tunnel }
+    {
+        let context = self.context;
+        let origin = context.begin(self.tunnel.wire().socket.peer());
+        let socket = match begin_call(context.rt, SocketAddr::V4(target)) {
+            Ok(socket) => socket,
+            Err(error) => {
+                if self.tunnel.reject() {
+                    let why = Reason::of_call(&error);
+                    context.tell(Event::Unreached(target, why));
+                    self.tell_ended(origin, Ending::ConnectionFailed, Some(why));
+                }
+                return;
+            }
+        };
+        socket.prepare(self.session.options.keepalive);
+        let joined = self
+            .tunnel
+            .accept(Socket::begun(socket, origin), &mut Tokens { poll });
+        match joined {
+            Ok(_) => {}
+            Err(NotJoined::OutOfMemory(_)) => {
+                self.how.lacked_memory = true;
+                self.tell_ended(origin, Ending::OutOfMemory, None);
+            }
+            Err(_) => self.tell_ended(origin, Ending::ConnectionFailed, None),
+        }
+    }
+
+    /// A connection to the target was never there, for this reason.
+    fn tell_ended(&self, origin: Origin, ending: Ending, why: Option<Reason>) {
+        let ended = EndedConnection::of_nothing(ending, why);
+        self.context.tell(Event::Ended(origin, ended));
+    }
+
+    // ---- bytes
+
+    /// Serves each connection that has something to move now, once, unless they give much: that is written first, and
+    /// the peer read.
+    fn serve_queued(&mut self)
+        ensures runs { Runs self.old.tunnel self.new.tunnel }
+        ensures turns { ServesOne self.old.tunnel self.new.tunnel }
+    {
+        'queued: for _ in 0..self.tunnel.queued_count() {
+            if !self.serve_next() {
+                return;
+            }
+        }
+    }
+
+    /// Serves the connection whose turn it is, and lets go of it if it is over. Whether another may be served.
+    fn serve_next(&mut self) -> bool
+        ensures runs { Runs self.old.tunnel self.new.tunnel }
+        ensures turns { ServesOne self.old.tunnel self.new.tunnel }
+    {
+        let Some(served) = self.tunnel.serve_next() else {
+            return false;
+        };
+        self.unwritten = self.unwritten.saturating_add(served.gave as u64);
+        self.note_passed(served.id);
+        self.forget_if_over(served.id);
+        self.unwritten < UNWRITTEN
+    }
+
+    /// Notes what the connection of this stream has passed since that was noted last.
+    fn note_passed(&mut self, id: u32)
+        ensures { self.new.tunnel ≡ self.old.tunnel }
+    {
+        if let Some(socket) = self.tunnel.device(id) {
+            let passed = socket.take_passed();
+            self.add_passed(passed);
+        }
+    }
+
+    /// So many bytes more have passed to the peer and from it.
+    fn add_passed(&mut self, passed: (u64, u64))
+        ensures { self.new.tunnel ≡ self.old.tunnel }
+    {
+        let (to_peer, from_peer) = self.passed;
+        self.passed = (
+            to_peer.saturating_add(passed.0),
+            from_peer.saturating_add(passed.1),
+        );
+    }
+
+    /// Aborts each connection, looking once a second, on which no byte has moved for too long.
+    fn abort_idle(&mut self)
+        ensures { self.new.tunnel ≡ self.old.tunnel }
+    {
+        let Some(seconds) = self.session.options.idle else {
+            return;
+        };
+        let now = time_of(self.context.rt);
+        if !has_passed(self.watched_at, now, Duration::from_secs(GLANCE)) {
+            return;
+        }
+        self.watched_at = now;
+        'line: for place in 0..self.tunnel.len() {
+            let id = self.tunnel.id_at(place);
+            if let Some(socket) = id.and_then(|id| self.tunnel.device(id)) {
+                socket.abort_if_idle(now, Duration::from_secs(seconds as u64));
+            }
+        }
+    }
+
+    /// Lets go of a connection of which neither way is open.
+    fn forget_if_over(&mut self, id: u32)
+        ensures { Runs self.old.tunnel self.new.tunnel }
+    {
+        if self.tunnel.is_line_over(id) {
+            self.forget(id);
+        }
+    }
+
+    /// Lets go of a connection, and says how it ended.
+    fn forget(&mut self, id: u32)
+        // Nothing of it is left to move.
+        requires over { (line : LineValue) → line_of id self.old.tunnel.lines ≡ Some line → (is_over line.ways ≡ true) ⊎ (is_running self.old.tunnel.engine.session.status ≡ false) }
+        ensures runs { Runs self.old.tunnel self.new.tunnel }
+        ensures status { self.new.tunnel.engine.session.status ≡ self.old.tunnel.engine.session.status }
+    {
+        let context = self.context;
+        let ways = self.tunnel.ways(id);
+        let is_lost = self.is_lost();
+        if let (Some(socket), Some(ways)) = (self.tunnel.forget(id), ways) {
+            self.add_passed(socket.take_passed());
+            let ended = socket.ended(ways, is_lost);
+            self.how.lacked_memory |= ended.lacked_memory();
+            if let (Some(why), Endpoint::Remote { target, .. }) = (
+                socket.unreached(),
+                self.session.endpoint,
+            ) {
+                context.tell(Event::Unreached(target, why));
+            }
+            if let Some(origin) = socket.origin {
+                context.tell(Event::Ended(origin, ended));
+            }
+        }
+    }
+
+    /// Lets go of all connections of a session that is over.
+    fn leave_all(&mut self)
+        requires { is_running self.old.tunnel.engine.session.status ≡ false }
+        ensures { Runs self.old.tunnel self.new.tunnel }
+    {
+        'left: for _ in 0..self.tunnel.len() {
+            let Some(id) = self.tunnel.id_at(0) else {
+                return;
+            };
+            self.forget(id);
+        }
+    }
+
+    /// Once the session is lost and all that is due is sent, nothing more goes over the wire, though connections may
+    /// still come.
+    fn end_lost_wire(&mut self)
+        ensures { Runs self.old.tunnel self.new.tunnel }
+    {
+        if self.is_lost() && !self.tunnel.wire().was_ended() && self.tunnel.is_flushed() {
+            self.tunnel.end_wire();
+        }
+    }
+
+    // ---- what is told
+
+    /// Tells, once each, that the peer has come, where others follow its session, and that the session was lost. One who has
+    /// broken a rule gives no sign of life.
+    fn tell_peer(&mut self)
+        ensures { self.new.tunnel ≡ self.old.tunnel }
+    {
+        let is_broken = matches!(self.tunnel.status(), Status::Broken(_));
+        let pulled = self.tunnel.wire().pulled;
+        let has_spoken = !is_broken && is_sign(0, pulled, self.tunnel.unframed());
+        self.is_heard |= has_spoken;
+        let is_followed = self.session.is_followed;
+        if is_followed && has_spoken && !self.how.is_coming_told {
+            self.how.is_coming_told = true;
+            self.context
+                .tell(Event::Notice(Notice::PeerCame(self.peer)));
+        }
+        if self.is_lost() {
+            self.tell_end();
+        }
+    }
+
+    /// Tells, once, that the session was lost or has ended, and which rule was broken. Where it was lost and none follows, users
+    /// are left to other places.
+    fn tell_end(&mut self)
+        ensures { self.new.tunnel ≡ self.old.tunnel }
+    {
+        if self.is_end_told {
+            return;
+        }
+        self.is_end_told = true;
+        let (context, peer) = (self.context, self.peer);
+        if let Status::Broken(fault) = self.tunnel.status() {
+            context.tell(Event::Reason(Notice::Broke(fault.number(), peer)));
+        }
+        let is_followed = self.session.is_followed;
+        context.tell(Event::SessionEnded(self.places(), is_followed));
+        if is_followed || !self.is_lost() {
+            return;
+        }
+        if let Side::Local(users) = &mut *self.side {
+            users.note_loss();
+        }
+        context.tell(Event::Notice(match self.is_heard {
+            true => Notice::PeerGone(peer),
+            false => Notice::PeerGoneSilent(peer),
+        }));
+    }
+
+    /// Tells how many bytes have passed, where users begin to wait for a place, or wait no more, and of the streams that were
+    /// rejected for want of memory, of each once.
+    fn tell_counts(&mut self)
+        ensures { self.new.tunnel ≡ self.old.tunnel }
+    {
+        let (context, (to_peer, from_peer)) = (self.context, self.passed);
+        if to_peer > 0 || from_peer > 0 {
+            context.tell(Event::Passed(to_peer, from_peer));
+            self.passed = (0, 0);
+        }
+        let is_full = self.keeps_waiting();
+        if is_full != self.is_full {
+            self.is_full = is_full;
+            context.tell(Event::Waiting(is_full, self.places()));
+        }
+        let rejected = self.tunnel.no_memory();
+        if rejected > self.rejected {
+            let more = rejected - self.rejected;
+            self.rejected = rejected;
+            context.tell(Event::Rejected(more, self.peer));
+        }
+    }
+
+    // ---- how it ends
+
+    /// How the session ended.
+    fn ended(&self, outcome: Outcome) -> SessionEnd {
+        let mut how = self.how;
+        if let Side::Local(users) = &*self.side {
+            let failure = users.acceptor.failure();
+            how.accept_failed |= !self.session.is_followed && failure.is_some();
+            how.accept_reason = failure.unwrap_or(None);
+        }
+        if let Status::Broken(fault) = self.tunnel.status() {
+            how.broken = Some(fault.number());
+        }
+        how.lacked_memory |= self.tunnel.no_memory() > 0;
+        how.is_unwatched = outcome == Outcome::Unwatched;
+        how.is_peer_away = self.tunnel.is_peer_away();
+        how
+    }
+
+    /// After how long a silence the connection is closed at the end, though the peer hasn't closed it. Where others wait for
+    /// that, or no more streams were to be taken, the peer isn't waited for without end.
+    fn close_limit(&self) -> Option<Duration> {
+        match self.session.options.ping {
+            Some(seconds) if !self.session.is_followed => Some(Duration::from_secs(seconds as u64)),
+            None if !self.session.is_followed && !self.side.is_drained() => None,
+            _ => Some(Duration::from_secs(PATIENCE)),
+        }
+    }
+}
+
+/// A tunnel with a new session over this wire, of which nothing was moved.
+#[tactic(auto, using(crate::proofs::Sessions::within))]
+fn new_tunnel(
+    alloc: Global,
+    wire: Socket,
+    role: Role,
+    window: u32,
+) -> Result<Tunnel<Socket, Socket>, NewFault>
+    ensures { IfOk result Serving }
+{
+    let session = Session::new(alloc, role, Config { window, first: 0 })?;
+    Ok(Tunnel::new(alloc, session, wire)?)
+}

@@ -1,0 +1,168 @@
+//! How long a peer has been silent, and what is due then; and how slowly its line takes bytes.
+
+ghost use Rattle.std.specs.Prelude.{◌≡◌};
+ghost use Rattle.std.specs.Duration.{as_nanos};
+ghost use Rattle.ymx_loop.specs.Silence.{IsDueAfter, is_sign};
+
+use crate::socket::Socket;
+use std::time::{Clock, Duration};
+use ymx_engine::Device;
+use ymx_sockets::{NoEvents, has_passed, time_of};
+
+/// How many bytes that come while a payload is under way are a sign: 4,096 of it, after a header at most.
+const LONG_PART: u64 = 4_108;
+
+/// How many bytes may stand before a ping that was asked for, until the system has taken it: what a tunnel may have read
+/// of its connections for the wire.
+const AHEAD: u64 = 262_336;
+
+/// The peer was silent for too long, though it was asked for a sign. Only [`Silence::due`] makes one.
+#[derive(Drop)]
+pub(crate) struct SilentPeer {
+    seal: (),
+}
+
+/// Why the connection to a peer is given up.
+#[derive(Drop)]
+pub(crate) enum Cause {
+    /// The peer counts as gone.
+    Silent(SilentPeer),
+    /// The system refused to tell of events.
+    Unwatched(NoEvents),
+}
+
+/// What is due where a peer is silent.
+#[derive(Drop)]
+pub(crate) enum Due {
+    /// Nothing, before so much time has gone by.
+    In(Duration),
+    /// It is to be asked for a sign.
+    Ping,
+    /// It counts as gone.
+    Loss(SilentPeer),
+}
+
+/// When the peer last gave a sign of life, and whether it was asked for one since. A whole frame is a sign, and so are 4,096
+/// bytes of the payload of one: who doesn't speak yamux gives none, and a slow line is not cut within a long frame.
+#[derive(Clone, Copy)]
+pub(crate) struct Silence {
+    /// How long it may be silent before it is asked, and then before it counts as gone.
+    pub(crate) patience: Duration,
+    /// When it last gave a sign or was asked for one, by the clock.
+    since: Duration,
+    was_asked: bool,
+    /// How many bytes had come of it when it last gave a sign.
+    heard: u64,
+    /// How many bytes the system had taken for it when it was last looked at.
+    sent: u64,
+    /// With so many the ping that it was last asked by is among them.
+    sent_with_ping: u64,
+}
+
+impl Silence {
+    /// It gives a sign at this time, and may be silent for so many seconds. None where nobody listens for silence, or the time
+    /// is unknown.
+    pub(crate) fn new(now: Option<Duration>, seconds: Option<u32>) -> Option<Silence> {
+        Some(Silence {
+            patience: Duration::from_secs(seconds? as u64),
+            since: now?,
+            was_asked: false,
+            heard: 0,
+            sent: 0,
+            sent_with_ping: 0,
+        })
+    }
+
+    /// So many bytes have come of the peer, of which this many stand after the last whole frame, or a payload is under way.
+    /// With a sign of life the time begins anew.
+    pub(crate) fn hear(&mut self, now: Option<Duration>, heard: u64, unframed: Option<usize>) {
+        if is_sign(self.heard, heard, unframed) {
+            self.heard = heard;
+            self.was_asked = false;
+            self.since = now.unwrap_or(self.since);
+        }
+    }
+
+    /// The system has taken so many bytes for the peer. While the ping may stand behind these, that they go out is a sign too.
+    pub(crate) fn note_sent(&mut self, now: Option<Duration>, sent: u64) {
+        if self.sent < sent && self.sent < self.sent_with_ping {
+            self.since = now.unwrap_or(self.since);
+        }
+        self.sent = sent;
+    }
+
+    /// What is due now. Where the time is unknown, nothing is. Who is to be asked for a sign has as long again.
+    pub(crate) fn due(&mut self, now: Option<Duration>) -> Due {
+        let Some(now) = now else {
+            return Due::In(self.patience);
+        };
+        let passed = now.saturating_sub(self.since);
+        let due = due_after(self.patience, passed, self.was_asked);
+        if matches!(due, Due::Ping) {
+            self.was_asked = true;
+            self.sent_with_ping = self.sent.saturating_add(AHEAD);
+            self.since = now;
+        }
+        due
+    }
+}
+
+/// For how many milliseconds a slow line takes no bytes at once.
+const SLOW: u64 = 4;
+
+/// How many bytes a line counts as slow for, once it was.
+const SLOW_BYTES: u64 = 1 << 18;
+
+/// How slowly a line takes bytes.
+#[derive(Clone, Copy)]
+pub(crate) struct Pace {
+    /// Since when it takes none. None where it takes some.
+    full_since: Option<Duration>,
+    /// It counts as slow until it has taken so many.
+    slow_until: u64,
+}
+
+impl Pace {
+    /// Of one of which nothing is known yet: it begins as a slow one.
+    pub(crate) fn new() -> Pace {
+        Pace {
+            full_since: None,
+            slow_until: SLOW_BYTES,
+        }
+    }
+
+    /// Whether the line of this wire is slow, as it stands now.
+    pub(crate) fn is_slow<R: Clock>(&mut self, rt: &R, wire: &Socket) -> bool {
+        if wire.may_push() != self.full_since.is_some() {
+            return wire.pushed < self.slow_until;
+        }
+        let now = time_of(rt);
+        if has_passed(self.full_since, now, Duration::from_millis(SLOW)) {
+            self.slow_until = wire.pushed.saturating_add(SLOW_BYTES);
+        }
+        self.full_since = if wire.may_push() { None } else { now };
+        wire.pushed < self.slow_until
+    }
+}
+
+/// Whether the peer has given a sign of life since so many bytes of it had come: `bytes` have by now, of which this many stand
+/// after the last whole frame, or a payload is under way.
+pub(crate) fn is_sign(before: u64, bytes: u64, unframed: Option<usize>) -> bool
+    ensures { result ≡ is_sign before bytes unframed }
+{
+    match unframed {
+        Some(behind) => before < bytes.saturating_sub(behind as u64),
+        None => bytes.saturating_sub(before) >= LONG_PART,
+    }
+}
+
+/// What is due after so long a silence. A loss only after a sign that was asked for.
+fn due_after(patience: Duration, passed: Duration, was_asked: bool) -> Due
+    ensures { IsDueAfter (as_nanos patience) (as_nanos passed) was_asked result }
+{
+    match patience.checked_sub(passed) {
+        Some(left) if left > Duration::ZERO => Due::In(left),
+        _ if was_asked => Due::Loss(SilentPeer { seal: () }),
+        _ => Due::Ping,
+    }
+}

@@ -1,0 +1,32 @@
+//! Why something can't begin.
+
+use std::alloc::{AllocError, AllocFailed};
+use std::io;
+use ymx_policy::Reason;
+
+/// Why something can't begin.
+#[derive(Clone, Copy)]
+pub enum StartFault {
+    /// The system refused, for this reason.
+    Refused(Reason),
+    /// There is no memory.
+    OutOfMemory,
+}
+
+impl From<io::Error> for StartFault {
+    fn from(error: io::Error) -> StartFault {
+        StartFault::Refused(Reason::of(&error))
+    }
+}
+
+impl From<AllocError> for StartFault {
+    fn from(_refused: AllocError) -> StartFault {
+        StartFault::OutOfMemory
+    }
+}
+
+impl<T: Drop> From<AllocFailed<T>> for StartFault {
+    fn from(_refused: AllocFailed<T>) -> StartFault {
+        StartFault::OutOfMemory
+    }
+}

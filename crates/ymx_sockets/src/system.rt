@@ -1,0 +1,434 @@
+//! What touches the system's sockets: connections, listeners, and the events that tell of them. Each function makes the
+//! calls that it names, in that order, and decides nothing. No contract sees which bytes the sockets carry, nor what the
+//! system does, so this file is to be read. No other makes such a call: sockets that never wait are private here.
+
+ghost use Rattle.std.specs.Prelude.{◌≡◌, ◌<◌, ◌^◌, ◌==◌, length, None};
+ghost use Rattle.std.specs.Slice.Iter.{iter_rest, iter_steps};
+ghost use Rattle.std.specs.Iterator.Runs.{EveryRun, ItemsMapTo};
+ghost use Rattle.mio.specs.declared.event.event.Event.{Event as SystemEvent};
+ghost use Rattle.mio.specs.Events.{items};
+ghost use Rattle.libc.specs.Net.{SockOption};
+ghost use Rattle.ymx_sockets.specs.Counts.{CountsOne};
+
+use crate::drain::Drain;
+use crate::fault::StartFault;
+use crate::proxy::{Head, proxy_line};
+use crate::stream::Stream;
+use libc::net as c;
+use libc::types::pollfd;
+use mio::event::Iter;
+use mio::unix::SourceFd;
+use mio::{Interest, Token};
+use std::alloc::Global;
+use std::io::{ErrorKind, IoSlice, Write};
+use std::net::{Net, Shutdown, SocketAddr, TcpListener, TcpStream};
+use std::os::fd::AsRawFd;
+use std::sync::Arc;
+use std::time::Duration;
+use std::{io, net};
+use ymx_model::{read, write};
+use ymx_policy::keepalive_of;
+
+/// How often a write of several pieces that a signal interrupted is made again before it counts as failed.
+const RETRIES: u32 = 1_000_000;
+/// How many connections may wait in the system to be accepted.
+const BACKLOG: i32 = 4_096;
+/// How many events are taken at once.
+const EVENTS: usize = 256;
+/// What stands for SIGUSR1 in place of a descriptor.
+const SIGNAL: i32 = -2;
+/// The token of that signal, which no stream has.
+pub const SIGNALLED: usize = usize::MAX;
+
+/// The system has refused to tell of events. Only a call that it refused makes one.
+#[derive(Drop)]
+pub struct NoEvents {
+    /// What kind of error it was.
+    pub kind: ErrorKind,
+    seal: (),
+}
+
+/// What the system answered, where it was asked to tell of events.
+fn told(answer: io::Result<()>) -> Result<(), NoEvents> {
+    answer.map_err(|why| NoEvents {
+        kind: why.kind(),
+        seal: (),
+    })
+}
+
+/// A connection whose calls never wait. It is closed when it is dropped, and aborted before, unless it has said that no
+/// more comes from it and was told that no more goes to it: so whatever cuts it, its other end sees a reset, and no end.
+pub struct TcpConnection {
+    inner: mio::net::TcpStream,
+    /// Where it was called from, if its other side called: the system says so no more once that has broken it.
+    from: Option<SocketAddr>,
+    /// It has not said that no more comes from it.
+    gives: bool,
+    /// It was not told that no more goes to it.
+    takes: bool,
+}
+
+impl Drop for TcpConnection {
+    fn drop(self) {
+        if self.gives || self.takes {
+            abort(&self.inner);
+        }
+        let TcpConnection {
+            inner: _,
+            from: _,
+            gives: _,
+            takes: _,
+        } = self;
+    }
+}
+
+/// Aborts a connection, by a call to an address of the family AF_UNSPEC: its other end sees a reset. What is unsent is lost.
+fn abort(connection: &mio::net::TcpStream) {
+    let unspecified = [0u8; c::_SS_SIZE];
+    let _ = unsafe { c::connect(connection.as_raw_fd(), &unspecified, 16) };
+}
+
+impl TcpConnection {
+    /// One that waits, made one that never does.
+    pub fn of(connection: TcpStream) -> io::Result<TcpConnection> {
+        connection.set_nonblocking(true)?;
+        Ok(TcpConnection::new(mio::net::TcpStream::from_std(connection), None))
+    }
+
+    fn new(inner: mio::net::TcpStream, from: Option<SocketAddr>) -> TcpConnection {
+        TcpConnection {
+            inner,
+            from,
+            gives: true,
+            takes: true,
+        }
+    }
+
+    /// One to a peer, which is closed and not aborted where it is dropped.
+    pub(crate) fn to_peer(self) -> TcpConnection {
+        let mut connection = self;
+        connection.gives = false;
+        connection.takes = false;
+        connection
+    }
+
+    /// The line of PROXY protocol, version 1, that says who has called, and where.
+    pub fn proxy_line(&self) -> Head {
+        proxy_line(self.from, self.inner.local_addr().ok())
+    }
+
+    /// Whether one that was begun is there, after so many milliseconds at most. The error is why it can't be made.
+    pub fn is_there(&self, milliseconds: i32) -> io::Result<bool> {
+        let mut asked = [pollfd {
+            fd: self.inner.as_raw_fd(),
+            events: c::POLLOUT,
+            revents: 0,
+        }];
+        c::poll(&mut asked, milliseconds);
+        match self.inner.take_error()? {
+            Some(error) => Err(error),
+            None => Ok(self.inner.peer_addr().is_ok()),
+        }
+    }
+
+    /// What `prepare` says of a socket.
+    pub fn prepare(&self, keepalive: u32) {
+        prepare(&self.inner, keepalive);
+    }
+
+    /// The system fails the connection where what was sent isn't acknowledged for so many milliseconds.
+    pub fn limit_silence(&self, milliseconds: u32) {
+        set(
+            &self.inner,
+            c::IPPROTO_TCP,
+            c::TCP_USER_TIMEOUT,
+            milliseconds,
+        );
+    }
+}
+
+/// What is written to this socket goes out at once. Where nothing comes for so many seconds, the system asks the other side for a
+/// sign, and fails the connection where none comes; never for 0. All that a listener accepts is so from the start.
+pub fn prepare<S: AsRawFd>(socket: &S, keepalive: u32) {
+    set(socket, c::IPPROTO_TCP, c::TCP_NODELAY, 1);
+    if let Some(keepalive) = keepalive_of(keepalive) {
+        set(socket, c::IPPROTO_TCP, c::TCP_KEEPIDLE, keepalive.idle);
+        set(socket, c::IPPROTO_TCP, c::TCP_KEEPINTVL, keepalive.interval);
+        set(socket, c::IPPROTO_TCP, c::TCP_KEEPCNT, keepalive.probes);
+        set(socket, c::SOL_SOCKET, c::SO_KEEPALIVE, 1);
+    }
+}
+
+/// Sets this option of a socket.
+fn set<S: AsRawFd>(socket: &S, level: i32, option: i32, value: u32)
+    requires { SockOption level option }
+{
+    let mut bytes = [0u8; 16];
+    bytes[..4].copy_from_slice(&value.to_ne_bytes());
+    let _ = unsafe { c::setsockopt(socket.as_raw_fd(), level, option, &bytes, 4) };
+}
+
+impl Stream for TcpConnection {
+    ghost left = { λ _. None };
+
+    ghost had = { λ _. None };
+
+    fn register(&mut self, poll: &Poll, token: usize) -> Result<(), NoEvents> {
+        let both = Interest::READABLE | Interest::WRITABLE;
+        let registry = poll.inner.registry();
+        told(registry.register(&mut self.inner, Token(token), both))
+    }
+
+    fn peer(&self) -> Option<SocketAddr> {
+        self.from.or_else(|| self.inner.peer_addr().ok())
+    }
+
+    fn take_fault(&self) -> io::Result<Option<io::Error>> {
+        self.inner.take_error()
+    }
+
+    fn read(&mut self, buffer: &mut [u8]) -> io::Result<usize> {
+        let read = read(&mut &self.inner, buffer);
+        self.gives &= buffer.is_empty() || !matches!(read, Ok(0));
+        read
+    }
+
+    fn write(&mut self, bytes: &[u8]) -> io::Result<usize> {
+        write(&mut &self.inner, bytes)
+    }
+
+    fn write_pieces(&mut self, pieces: &[IoSlice<'_>]) -> io::Result<usize> {
+        'again: for _ in 0..RETRIES {
+            match self.inner.write_vectored(pieces) {
+                Err(e) if e.kind() == ErrorKind::Interrupted => {}
+                done => return done,
+            }
+        }
+        self.inner.write_vectored(pieces)
+    }
+
+    fn finish(&mut self) {
+        let _ = self.inner.shutdown(Shutdown::Write);
+        self.takes = false;
+    }
+
+    fn shut(&mut self) {
+        let _ = self.inner.shutdown(Shutdown::Both);
+    }
+
+    fn abort(&self) {
+        abort(&self.inner);
+    }
+}
+
+/// Begins to connect to this address. It doesn't wait.
+pub fn begin_call<R: Net>(rt: &R, address: SocketAddr) -> io::Result<TcpConnection> {
+    Ok(TcpConnection::new(mio::net::TcpStream::connect(rt, address)?, None))
+}
+
+/// Where connections come from, of which a poll tells. Its calls never wait. It is closed when it is dropped.
+#[derive(Drop)]
+pub(crate) struct Listener {
+    inner: mio::net::TcpListener,
+}
+
+impl Listener {
+    /// One that waits, made one that never does. From now on this poll tells under this token when a connection comes.
+    pub(crate) fn new(listener: TcpListener, poll: &Poll, token: usize) -> io::Result<Listener> {
+        listener.set_nonblocking(true)?;
+        let mut inner = mio::net::TcpListener::from_std(listener);
+        let registry = poll.inner.registry();
+        registry.register(&mut inner, Token(token), Interest::READABLE)?;
+        Ok(Listener { inner })
+    }
+
+    /// The next connection. Where none waits the error says so.
+    pub(crate) fn next(&self) -> io::Result<TcpConnection> {
+        let (connection, from) = self.inner.accept()?;
+        Ok(TcpConnection::new(connection, Some(from)))
+    }
+
+    /// Whether a connection waits, which stays there.
+    pub(crate) fn is_awaited(&self) -> bool {
+        let mut asked = [pollfd {
+            fd: self.inner.as_raw_fd(),
+            events: c::POLLIN,
+            revents: 0,
+        }];
+        c::poll(&mut asked, 0) > 0 && asked[0].revents & c::POLLIN != 0
+    }
+
+    /// Nobody listens any more, at none of its duplicates: their polls tell of that.
+    pub(crate) fn close_all(&self) {
+        c::shutdown(self.inner.as_raw_fd(), c::SHUT_RDWR);
+    }
+}
+
+/// What waits until something that was registered with it is ready, and the events that told of it last.
+#[derive(Drop)]
+pub struct Poll {
+    inner: mio::Poll,
+    events: mio::Events,
+    /// What a signal asks for.
+    drain: Option<Arc<Drain, Global>>,
+    /// How often it has waited. It stays at the greatest `u64`.
+    waits: u64,
+    /// How often events were taken, with a wait or without. It stays at the greatest `u64`.
+    looks: u64,
+}
+
+impl Poll {
+    /// One with which nothing is registered.
+    pub fn new<R: Net>(rt: &R, alloc: Global) -> Result<Poll, StartFault> {
+        Ok(Poll {
+            events: mio::Events::with_capacity(alloc, EVENTS)?,
+            inner: mio::Poll::new(rt)?,
+            drain: None,
+            waits: 0,
+            looks: 0,
+        })
+    }
+
+    /// From now on each wait and each look asks for this drain once the program was sent SIGUSR1: where the program is linked so,
+    /// the poll tells of that by a descriptor which no file has. Elsewhere the system refuses that, and nothing is asked for.
+    pub fn hear_signal(&mut self, drain: Arc<Drain, Global>) {
+        let mut signal = SourceFd(&SIGNAL);
+        let registry = self.inner.registry();
+        let _ = registry.register(&mut signal, Token(SIGNALLED), Interest::READABLE);
+        self.drain = Some(drain);
+    }
+
+    /// Takes events, after so long a wait at most, and heeds a signal.
+    fn take(&mut self, limit: Option<Duration>) -> Result<(), NoEvents>
+        ensures { (self.new.waits ≡ self.old.waits) × (self.new.looks ≡ self.old.looks) }
+    {
+        let taken = told(self.inner.poll(&mut self.events, limit));
+        let mut events = self.events.iter();
+        let is_signalled = events.any(|event| event.token() == Token(SIGNALLED));
+        if let (true, Some(drain)) = (is_signalled, &self.drain) {
+            drain.note_asked();
+        }
+        taken
+    }
+
+    /// Waits for events, and no longer than the limit, if there is one. They take the place of those that were there.
+    pub fn wait(&mut self, limit: Option<Duration>) -> Result<(), NoEvents>
+        ensures waits { CountsOne self.old.waits self.new.waits }
+        ensures looks { CountsOne self.old.looks self.new.looks }
+    {
+        self.waits = self.waits.saturating_add(1);
+        self.looks = self.looks.saturating_add(1);
+        self.take(limit)
+    }
+
+    /// Takes the events that are there, which take the place of those before. It doesn't wait.
+    pub fn look(&mut self) -> Result<(), NoEvents>
+        ensures waits { self.new.waits ≡ self.old.waits }
+        ensures looks { CountsOne self.old.looks self.new.looks }
+    {
+        self.looks = self.looks.saturating_add(1);
+        self.take(Some(Duration::ZERO))
+    }
+
+    /// Each event, as the system gave it: [`Said::of`] reads it.
+    pub fn events(&self) -> Iter<'_>
+        ensures rest { iter_rest result ≡ items self.now.events }
+        ensures len { length (iter_rest result) < 2 ^ 64 }
+        ensures runs { EveryRun (iter_steps {A = SystemEvent}) (λ p. ItemsMapTo p (λ e. e.now) (iter_rest p.from)) }
+    {
+        self.events.iter()
+    }
+}
+
+/// What an event says of what was registered under a token. What has failed may be used, and says so.
+#[derive(Clone, Copy)]
+pub struct Said {
+    /// Under which it was registered.
+    pub token: usize,
+    /// It may give bytes, or its end.
+    pub can_read: bool,
+    /// It may take bytes.
+    pub can_write: bool,
+    /// Its end is near.
+    pub is_closing: bool,
+}
+
+impl Said {
+    /// What this event says.
+    pub fn of(event: &mio::event::Event) -> Said {
+        let Token(token) = event.token();
+        let is_closing = event.is_read_closed() || event.is_error();
+        Said {
+            token,
+            can_read: event.is_readable() || is_closing,
+            can_write: event.is_writable() || is_closing,
+            is_closing,
+        }
+    }
+}
+
+/// What ends the wait of a poll from another thread.
+#[derive(Drop)]
+pub struct Waker {
+    inner: mio::Waker,
+}
+
+impl Waker {
+    /// One that ends the waits of this poll by an event under this token.
+    pub fn new(poll: &Poll, token: usize) -> io::Result<Waker> {
+        let inner = mio::Waker::new(poll.inner.registry(), Token(token))?;
+        Ok(Waker { inner })
+    }
+
+    /// Ends the wait that is under way, or else the next.
+    pub(crate) fn wake(&self) {
+        let _ = self.inner.wake();
+    }
+}
+
+/// Connects to this address.
+pub fn connect<R: Net<Stream = TcpStream>>(rt: &R, address: SocketAddr) -> io::Result<TcpStream> {
+    TcpStream::connect(rt, address)
+}
+
+/// Listens at this address. Where the system refuses so long a backlog, its own stays.
+pub fn listen<R: Net<Stream = TcpStream, Listener = TcpListener>>(
+    rt: &R,
+    address: SocketAddr,
+) -> io::Result<TcpListener> {
+    let listener = TcpListener::bind(rt, address)?;
+    let _ = libc::net::listen(listener.as_raw_fd(), BACKLOG);
+    Ok(listener)
+}
+
+/// One more that listens there, too.
+pub(crate) fn duplicate(listener: &TcpListener) -> io::Result<TcpListener> {
+    listener.try_clone()
+}
+
+/// Where this one listens.
+pub fn address_of(listener: &TcpListener) -> io::Result<SocketAddr> {
+    listener.local_addr()
+}
+
+/// The next connection that comes.
+pub fn accept(listener: &TcpListener) -> io::Result<TcpStream> {
+    let (connection, _) = listener.accept()?;
+    Ok(connection)
+}
+
+/// Writes all of these bytes.
+pub fn send(mut connection: &TcpStream, bytes: &[u8]) -> io::Result<()> {
+    connection.write_all(bytes)
+}
+
+/// The other end reads what was written, and then the end.
+pub fn finish(connection: &TcpStream) -> io::Result<()> {
+    connection.shutdown(Shutdown::Write)
+}
+
+/// Sends back all that comes, and then the end.
+pub fn echo(connection: &TcpStream) {
+    let _ = io::copy(&mut &*connection, &mut &*connection);
+    let _ = connection.shutdown(Shutdown::Write);
+}
