@@ -416,13 +416,14 @@ impl<R: Host, D: Outlet> SessionLoop<'_, '_, R, D> {
         let Side::Local(users) = &*self.side else {
             return false;
         };
+        if !users.may_accept(self.tunnel.len()) || self.leaves_users() {
+            return false;
+        }
         let can_open_later = !self.is_lost()
             && !self.tunnel.is_peer_away()
             && self.tunnel.next_id() < FIRST_EXHAUSTED;
-        let has_place = self.tunnel.len() < self.places() && self.tunnel.opens_left() > 0;
-        users.may_accept(self.tunnel.len())
-            && !self.leaves_users()
-            && (!can_open_later || has_place && self.is_heard)
+        let has_place = self.is_heard && self.tunnel.len() < self.places();
+        !can_open_later || has_place && self.tunnel.opens_left() > 0
     }
 
     /// How many connections it may have at once.
