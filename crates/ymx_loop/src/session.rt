@@ -3,7 +3,7 @@
 //! All that moves is moved by calls of [`ymx_engine::Tunnel`], which owns the wire and the connections. Each function
 //! here that makes such calls says that they are all it did: `Runs`.
 
-ghost use Rattle.std.specs.Prelude.{◌≡◌, ◌⊎◌, true, false, None, Some, IfOk, IfErr, not};
+ghost use Rattle.std.specs.Prelude.{◌≡◌, ◌⊎◌, length, true, false, None, Some, IfOk, IfErr, not};
 ghost use Rattle.ymx_engine.specs.Runs.{Runs, IsOver};
 ghost use Rattle.ymx_engine.specs.Served.{Serving};
 ghost use Rattle.ymx_engine.specs.Turns.{Line as LineValue, line_of};
@@ -238,7 +238,7 @@ impl<R: Host, D: Outlet> SessionLoop<'_, '_, R, D> {
         // Between two looks at the events it works a whole round.
         ensures rounds { WorksBetween self.old.tunnel self.new.tunnel poll.old.looks poll.new.looks }
         // A loop that wasn't left is over: nothing is due, or the wire has failed, and no connection is left.
-        ensures over { result ≡ OutcomeOf.Over → IsOver self.new.tunnel }
+        ensures over { result ≡ OutcomeOf.Over → IsOver self.new.tunnel × (length self.new.tunnel.lines.by_id ≡ 0) }
     {
         self.begin();
         for _ in self.context.rt.forever() {
@@ -457,7 +457,7 @@ impl<R: Host, D: Outlet> SessionLoop<'_, '_, R, D> {
 
     /// Whether this side and all its connections have ended, and nothing more goes over the wire.
     fn is_over(&self) -> bool
-        ensures { result ≡ true → IsOver self.now.tunnel }
+        ensures { result ≡ true → IsOver self.now.tunnel × (length self.now.tunnel.lines.by_id ≡ 0) }
     {
         let is_side_over = match &*self.side {
             Side::Local(users) => users.acceptor.is_over() || self.leaves_users(),
