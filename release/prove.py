@@ -302,7 +302,8 @@ def main():
     os.makedirs(room.folder, exist_ok=True)
     stamps, good = take_over(own)
     work = Work(own, good)
-    well = work.run(lanes())
+    # what --gate leaves is one crate after another, and each further job of one would load all that is below it once more
+    well = work.run(1 if asked.gate else lanes())
     for it in own:
         if it.label in work.done:
             with open(it.made(".stamp"), "w", encoding="ascii") as kept:
