@@ -72,7 +72,7 @@ from ports import free_port
 ymx, relay, trip, runs, near, far, peer = sys.argv[1:]
 trip, runs = float(trip), int(runs)
 WINDOWS = [262_144, 1 << 20, 4 << 20, 8 << 20, 16 << 20]
-# Each connection is measured for so many seconds, behind some in which it gets going.
+# Each connection is measured for so many seconds, after some in which it gets going.
 WARM, MEASURED = 1.0, 3.0
 PIECE = 1 << 20
 CLONE_NEWNET = 0x40000000

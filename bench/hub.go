@@ -1,5 +1,5 @@
 // What bench/hub_bench.rattle measures, of HashiCorp's yamux for Go: two sessions of one process over TCP on the
-// loopback. A line has a name, how many units, and the nanoseconds that they took. With a word behind its name it sends 4 GiB
+// loopback. A line has a name, how many units, and the nanoseconds that they took. With a word after its name it sends 4 GiB
 // over 64 streams alone.
 package main
 

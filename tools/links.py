@@ -2,9 +2,9 @@
 """links.py [--root FOLDER]: whether each link of the documents leads somewhere.
 
 The documents are README.md and CHANGELOG.md, those of docs/, and each README.md of bench, tests and bindings. A link with no scheme
-must lead to a file or folder of the repository, from the folder of its document. What stands behind `#` must be a heading
+must lead to a file or folder of the repository, from the folder of its document. What stands after `#` must be a heading
 there, spelt as the usual pages of a repository spell it: in small letters, with `-` for each blank, and without all else
-but letters, digits, `-` and `_`; a second heading of the same words has `-1` behind it. Code is not read. It prints each
+but letters, digits, `-` and `_`; a second heading of the same words has `-1` after it. Code is not read. It prints each
 link that leads nowhere, and ends with 'N links, M lead nowhere'.
 """
 import re

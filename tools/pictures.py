@@ -72,7 +72,7 @@ def printed(line):
 
 
 def screens():
-    """What each terminal shows: its title, the command, and the lines behind it."""
+    """What each terminal shows: its title, the command, and the lines after it."""
     ports = dict(zip(("8000", "4000", "8080"), map(str, free_ports(3))))
 
     def here(line):

@@ -6,9 +6,9 @@ What it compares, layout aside:
 - in the code blocks of README.md and docs/THEOREMS.md a clause: `function  name { clause }`, or `Type::function`, or
   `requires { clause }`. A function stands at the start of a line or before a name; one without a name has a clause
   without a name. Such a clause must stand at that function.
-- there, a definition: an equation `Name words = ..` or a record at the start of a line, with the indented lines behind
+- there, a definition: an equation `Name words = ..` or a record at the start of a line, with the indented lines after
   it. It must stand in the specs of a crate.
-- in README.md and docs/GUIDE.md a block of Rust: its lines must stand so, one behind another, in a file of examples/. A
+- in README.md and docs/GUIDE.md a block of Rust: its lines must stand so, one after another, in a file of examples/. A
   block of Go in README.md must stand so in the program that bindings/go/README.md shows, which its tests run.
 - everywhere in them and in docs/PROVED.md a formula between backticks: it must stand in a clause or a definition.
 - in docs/THEOREMS.md the table of the lines that a reader must believe: tools/lines_to_believe.py must count as
@@ -43,7 +43,7 @@ def words_of(text):
 
 
 def closing(text, at):
-    """The place behind the brace that closes the one at `at`; none if there is none."""
+    """The place after the brace that closes the one at `at`; none if there is none."""
     depth = 0
     for place in range(at, len(text)):
         depth += {"{": 1, "}": -1}.get(text[place], 0)
@@ -137,7 +137,7 @@ def behind_group(code, at):
 
 
 def places_behind(code, at):
-    """Where a quote may go on behind `..`: what is left out has as many opening brackets as closing ones."""
+    """Where a quote may go on after `..`: what is left out has as many opening brackets as closing ones."""
     depth = 0
     yield at
     for place in range(at, len(code)):

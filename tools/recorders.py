@@ -32,15 +32,15 @@ KNOWN = {
         ("ymx_hub/src/booked.rt", "ghost invariant = { λ s. Kept R.KEEPS s.ended s.role s.config s.log.entries s.session × (s.unspent ≤ spare s.half_spent) × (s.unspent ≤ s.given) × IsGood s.role s.config × IsJournaled R.WITNESSED R.role R.config s.role s.config s.log.journal s.session s.given × AllReleased s.released s.log.journal };"),
         ("ymx_seats/src/log.rt", "requires history { IsWitnessed R.WITNESSED"),
         ("ymx_seats/src/seat.rt", "requires witnessed { IsWitnessed R.WITNESSED"),
-        ("ymx_hub/src/book.rt", "requires history { IsHistoryOf R.WITNESSED"),
+        ("ymx_hub/src/recording.rt", "requires history { IsHistoryOf R.WITNESSED"),
         ("ymx_hub/src/booked.rt", "requires journal { IsUnused R.WITNESSED"),
         ("ymx_hub/src/opening.rt", "requires history { IsWitnessed R.WITNESSED"),
     ],
     "the memory for an entry is found before its event, where entries are kept": [
         ("ymx_seats/src/log.rt", "requires ready { IsReady R.KEEPS"),
         ("ymx_seats/src/log.rt", "requires room { R.KEEPS ≡ true →"),
-        ("ymx_hub/src/book.rt", "requires ready { IsReady R.KEEPS"),
-        ("ymx_hub/src/book.rt", "requires room { R.KEEPS ≡ true →"),
+        ("ymx_hub/src/recording.rt", "requires ready { IsReady R.KEEPS"),
+        ("ymx_hub/src/recording.rt", "requires room { R.KEEPS ≡ true →"),
     ],
     "a history is begun with a journal or without one": [
         ("ymx_seats/src/log.rt", "requires { R.WITNESSED ≡ false }"),
@@ -56,7 +56,7 @@ KNOWN = {
         ("ymx_hub/src/hub.rt", "requires { R.KEEPS ≡ true }"),
     ],
     "a stream is written by the caller of its writing half, where there is a journal that knows who that is": [
-        ("ymx_hub/src/book.rt", "requires may { R.WITNESSED ≡ true → MayDo"),
+        ("ymx_hub/src/recording.rt", "requires may { R.WITNESSED ≡ true → MayDo"),
         ("ymx_hub/src/halves.rt", "requires { R.WITNESSED ≡ true → HaveHalves"),
         ("ymx_hub/src/halves.rt", "requires { R.WITNESSED ≡ true → MayWrite"),
         ("ymx_hub/src/halves.rt", "ghost invariant = { λ half. R.WITNESSED ≡ true → MayWrite half.seat.right half.id };"),

@@ -5,8 +5,7 @@ No contract says what such a call does, so `crates/ymx_sockets/src/system.rt` is
 Sockets that never wait are private there. Those that wait are the standard library's, and other files may name their
 types, as bounds do. They make no call of them, and import nothing else of `std::net` or `std::io`, so that reads and
 writes of such a socket aren't in scope. And they name neither `mio` nor `libc`.
-One file reads from what it is lent, whatever that is, by a bound on `Read`: it names no socket, and its contract says of any
-reader which bytes came. And one writes a line into memory by `Write`, and names no socket either.
+One file writes a line into memory by `Write`, and names no socket.
 It prints each place that does, and ends with 'N lines to be read, M calls elsewhere'.
 """
 import re
@@ -22,8 +21,8 @@ MAY = {
     "net": {"Net", "Ipv4Addr", "SocketAddr", "SocketAddrV4", "TcpListener", "TcpStream"},
     "io": {"ErrorKind", "IoSlice"},
 }
-# who reads from what it is lent, and who writes into memory: they name no socket
-LENT = {"echoing.rt": "Read", "proxy.rt": "Write"}
+# who writes into memory: it names no socket
+LENT = {"proxy.rt": "Write"}
 SOCKET = re.compile(r"\b(?:Tcp|Udp|Unix)\w+")
 IMPORT = re.compile(r"\buse std::(net|io)::(\{[^}]*\}|[\w*]+)")
 METHODS = "incoming|local_addr|peer_addr|take_error|set_\\w+|shutdown|try_clone|peek|write_vectored|as_\\w*fd"

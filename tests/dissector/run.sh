@@ -6,7 +6,7 @@ set -eu
 here=$(cd "$(dirname "$0")" && pwd)
 . "$here/../over.sh"
 if ! command -v tshark > /dev/null || ! command -v text2pcap > /dev/null; then
-    left_out 'the dissector' 'no tshark'
+    left_out 'the dissector' 'no tshark' tshark
     counted
     exit
 fi

@@ -1,11 +1,11 @@
 """Plays scripts with each allocation refused in turn. Its words: the program, the library that refuses, and scripts.
 
 Beside each NAME.script stands NAME.out, what it prints where there is memory. With an allocation refused the program
-prints the same; or it says `ymx: out of memory` behind a beginning of it; or one answer is another:
+prints the same; or it says `ymx: out of memory` after a beginning of it; or one answer is another:
 
 - `refused 11 OutOfMemory`. Then nothing was changed: the same line once more is answered as it would have been, and so
   is all that follows.
-- ` nomem 1` behind the answer of a delivery. Then a stream was rejected: its opener reads `refused 3 Reset`, the other
+- ` nomem 1` after the answer of a delivery. Then a stream was rejected: its opener reads `refused 3 Reset`, the other
   side is offered the others and not this one, and a further stream comes through.
 """
 
@@ -56,7 +56,7 @@ class Row:
         """The answers to these lines, in a run that ends well."""
         status, text, said, _ = self.player.play(lines, number)
         if (status, said) != (0, ""):
-            self.fail(number, f"status {status}, {said!r} behind {text!r}")
+            self.fail(number, f"status {status}, {said!r} after {text!r}")
         return text.splitlines()
 
     def try_all(self):
@@ -78,7 +78,7 @@ class Row:
         if status == 1 and said == OUT_OF_MEMORY and whole.startswith(text):
             return "out of memory"
         if (status, said) != (0, ""):
-            self.fail(number, f"status {status}, {said!r} behind {text!r}")
+            self.fail(number, f"status {status}, {said!r} after {text!r}")
         answers = text.splitlines()
         if answers == self.answers:
             return "as ever"
@@ -107,7 +107,7 @@ class Row:
         wanted = self.answers[:place] + [self.answers[place] + " nomem 1", "emitted 12", "fed 12"]
         reads = answers[place + 3 :]
         if answers[: place + 3] != wanted or sorted(reads) != ["refused 3 Reset"] + ["wait"] * (len(opened) - 1):
-            self.fail(number, f"behind line {place + 1}: {answers} and not {wanted} and one reset")
+            self.fail(number, f"after line {place + 1}: {answers} and not {wanted} and one reset")
         others = [stream for stream, answer in zip(opened, reads) if answer == "wait"]
         self.go_on(lines, answers, others, number)
 
@@ -121,7 +121,7 @@ class Row:
         wanted = [f"accepted {stream}" for stream in others] + ["none", f"opened {further}", "took 1", "emitted 25", fed]
         wanted += [f"accepted {further}", "bytes 1 68"]
         if answers != wanted or not fed.startswith("fed ") or "nomem" in fed:
-            self.fail(number, f"behind a rejected stream: {answers} and not {wanted}")
+            self.fail(number, f"after a rejected stream: {answers} and not {wanted}")
 
 
 def main():

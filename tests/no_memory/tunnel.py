@@ -24,7 +24,7 @@ listen. Of all allocations just those of these threads may end so.
 
 `ymx selftest` is refused each in the same way, and the start of each thread. It ends within 60 seconds too: with status
 0 and its three lines, or with status 1 and one text: that there was no memory, that it can't listen, or which connection
-failed, behind the lines of those before.
+failed, after the lines of those before.
 """
 
 import collections

@@ -60,7 +60,7 @@ reads_of() {
     fi
 }
 
-# cut_of_the_client COUNT: A's 41 bytes are cut behind so many
+# cut_of_the_client COUNT: A's 41 bytes are cut after so many
 cut_of_the_client() {
     printf 'A open\nA write 1 68656c6c6f\nA finish 1\nemit A 100\ndeliver AB %s\nstop AB\nend AB\nB accept\n' "$1" > script
     printf 'opened 1\ntook 5\nok\nemitted 41\nfed %s\nok\nok\n' "$1" > wanted
@@ -71,7 +71,7 @@ cut_of_the_client() {
         reads_of "$1" >> wanted
         reads_of "$1" | while read -r _; do echo 'B read 1 10'; done >> script
     fi
-    plays "A's bytes, cut behind $1" script wanted
+    plays "A's bytes, cut after $1" script wanted
 }
 
 # cut_of_the_server COUNT: the same, of B's 41 bytes of an echo
@@ -85,7 +85,7 @@ cut_of_the_server() {
         printf 'opened 1\ntook 5\nok\nemitted 41\nfed 41\naccepted 1\nbytes 5 68656c6c6f\ntook 5\nok\nemitted 41\nfed %s\nok\nok\n' "$1"
         reads_of "$1"
     } > wanted
-    plays "B's bytes, cut behind $1" script wanted
+    plays "B's bytes, cut after $1" script wanted
 }
 
 count=0
@@ -97,7 +97,7 @@ done
 
 # ---- lines that are none of the language
 
-# mistake LINE: the fourth line, behind a comment, an empty line and an open, is a mistake
+# mistake LINE: the fourth line, after a comment, an empty line and an open, is a mistake
 mistake() {
     printf "# one\n\nA open\n$1\nA open\n" > script
     prints "the line '$1'" 'opened 1\nerror line 4\n'
@@ -149,7 +149,7 @@ prints 'a last line that is too long' 'opened 1\nerror line 2\n'
 printf 'A open\n#%s' "$(digits 65535)" > script
 prints 'a last line of the longest length' 'opened 1\n'
 
-# ---- a row of 1,024 answers: B refuses each stream, and sends nothing. The reset behind the last of these opens
+# ---- a row of 1,024 answers: B refuses each stream, and sends nothing. The reset after the last of these opens
 # isn't taken any more. When B sends, its Go Away goes first, and then each answer gives room for another.
 awk 'BEGIN { print "B away"; for (n = 0; n < 1024; n++) printf "A open\nA forget %d\nemit A 24\ndeliver AB 24\n", 2 * n + 1
     print "A open\nA forget 2049\nemit A 24\ndeliver AB 24"

@@ -1,5 +1,5 @@
 #!/bin/sh
-# units/run.sh [NAME..]: runs the unit tests of the crates, or of these crates: NAME/FILE.rattle stands behind
+# units/run.sh [NAME..]: runs the unit tests of the crates, or of these crates: NAME/FILE.rattle stands after
 # crates/NAME/src/FILE.rt, in a copy. They run and are not proved: to prove them would prove each of these crates a
 # second time.
 set -eu

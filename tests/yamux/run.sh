@@ -1,5 +1,5 @@
 #!/bin/sh
-# Sessions and streams: exchanges, and what becomes of streams and sessions that are let go.
+# Sessions and streams: exchanges, and what becomes of streams and sessions that are dropped.
 set -eu
 here=$(cd "$(dirname "$0")" && pwd)
 exec "$here/../try_tests.sh" yamux

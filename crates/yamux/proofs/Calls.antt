@@ -12,7 +12,7 @@ use Rattle.ymx_hub.specs.Turns.{WriteTurns}
 use Rattle.ymx_connect.specs.Streams.{ReadsUpTo, Copies}
 use Rattle.ymx_connect.specs.Told.{ClosesHalf, StandsIn, Exchanges, EchoesNext}
 use Rattle.ymx_connect.proofs.Told.{stands, sees_last, last_alone, last_reads_alone, exchanges, echoes}
-use Rattle.yamux.specs.Door.{ReaderView, StreamView, WritesAll, CopiesAll, OpensAt, AcceptsAt, FinishesAt}
+use Rattle.yamux.specs.Api.{ReaderView, StreamView, WritesAll, CopiesAll, OpensAt, AcceptsAt, FinishesAt}
 
 half_of : HalfView → Option HalfView → HalfView
 half_of other None = other
@@ -49,7 +49,7 @@ echoes_at caller accepted finished closed stream reader read old new count a r w
 
 -- ---- last calls
 
--- the writing half finished its stream, and the caller was shown the history behind it
+-- the writing half finished its stream, and the caller was shown the history after it
 pub finishes_at : (role : Role) (config : Config) (old new last shown : SeatView) (writer : Option HalfView) (half : HalfView) → writer ≡ Some half →
     Books false half.seat last (Spends (to_finish half.id) half.id half.seat.number (Ok tt)) → MayWrite half.seat.right half.id → last.right ≡ half.seat.right →
     IsShown old new → IsShown last shown → SaysSole last.right last.number shown.seen → new.seen ≡ shown.seen → IsWitnessed true role config new.seen →
@@ -63,7 +63,7 @@ finishes_at role config old new last shown writer half is booked may right mine 
   },
 )
 
--- the reading half was closed, and the caller was shown the history behind it
+-- the reading half was closed, and the caller was shown the history after it
 pub closes_at : (role : Role) (config : Config) (old new last shown : SeatView) (half : HalfView) →
     Books false half.seat last (Closes half.id half.seat.number (Ok tt)) → MayRead half.seat.right half.id → last.right ≡ half.seat.right →
     IsShown old new → IsShown last shown → SaysSole last.right last.number shown.seen → new.seen ≡ shown.seen → IsWitnessed true role config new.seen →

@@ -72,7 +72,7 @@ written_on role config fails failed before after is_ended moved why now later w 
 worked_on : (role : Role) (config : Config) (Kept : Option (List Entry) → Type 0) (drained : Result (Unit {0}) Undrained) (now later : SeatView) → HasWorked role config Kept drained now → IsShown now later → HasWorked role config Kept drained later
 worked_on role config Kept drained now later w s = record { caller = w.caller; last = w.last; kept = w.kept; closed = w.closed; shown = shown_on w.last now later w.shown s }
 
--- a caller closed the session behind its work, and let its seat go
+-- a caller closed the session after its work, and let its seat go
 pub has_worked : (role : Role) (config : Config) (Kept : Option (List Entry) → Type 0) (drained : Result (Unit {0}) Undrained) (session caller last now : SeatView) →
     Kept session.seen → caller ≡ session → HasClosed role config caller last drained → now ≡ record last { entries = []; room = 0 } → HasWorked role config Kept drained now
 has_worked role config Kept drained session caller last now k e c same = subst (HasWorked role config Kept drained) (sym same) (record {

@@ -1,11 +1,11 @@
 //! Calls of who proves what stands in a session's history: each takes the seat of its caller, who has then seen what it did.
 //!
-//! Each half of a stream is a caller of its own, with a history that it has seen. Whoever spends a half here has then seen the whole
+//! Each half of a stream is a caller of its own, with a history that it has seen. The caller that spends a half here has then seen the whole
 //! history, in which all stands that the half did.
 
 ghost use Rattle.std.specs.Prelude.{◌≡◌, IfOk, IfSome};
 ghost use Rattle.ymx_connect.specs.Told.{StandsIn, ClosesHalf};
-ghost use Rattle.yamux.specs.Door.{OpensAt, AcceptsAt, FinishesAt};
+ghost use Rattle.yamux.specs.Api.{OpensAt, AcceptsAt, FinishesAt};
 
 use crate::connection::Shut;
 use crate::error::Error;
@@ -23,7 +23,7 @@ impl<W: Runtime, S: Shut, J: Naming> Session<W, S, Witnessed<J>> {
         ensures grows { StandsIn caller.old.seen caller.new.seen }
         ensures opened { IfOk result (OpensAt caller.old caller.new) }
     {
-        let own = self.sight()?;
+        let own = self.parked()?;
         match open_at_seat(&self.rt, &self.hub, caller) {
             Ok(halves) => Ok(Stream::new(self.rt, own, halves)),
             Err(fault) => Err(Error::from(fault)),
@@ -38,7 +38,7 @@ impl<W: Runtime, S: Shut, J: Naming> Session<W, S, Witnessed<J>> {
         ensures grows { StandsIn caller.old.seen caller.new.seen }
         ensures accepted { IfOk result (λ offer. IfSome offer (AcceptsAt caller.old caller.new)) }
     {
-        let own = self.sight()?;
+        let own = self.parked()?;
         match accept_at_seat(&self.rt, &self.hub, caller) {
             Ok(Some(halves)) => Ok(Some(Stream::new(self.rt, own, halves))),
             Ok(None) => Ok(None),

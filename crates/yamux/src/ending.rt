@@ -1,4 +1,4 @@
-//! How a pump of a session ended, as whoever waits for it learns it.
+//! How a pump of a session ended, as the caller that waits for it learns it.
 //!
 //! A `JoinHandle` can't be shared by threads, and a session is. So a pump leaves its end here, and its thread is let run out.
 

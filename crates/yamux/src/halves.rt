@@ -5,7 +5,7 @@ ghost use Rattle.ymx_hub.specs.Books.{Books};
 ghost use Rattle.ymx_machine.specs.declared.types.Reply.TheVariants as reply;
 ghost use Rattle.ymx_hub.specs.Turns.{ReadTurns};
 ghost use Rattle.ymx_connect.specs.Streams.{ReadsUpTo, Copies};
-ghost use Rattle.yamux.specs.Door.{WritesAll, Finishes, CopiesAll};
+ghost use Rattle.yamux.specs.Api.{WritesAll, Finishes, CopiesAll};
 
 use crate::error::Error;
 use crate::host::Runtime;
@@ -13,12 +13,12 @@ use crate::pumps::discard;
 use std::marker::Model;
 use std::sync::Wait;
 use ymx_hub::{HubFault, Off, ReadHalf, WriteHalf};
-use ymx_seats::{Recorder, Sight};
+use ymx_seats::{Parked, Recorder};
 
 /// Bytes that `read_all` and `copy` move at once.
 const CHUNK: usize = 4_096;
 
-/// The writing half of a stream. Let go before it was closed, it resets the stream, so that the peer never takes a part for the
+/// The writing half of a stream. Dropped before it was closed, it resets the stream, so that the peer never takes a part for the
 /// whole. A call that fails resets it too, and each later call fails in the same way.
 pub struct Writer<W: Runtime, R: Recorder = Off> {
     rt: W,
@@ -28,12 +28,12 @@ pub struct Writer<W: Runtime, R: Recorder = Off> {
     pub(crate) failed: Option<Error>,
 }
 
-/// The reading half of a stream. Let go before it gave the end, it has the stream reset as soon as its writer is closed too. To write
+/// The reading half of a stream. Dropped before it gave the end, it has the stream reset as soon as its writer is closed too. To write
 /// without reading, `close` it.
 pub struct Reader<W: Runtime, R: Recorder = Off> {
     rt: W,
     /// Who opened or accepted the stream: a release shows it the history too.
-    caller: Sight<R>,
+    caller: Parked<R>,
     half: ReadHalf<R>,
 }
 
@@ -47,7 +47,7 @@ impl<W: Runtime, R: Recorder> Model for Writer<W, R> {
 }
 
 impl<W: Runtime, R: Recorder> Model for Reader<W, R> {
-    ghost use Rattle.yamux.specs.Door.{ReaderView};
+    ghost use Rattle.yamux.specs.Api.{ReaderView};
 
     ghost Value = { ReaderView };
 
@@ -152,7 +152,7 @@ impl<W: Runtime, R: Recorder> Writer<W, R> {
 }
 
 impl<W: Runtime, R: Recorder> Reader<W, R> {
-    pub(crate) fn new(rt: W, caller: Sight<R>, half: ReadHalf<R>) -> Reader<W, R>
+    pub(crate) fn new(rt: W, caller: Parked<R>, half: ReadHalf<R>) -> Reader<W, R>
         ensures { result ≡ record { caller = caller; half = half } }
     {
         Reader { rt, caller, half }

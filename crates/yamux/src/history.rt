@@ -21,10 +21,10 @@ use std::thread::PromisedHandle;
 use ymx_connect::PumpWhy;
 use ymx_hub::{Hub, Undrained};
 use ymx_model::{Config, Role};
-use ymx_seats::{Naming, NewJournal, Seat, Sight, Witnessed};
-use ymx_session::Session as Machine;
+use ymx_seats::{Naming, NewJournal, Parked, Seat, Witnessed};
+use ymx_session::Session as Core;
 
-/// What a program's `Work` answered, how the session ended behind it, and what its bytes came from and went to.
+/// What a program's `Work` answered, how the session ended after it, and what its bytes came from and went to.
 #[derive(Clone, Copy, Debug, PartialEq, Eq, Drop)]
 pub struct Worked<T, I, O> {
     /// What the `Work` answered.
@@ -36,13 +36,13 @@ pub struct Worked<T, I, O> {
     pub read: PumpWhy,
     /// How many bytes the session took. The count stays at the greatest `u64`.
     pub read_bytes: u64,
-    /// The reader, behind what was read.
+    /// The reader, after what was read.
     pub reader: I,
     /// Why the write pump ended: with `End` or `Device`.
     pub written: PumpWhy,
     /// How many bytes the writer took. The count stays at the greatest `u64`.
     pub written_bytes: u64,
-    /// The writer, behind what was written.
+    /// The writer, after what was written.
     pub writer: O,
 }
 
@@ -61,7 +61,7 @@ pub fn with_history<W: Host, I: OwnedInlet, O: OwnedOutlet, S: Shut, T: Drop, K:
     // The work, both pumps and the close of the session, before which nothing was due or something was in vain, stand in one history.
     ensures told { IfOk result (λ worked. InOneHistory role (with_first role config) (HasWorked role (with_first role config) (λ seen. K.Keeps work role (with_first role config) seen worked.answer) worked.drained) (HasRead (I.failures connection.reader) (I.failures worked.reader) (I.remaining connection.reader) (I.remaining worked.reader) worked.read_bytes worked.read) (HasWritten role (with_first role config) (O.failures connection.writer) (O.failures worked.writer) (O.contents connection.writer) (O.contents worked.writer) (O.is_ended worked.writer) worked.written_bytes worked.written)) }
 {
-    let machine = Machine::new(rt.alloc(), role, config)?;
+    let machine = Core::new(rt.alloc(), role, config)?;
     let journal = NewJournal::new(rt.alloc())?;
     run_named::<Brand, W, I, O, S, T, K>(rt, connection, machine, journal, work)
 }
@@ -78,7 +78,7 @@ fn run_named<
 >(
     rt: W,
     connection: Connection<I, O, S>,
-    machine: Machine,
+    machine: Core,
     journal: NewJournal,
     work: K,
 ) -> Result<Worked<T, I, O>, Error>
@@ -88,7 +88,7 @@ fn run_named<
 {
     let hub = Hub::<Witnessed<J>>::witnessed(rt.alloc(), machine, journal)?;
     let session = Session::without_pumps(rt, hub, connection.shutter)?;
-    let caller = session.sight()?;
+    let caller = session.parked()?;
     let writing = write_beside(&session, connection.writer)?;
     let reading = match read_beside(&session, connection.reader) {
         Ok(reading) => reading,
@@ -112,14 +112,14 @@ fn read_beside<J: Naming + Send + Sync + 'static, W: Host, S: Shut, I: OwnedInle
     ensures { IfOk result (λ thread. thread.promise.before.value ≡ reader) }
 {
     let before = Snapshot::of(&reader);
-    let settler = session.sight()?;
+    let purger = session.parked()?;
     let pump = session.pump(reader, READ_BUFFER, &session.ends.reading)?;
     match thread::spawn_with(
         &session.rt,
         ReadsOn { before },
         move || -> Pumped<Witnessed<J>, I>
             requires { IsNewcomer pump.seat.number pump.seat.seen }
-        { pump.read(settler) },
+        { pump.read(purger) },
     ) {
         Ok(thread) => Ok(thread),
         Err(_) => Err(session.without_thread(&session.ends.reading)),
@@ -149,7 +149,7 @@ fn write_beside<J: Naming + Send + Sync + 'static, W: Host, S: Shut, O: OwnedOut
 
 /// What a program did with a session up to its end: what it answered, whether nothing was due before it was closed, and what
 /// its caller has seen.
-type Done<J, T> = (T, Result<(), Undrained>, Sight<Witnessed<J>>);
+type Done<J, T> = (T, Result<(), Undrained>, Parked<Witnessed<J>>);
 
 /// What a program does with a session at this seat, which has made no call. Then it waits until nothing is due, and closes the
 /// session.
@@ -164,7 +164,7 @@ fn work_at<J: Naming + Send + Sync, W: Runtime, S: Shut, T: Drop, K: Work<W, T> 
     let mut seat = caller;
     let answer = work.run(session, &mut seat);
     let drained = drain_and_close(session, &mut seat);
-    (answer, drained, seat.into_sight())
+    (answer, drained, seat.into_parked())
 }
 
 /// Waits until nothing is due, and then closes the session by this seat. `Undrained` where something was due, and nothing
@@ -180,7 +180,7 @@ fn drain_and_close<J: Naming, W: Runtime, S: Shut>(
     drained
 }
 
-/// What a program answered behind which the session was closed, how both pumps ended, and their devices. It shows the whole
+/// What a program answered after which the session was closed, how both pumps ended, and their devices. It shows the whole
 /// history to the seats of all three.
 #[tactic(auto, using(crate::proofs::PumpEnds::have_met))]
 fn told_by<J: Naming, W: Runtime, S: Shut, T: Drop, I: Drop, O: Drop>(
@@ -189,14 +189,14 @@ fn told_by<J: Naming, W: Runtime, S: Shut, T: Drop, I: Drop, O: Drop>(
     read: Pumped<Witnessed<J>, I>,
     written: Pumped<Witnessed<J>, O>,
 ) -> Worked<T, I, O>
-    ensures met { HaveMet J.role J.config done.2 read.sight written.sight }
+    ensures met { HaveMet J.role J.config done.2 read.parked written.parked }
     ensures worked { result ≡ record { answer = done.0; drained = done.1; read = read.why; read_bytes = read.moved; reader = read.device; written = written.why; written_bytes = written.moved; writer = written.device } }
 {
     let alloc = session.rt.alloc();
-    let (answer, drained, sight) = done;
-    let mut one = sight.into_seat(alloc);
-    let mut other = read.sight.into_seat(alloc);
-    let mut third = written.sight.into_seat(alloc);
+    let (answer, drained, parked) = done;
+    let mut one = parked.into_seat(alloc);
+    let mut other = read.parked.into_seat(alloc);
+    let mut third = written.parked.into_seat(alloc);
     session
         .hub
         .meet_three(&session.rt, &mut one, &mut other, &mut third);

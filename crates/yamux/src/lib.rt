@@ -3,8 +3,8 @@
 //! A `Session` owns its connection and the two threads that move its bytes. It is shared by `&` or in an `Arc`, and its calls need
 //! no lock. A `Stream` is a value: it may stand in a struct, go to another thread, or be split into a `Reader` and a `Writer`.
 //!
-//! What is let go never looks whole. A stream that was not finished, or not read to its end, is reset by its drop: behind an early
-//! `?`, a write that failed, or a thread that couldn't be made. A session that is let go is closed, and its connection is shut.
+//! A dropped stream never looks complete. A stream that was not finished, or not read to its end, is reset by its drop: after an early
+//! `?`, a write that failed, or a thread that couldn't be made. A session that is dropped is closed, and its connection is shut.
 //!
 //! `session` and `stream` have the calls, `halves` the two halves, `connection` what bytes come from and go to, `pumps` the two
 //! threads, and `ending` how one ended.

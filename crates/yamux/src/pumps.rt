@@ -11,12 +11,12 @@ use std::alloc::Global;
 use std::snapshot::Snapshot;
 use std::sync::Arc;
 use std::thread::Promise;
-use ymx_connect::{Gate, Lent, PumpEnd, PumpWhy, SettlerEnd, read_pump, write_pump};
+use ymx_connect::{Gate, PumpEnd, PumpIo, PumpWhy, PurgerEnd, read_pump, write_pump};
 use ymx_header::FRAME_LENGTH;
 use ymx_hub::Hub;
 use ymx_memory::RefusedAllocation;
 use ymx_model::{Inlet, Outlet};
-use ymx_seats::{Recorder, Seat, Sight};
+use ymx_seats::{Parked, Recorder, Seat};
 
 /// Bytes that the read pump reads at once: 13 whole frames of the longest that are sent. With 16 a session would take more
 /// than 600,000 bytes.
@@ -47,7 +47,7 @@ impl Buffer {
 pub(crate) struct Pump<W: Runtime, R: Recorder, D: Drop> {
     pub(crate) rt: W,
     pub(crate) hub: Arc<Hub<R>, Global>,
-    pub(crate) seat: Sight<R>,
+    pub(crate) seat: Parked<R>,
     pub(crate) device: D,
     pub(crate) buffer: Buffer,
     /// Where it leaves its end.
@@ -57,14 +57,14 @@ pub(crate) struct Pump<W: Runtime, R: Recorder, D: Drop> {
 /// How a pump ended.
 #[derive(Drop)]
 pub(crate) struct Pumped<R: Recorder, D: Drop> {
-    /// Its device, behind what it moved.
+    /// Its device, after what it moved.
     pub(crate) device: D,
     /// Why it ended.
     pub(crate) why: PumpWhy,
     /// How many bytes it moved.
     pub(crate) moved: u64,
     /// What its seat has seen.
-    pub(crate) sight: Sight<R>,
+    pub(crate) parked: Parked<R>,
 }
 
 /// What the thread of a read pump promises of this reader: it is read on from where it was.
@@ -83,14 +83,14 @@ impl<R: Recorder, I: Inlet + Drop> Promise<Pumped<R, I>> for ReadsOn<I> {
     ghost use Rattle.std.specs.Prelude.{◌≡◌, false};
     ghost use Rattle.ymx_connect.specs.Pumping.{HasRead};
 
-    ghost kept_by = { λ promise pumped. R.KEEPS ≡ false → HasRead (I.failures promise.before.value) (I.failures pumped.device) (I.remaining promise.before.value) (I.remaining pumped.device) pumped.moved pumped.why pumped.sight };
+    ghost kept_by = { λ promise pumped. R.KEEPS ≡ false → HasRead (I.failures promise.before.value) (I.failures pumped.device) (I.remaining promise.before.value) (I.remaining pumped.device) pumped.moved pumped.why pumped.parked };
 }
 
 impl<R: Recorder, O: Outlet + Drop> Promise<Pumped<R, O>> for WritesOn<O> {
     ghost use Rattle.std.specs.Prelude.{◌≡◌, true, false};
     ghost use Rattle.ymx_connect.specs.Pumping.{HasWritten};
 
-    ghost kept_by = { λ promise pumped. R.KEEPS ≡ false → R.WITNESSED ≡ true → HasWritten R.role R.config (O.failures promise.before.value) (O.failures pumped.device) (O.contents promise.before.value) (O.contents pumped.device) (O.is_ended pumped.device) pumped.moved pumped.why pumped.sight };
+    ghost kept_by = { λ promise pumped. R.KEEPS ≡ false → R.WITNESSED ≡ true → HasWritten R.role R.config (O.failures promise.before.value) (O.failures pumped.device) (O.contents promise.before.value) (O.contents pumped.device) (O.is_ended pumped.device) pumped.moved pumped.why pumped.parked };
 }
 
 /// Lets a pump run.
@@ -103,18 +103,18 @@ impl Gate for AlwaysOpen {
 
 impl<W: Runtime, R: Recorder, I: Inlet + Drop> Pump<W, R, I> {
     /// Runs the read pump until it ends. After each feed it looks at the streams that were released, at another seat.
-    pub(crate) fn read(self, settler: Sight<R>) -> Pumped<R, I>
+    pub(crate) fn read(self, purger: Parked<R>) -> Pumped<R, I>
         requires { IsNewcomer self.seat.number self.seat.seen }
-        ensures { R.KEEPS ≡ false → HasRead (I.failures self.device) (I.failures result.device) (I.remaining self.device) (I.remaining result.device) result.moved result.why result.sight }
+        ensures { R.KEEPS ≡ false → HasRead (I.failures self.device) (I.failures result.device) (I.remaining self.device) (I.remaining result.device) result.moved result.why result.parked }
     {
         let rt = self.rt;
         let Buffer { mut bytes } = self.buffer;
         let mut device = self.device;
         let seat = self.seat.into_seat(rt.alloc());
-        let seats = (seat, settler.into_seat(rt.alloc()));
-        let lent = Lent(&mut device, &mut AlwaysOpen, bytes.as_mut_slice());
-        let (ended, settled) = read_pump(&rt, &*self.hub, seats, lent);
-        let SettlerEnd { seat, settled: _ } = settled;
+        let seats = (seat, purger.into_seat(rt.alloc()));
+        let lent = PumpIo(&mut device, &mut AlwaysOpen, bytes.as_mut_slice());
+        let (ended, purged) = read_pump(&rt, &*self.hub, seats, lent);
+        let PurgerEnd { seat, purged: _ } = purged;
         discard(seat);
         let PumpEnd { seat, moved, why } = ended;
         self.ends.reading.tell(&rt, why);
@@ -122,7 +122,7 @@ impl<W: Runtime, R: Recorder, I: Inlet + Drop> Pump<W, R, I> {
             device,
             why,
             moved,
-            sight: seat.into_sight(),
+            parked: seat.into_parked(),
         }
     }
 }
@@ -131,13 +131,13 @@ impl<W: Runtime, R: Recorder, O: Outlet + Drop> Pump<W, R, O> {
     /// Runs the write pump until it ends.
     pub(crate) fn write(self) -> Pumped<R, O>
         requires { IsNewcomer self.seat.number self.seat.seen }
-        ensures { R.KEEPS ≡ false → R.WITNESSED ≡ true → HasWritten R.role R.config (O.failures self.device) (O.failures result.device) (O.contents self.device) (O.contents result.device) (O.is_ended result.device) result.moved result.why result.sight }
+        ensures { R.KEEPS ≡ false → R.WITNESSED ≡ true → HasWritten R.role R.config (O.failures self.device) (O.failures result.device) (O.contents self.device) (O.contents result.device) (O.is_ended result.device) result.moved result.why result.parked }
     {
         let rt = self.rt;
         let Buffer { mut bytes } = self.buffer;
         let mut device = self.device;
         let seat = self.seat.into_seat(rt.alloc());
-        let lent = Lent(&mut device, &mut AlwaysOpen, bytes.as_mut_slice());
+        let lent = PumpIo(&mut device, &mut AlwaysOpen, bytes.as_mut_slice());
         let ended = write_pump(&rt, &*self.hub, seat, lent);
         let PumpEnd { seat, moved, why } = ended;
         self.ends.writing.tell(&rt, why);
@@ -145,7 +145,7 @@ impl<W: Runtime, R: Recorder, O: Outlet + Drop> Pump<W, R, O> {
             device,
             why,
             moved,
-            sight: seat.into_sight(),
+            parked: seat.into_parked(),
         }
     }
 }

@@ -3,7 +3,7 @@
 ghost use Rattle.std.specs.Prelude.{◌≡◌, ◌<◌, ◌≤◌, None, IfOk, IfSome};
 ghost use Rattle.ymx_memory.specs.Bounds.{most_zeros};
 ghost use Rattle.ymx_seats.specs.Views.{IsNewcomer};
-ghost use Rattle.yamux.specs.Door.{IsOpened, IsAccepted};
+ghost use Rattle.yamux.specs.Api.{IsOpened, IsAccepted};
 ghost use Rattle.ymx_session.specs.NewSessions.{new_fault};
 
 use crate::connection::{Connection, OwnedInlet, OwnedOutlet, Shut, TcpShut};
@@ -19,11 +19,11 @@ use std::thread;
 use ymx_connect::PumpWhy;
 use ymx_hub::{Hub, Off, accept_at_seat, open_at_seat, open_with_at_seat};
 use ymx_model::{Config, Role};
-use ymx_seats::{Recorder, Seat, Sight};
-use ymx_session::Session as Machine;
+use ymx_seats::{Parked, Recorder, Seat};
+use ymx_session::Session as Core;
 
 /// A running session over a connection. It owns the connection, and two threads that move its bytes. Threads may share it by `&` or in
-/// an `Arc`. Let go, it is aborted, and its threads have ended then.
+/// an `Arc`. Its drop aborts it, and its threads have ended then.
 pub struct Session<W: Runtime, S: Shut = TcpShut, R: Recorder = Off> {
     pub(crate) rt: W,
     pub(crate) hub: Arc<Hub<R>, Global>,
@@ -81,7 +81,7 @@ impl<W: Host, S: Shut + Send + Sync + 'static> Session<W, S> {
     ) -> Result<Session<W, S>, Error>
         ensures may { IfOk result (λ _. new_fault role config ≡ None) }
     {
-        let machine = Machine::new(rt.alloc(), role, config)?;
+        let machine = Core::new(rt.alloc(), role, config)?;
         let hub = Hub::new(rt.alloc(), machine, Off)?;
         Session::over_hub(rt, connection, hub)
     }
@@ -100,14 +100,14 @@ impl<W: Host, S: Shut + Send + Sync + 'static, R: Recorder + Send + Sync + 'stat
         hub: Arc<Hub<R>, Global>,
     ) -> Result<Session<W, S, R>, Error> {
         let session = Session::without_pumps(rt, hub, connection.shutter)?;
-        let settler = session.sight()?;
+        let purger = session.parked()?;
         let pump = session.pump(connection.reader, READ_BUFFER, &session.ends.reading)?;
         let reading = thread::spawn(
             &rt,
             move ||
                 requires { IsNewcomer pump.seat.number pump.seat.seen }
             {
-                let _ = pump.read(settler);
+                let _ = pump.read(purger);
             },
         );
         if reading.is_err() {
@@ -161,7 +161,7 @@ impl<W: Runtime, S: Shut, R: Recorder> Session<W, S, R> {
         let pump = Pump {
             rt,
             hub: ymx_memory::share(&self.hub)?,
-            seat: self.sight()?,
+            seat: self.parked()?,
             device,
             buffer: Buffer::new(rt.alloc(), buffer)?,
             ends: ymx_memory::share(&self.ends)?,
@@ -177,11 +177,11 @@ impl<W: Runtime, S: Shut, R: Recorder> Session<W, S, R> {
     }
 
     /// What is left of a new seat, which has made no call.
-    pub(crate) fn sight(&self) -> Result<Sight<R>, Error>
-        ensures { IfOk result (λ sight. IsNewcomer sight.number sight.seen) }
+    pub(crate) fn parked(&self) -> Result<Parked<R>, Error>
+        ensures { IfOk result (λ parked. IsNewcomer parked.number parked.seen) }
     {
         let seat = self.hub.seat(&self.rt)?;
-        Ok(seat.into_sight())
+        Ok(seat.into_parked())
     }
 
     /// The hub, whose calls take the seat of who makes them: what it has seen then, its contracts say.
@@ -200,7 +200,7 @@ impl<W: Runtime, S: Shut, R: Recorder> Session<W, S, R> {
         let rt = self.rt;
         let mut seat = self.hub.seat(&rt)?;
         let opened = open_at_seat(&rt, &self.hub, &mut seat);
-        let caller = seat.into_sight();
+        let caller = seat.into_parked();
         match opened {
             Ok(halves) => Ok(Stream::new(rt, caller, halves)),
             Err(fault) => Err(Error::from(fault)),
@@ -213,7 +213,7 @@ impl<W: Runtime, S: Shut, R: Recorder> Session<W, S, R> {
         let rt = self.rt;
         let mut seat = self.hub.seat(&rt)?;
         let opened = open_with_at_seat(&rt, &self.hub, &mut seat, bytes);
-        let caller = seat.into_sight();
+        let caller = seat.into_parked();
         let (writer, reader, taken) = opened?;
         let mut stream = Stream::new(rt, caller, (writer, reader));
         if taken < bytes.len() {
@@ -231,7 +231,7 @@ impl<W: Runtime, S: Shut, R: Recorder> Session<W, S, R> {
         let rt = self.rt;
         let mut seat = self.hub.seat(&rt)?;
         let offer = accept_at_seat(&rt, &self.hub, &mut seat);
-        let caller = seat.into_sight();
+        let caller = seat.into_parked();
         match offer {
             Ok(Some(halves)) => Ok(Some(Stream::new(rt, caller, halves))),
             Ok(None) => Ok(None),
@@ -239,7 +239,7 @@ impl<W: Runtime, S: Shut, R: Recorder> Session<W, S, R> {
         }
     }
 
-    /// Asks the peer for a sign of life, and waits for it (ping). `Closed` and `Lost`, and `PingsPending` while 16 pings wait.
+    /// Pings the peer, and waits for the answer (ping). `Closed` and `Lost`, and `PingsPending` while 16 pings wait.
     pub fn ping(&self) -> Result<(), Error> {
         let rt = self.rt;
         let mut seat = self.hub.seat(&rt)?;
@@ -287,7 +287,7 @@ impl<W: Runtime, S: Shut, R: Recorder> Session<W, S, R> {
         drop(seat);
         let written = said_by(self.ends.writing.wait(&rt));
         if written.is_err() {
-            // The peer is told of no end, so it may wait for ever.
+            // The peer learns of no end, so it may wait for ever.
             self.shutter.shut();
         }
         said_by(self.ends.reading.wait(&rt))?;

@@ -5,16 +5,16 @@ ghost use Rattle.ymx_hub.specs.Books.{Books};
 ghost use Rattle.ymx_machine.specs.declared.types.Reply.TheVariants as reply;
 ghost use Rattle.ymx_hub.specs.Turns.{ReadTurns};
 ghost use Rattle.ymx_connect.specs.Streams.{ReadsUpTo};
-ghost use Rattle.yamux.specs.Door.{WritesAll, Finishes};
+ghost use Rattle.yamux.specs.Api.{WritesAll, Finishes};
 
 use crate::error::Error;
 use crate::halves::{Reader, Writer};
 use crate::host::Runtime;
 use std::marker::Model;
 use ymx_hub::{Off, ReadHalf, WriteHalf};
-use ymx_seats::{Recorder, Sight};
+use ymx_seats::{Parked, Recorder};
 
-/// A stream of a session. Let go before it was finished (`close_write`, `close`) and read to its end, it is reset, so that neither
+/// A stream of a session. Dropped before it was finished (`close_write`, `close`) and read to its end, it is reset, so that neither
 /// side takes a part for the whole.
 pub struct Stream<W: Runtime, R: Recorder = Off> {
     writer: Writer<W, R>,
@@ -22,7 +22,7 @@ pub struct Stream<W: Runtime, R: Recorder = Off> {
 }
 
 impl<W: Runtime, R: Recorder> Model for Stream<W, R> {
-    ghost use Rattle.yamux.specs.Door.{StreamView};
+    ghost use Rattle.yamux.specs.Api.{StreamView};
 
     ghost Value = { StreamView };
 
@@ -38,7 +38,7 @@ impl<W: Runtime, R: Recorder> Drop for Stream<W, R> {
 }
 
 impl<W: Runtime, R: Recorder> Stream<W, R> {
-    pub(crate) fn new(rt: W, caller: Sight<R>, halves: (WriteHalf<R>, ReadHalf<R>)) -> Stream<W, R>
+    pub(crate) fn new(rt: W, caller: Parked<R>, halves: (WriteHalf<R>, ReadHalf<R>)) -> Stream<W, R>
         ensures { result ≡ record { writer = Some halves.0; reader = record { caller = caller; half = halves.1 } } }
     {
         let (writer, reader) = halves;

@@ -14,7 +14,7 @@ pub trait Work<W: Runtime, T> {
     ghost use Rattle.std.specs.Prelude.{List, Option};
     ghost use Rattle.ymx_seats.specs.Views.{IsNewcomer};
 
-    /// What its answer promises, of a session of this role and config, and of its history as the caller has seen it behind the
+    /// What its answer promises, of a session of this role and config, and of its history as the caller has seen it after the
     /// work. `with_history` promises the same of the one history in which it closes the session.
     ghost Keeps: { Self → Role → Config → Option (List Entry) → T → Type 0 };
 

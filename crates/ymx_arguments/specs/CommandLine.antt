@@ -130,7 +130,7 @@ abbrev pub is_slash : ℕ → Bool
 is_slash = λ byte. byte == 47
 
 -- The text names this network: an IPv4 address, all of which counts, or what stands before its first `/` is an IPv4 address, and what
--- stands behind it says how many of its first bits count, 0 to 32 in decimal digits alone.
+-- stands after it says how many of its first bits count, 0 to 32 in decimal digits alone.
 abbrev pub IsNetwork : Text → Network → Type 0
 IsNetwork text network =
     ((position_or_len is_slash text ≡ length text) × IsIpv4Text text network.address × (network.bits ≡ 32))
@@ -195,7 +195,7 @@ IsSessionOf given session =
 -- a plan is what the options say
 abbrev pub IsPlanOf : List Entry → Plan → Type 0
 IsPlanOf given plan =
-    IsEndpointOf given plan.endpoint × IsPeerOf given plan.peer × IsSessionOf given plan.session × ReadsFlag given (codes "keep") plan.is_kept
+    IsEndpointOf given plan.endpoint × IsPeerOf given plan.peer × IsSessionOf given plan.session × ReadsFlag given (codes "keep") plan.keeps
     × IsNumberOf given (codes "timeout") plan.timeout × AreNetworksOf given plan.from × IsStatusOf given plan.status
     × ReadsFlag given (codes "verbose") plan.is_verbose × ReadsFlag given (codes "times") plan.has_times
 
@@ -232,7 +232,7 @@ IsWrong given (bad.FarStatus text) =
     × ((address : SocketAddrV4) → IsSocketV4Text text.now address → IsNear address → ⊥)
 IsWrong given bad.NoStatus = (first_of (codes "status") given ≡ None) × (IsNotSaid (one_of (codes "status-anywhere") given) → ⊥)
 
--- this is wrong with the subcommand of this name: only an end of a tunnel must say how it meets its peer
+-- this is wrong with the subcommand of this name: only an endpoint of a tunnel must say how it meets its peer
 abbrev pub IsMistakeFor : Text → List Entry → BadOption → Type 0
 IsMistakeFor name given mistake = IsWrong given mistake × (mistake ≡ bad.NoPeer → (name ≡ codes "local") ⊎ (name ≡ codes "remote"))
 

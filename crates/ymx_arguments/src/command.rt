@@ -88,7 +88,7 @@ fn titled<'a>(alloc: Global, name: &'a str) -> Command<'a>
     }
 }
 
-/// The argument of this row. Clap takes any text for it: what reads it says what is wrong with it.
+/// The argument of this row. Clap takes any text for it: its reader says what is wrong with it.
 fn argument<'a>(alloc: Global, row: &Row) -> Result<Arg<'a>, AllocError>
     ensures { IfOk result (λ arg. (rule_of arg ≡ row_rule (stated row.now)) × (arg.global ≡ false)) }
 {

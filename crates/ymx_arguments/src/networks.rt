@@ -1,4 +1,4 @@
-//! The networks from which a peer may call, as texts name them.
+//! The networks from which a peer may connect, as texts name them.
 
 ghost use Rattle.std.specs.Prelude.{◌≡◌, ◌-◌, length, map, min, slice_get, MatchOption, MatchResult};
 ghost use Rattle.ymx_arguments.specs.CommandLine.{IsIn, IsNetwork, IsNoNetwork, StandsFor};

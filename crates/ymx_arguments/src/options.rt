@@ -82,7 +82,7 @@ fn plan_of<'a>(
         endpoint,
         peer,
         session,
-        is_kept: flag(found, "keep"),
+        keeps: flag(found, "keep"),
         timeout: number(found, "timeout")?,
         from: networks(found)?,
         status: status(found)?,

@@ -22,7 +22,7 @@ pub enum Task<'a> {
     Frames { limit: u32, file: Option<&'a str> },
     /// The script of a file or, with no name, of standard input, to be played.
     Script { file: Option<&'a str> },
-    /// An end of a tunnel, to be run by this plan.
+    /// An endpoint of a tunnel, to be run by this plan.
     Tunnel(Plan),
     /// The test of a tunnel, in one process.
     Selftest,
@@ -130,7 +130,7 @@ fn kind_for(bad: BadOption<'_>) -> ErrorKind
     }
 }
 
-/// What is said of this mistake.
+/// The text of this mistake.
 fn message_of(alloc: Global, bad: BadOption<'_>) -> Result<String, AllocError> {
     let mut said = String::new(alloc);
     match bad {

@@ -118,7 +118,7 @@ static ROWS: [Row; 25] = [
     row!(FLAG, name: "file", owner: Owner::Tools, kind: Kind::Word, value: &["FILE"],
         help: "The file to read; `-` or none is standard input"),
     row!(ADDRESS, name: "listen", owner: Owner::Local, is_needed: true,
-        help: "Where connections come from, as 127.0.0.1:8080"),
+        help: "Accept users at ADDRESS, as 127.0.0.1:8080"),
     row!(ADDRESS, name: "peer", owner: Owner::Local, apart: Some("bind"),
         help: "Where `ymx remote` listens, to connect there"),
     row!(ADDRESS, name: "bind", old_names: &["await"], owner: Owner::Local,
@@ -130,39 +130,39 @@ static ROWS: [Row; 25] = [
     row!(ADDRESS, name: "target", owner: Owner::Remote, is_needed: true, least: 1,
         help: "Where each stream is connected to"),
     row!(FLAG, name: "keep", owner: Owner::Local,
-        help: "Meet the peer again, once it was lost"),
+        help: "Reconnect after the link is lost"),
     row!(FLAG, name: "keep", owner: Owner::Remote,
-        help: "Go on once a peer has gone"),
+        help: "Accept the next peer after one has gone"),
     row!(NUMBER, name: "links", owner: Owner::Local, least: 1, most: 64, apart: Some("bind"),
-        help: "How many connections to the peer it keeps, from 1 to 64, a thread each"),
+        help: "Connections to the peer, 1 to 64, a thread each"),
     row!(NUMBER, name: "peers", owner: Owner::Remote, least: 1, most: 256, apart: Some("peer"),
-        help: "How many peers are served at once, from 1 to 256; 16 with --keep, and else 1"),
+        help: "Most peers at once, 1 to 256 [default: 1, with --keep 16]"),
     row!(SECONDS, name: "ping",
-        help: "Give up a peer that is silent for twice so long, from 1 to 3600"),
+        help: "Ping after SECONDS of silence; drop the peer after twice that, 1 to 3600"),
     row!(SECONDS, name: "keepalive", least: 0, default: &["60"],
-        help: "After how long a silence the system looks for the other side, or 0 for never"),
+        help: "TCP keepalive: idle time before the first probe, 0 to turn it off"),
     row!(SECONDS, name: "idle", most: 86_400,
-        help: "Abort a connection on which no byte moves for so long, from 1 to 86400"),
+        help: "Idle timeout of a connection, 1 to 86400"),
     row!(SECONDS, name: "timeout", apart: Some("bind"),
-        help: "How long a call to the peer may take, from 1 to 3600"),
+        help: "Connect timeout, 1 to 3600"),
     row!(FLAG, name: "proxy-protocol", owner: Owner::Local,
-        help: "Begin each stream with the line of PROXY protocol that says who its user is"),
+        help: "Send a PROXY protocol v1 header on each stream"),
     row!(NUMBER, name: "count", owner: Owner::Local, most: u32::MAX,
-        help: "End after so many connections"),
+        help: "Exit after N connections"),
     row!(FLAG, name: "from", kind: Kind::Texts, value: &["NETWORK"], apart: Some("peer"),
-        help: "From where a peer may call with --bind, as 192.0.2.0/24; up to 8 times"),
+        help: "Accept peers only from NETWORK, as 192.0.2.0/24; up to 8 times"),
     row!(ADDRESS, name: "status",
-        help: "Where to answer requests for what is counted, as 127.0.0.1:9100"),
+        help: "Serve metrics and health at ADDRESS, as 127.0.0.1:9100"),
     row!(FLAG, name: "status-anywhere",
-        help: "Take a --status address that is not of the loopback"),
+        help: "Allow a --status address other than loopback"),
     row!(FLAG, name: "times",
-        help: "Begin each line on standard error with the time"),
+        help: "Prefix log lines with the time"),
     row!(BYTES, name: "window",
-        help: "How much of a stream may be unread here, from 262144 to 16777216"),
+        help: "Receive window per stream, 262144 to 16777216"),
     row!(NUMBER, name: "workers", owner: Owner::Remote, least: 1, most: 1_024, default: &["1024"],
-        help: "How many streams are served at once, from 1 to 1024"),
+        help: "Most streams at once, 1 to 1024"),
     row!(FLAG, name: "verbose", letter: Some('v'),
-        help: "Say on standard error where it listens, and how each connection ended"),
+        help: "Log listening addresses, peers and connections"),
 ];
 
 /// The options.
@@ -173,7 +173,7 @@ pub(crate) fn rows() -> &'static [Row]
     &ROWS
 }
 
-/// An option that these words name, which only the other end of a tunnel has than their subcommand, and that other one.
+/// An option that these words name, which only the other endpoint's subcommand has, and that one.
 pub fn foreign_option<S: AsStr>(words: &[S]) -> Option<(&str, &'static str)> {
     let (own, other) = match words.get(1)?.as_str() {
         "local" => ("local", "remote"),
@@ -190,7 +190,7 @@ pub fn foreign_option<S: AsStr>(words: &[S]) -> Option<(&str, &'static str)> {
     None
 }
 
-/// Whether the subcommand of this name has the option of this name, which stands behind two hyphens.
+/// Whether the subcommand of this name has the option of this name, which stands after two hyphens.
 fn has_option(subcommand: &str, name: &str) -> bool {
     let of = |row: &Row| row.owner.has(subcommand) && name.strip_prefix("--") == Some(row.name);
     rows().iter().any(of)

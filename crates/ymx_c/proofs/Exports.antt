@@ -44,7 +44,7 @@ use denote.Triple.Table.{framed, enters}
 use denote.Triple.Walked.{says, Stays, stay_dropped, Goes-dropped, walk_of, ends_at}
 use Rattle.ymx_c.proofs.Lending.{all_left, all_go, at_block, held, calls_lent}
 
--- The parameters behind a pointer, in a signature of n lifetimes, and how they are spelled.
+-- The parameters after a pointer, in a signature of n lifetimes, and how they are spelled.
 record Others (n : ℕ) : Type 2 where
   params : List (Slot n)
   kept : Kepts params
@@ -123,7 +123,7 @@ module _ {M : Type 1} {𝓤 : Ura M} (𝓛 : Logic 𝓤) (R : RattleType) where
   abbrev ended_says : Clauses 𝓤 (ended R)
   ended_says κs a = record { ghost = Unit {0}; requires = λ _. emp 𝓤; ensures = λ _ u e. emp 𝓤 }
 
--- ---- the code of each shape, which is named for what stands behind the pointer: in `through` it is a number, bytes and a buffer
+-- ---- the code of each shape, which is named for what stands after the pointer: in `through` it is a number, bytes and a buffer
 abbrev function : (lifetimes params : ℕ) → List Local → Body → Fn
 function lifetimes params locals body = record { lifetimes = lifetimes; outlives = []; ty_params = []; givens = 0; params = params; locals = locals; body = body }
 
@@ -139,7 +139,7 @@ reference T = value (ty_ref erased mut T)
 abbrev slice : Lifetime → Mutability → Ty → Local
 slice ℓ μ τ = value (slice_ty (ty_ref ℓ μ τ))
 
--- what runs behind the first statement
+-- what runs after the first statement
 abbrev behind : Body → Body
 behind (seq first rest) = rest
 behind body = body

@@ -1,4 +1,4 @@
 mod Exports
 mod Handing
 mod Lending
-pub mod Settled
+pub mod Purged

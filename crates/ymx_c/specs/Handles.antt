@@ -112,18 +112,18 @@ ReleasesOne id old n new =
     (λ fault. (n ≡ refusal fault) × (new ≡ old))
 
 -- The released streams that are looked at get their calls, and those that are forgotten are released no more.
-pub record Settles (looked released : List ℕ) (s : Session) (new : Handle) : Type 0 where
+pub record Purges (looked released : List ℕ) (s : Session) (new : Handle) : Type 0 where
   pub tends : new.session ≡ tended_all looked s
   pub left : new.releases ≡ left_of (forgets looked s) released new.session
 
--- an event of the session, behind which all released streams are looked at
-abbrev pub AnswersThenSettles : Handle → Event → ℤ → Handle → Type 0
-AnswersThenSettles old event n new = (mid : Session) × Answers old.session event n mid × Settles old.releases old.releases mid new
+-- an event of the session, after which all released streams are looked at
+abbrev pub AnswersThenPurges : Handle → Event → ℤ → Handle → Type 0
+AnswersThenPurges old event n new = (mid : Session) × Answers old.session event n mid × Purges old.releases old.releases mid new
 
--- a feed, behind which those are looked at that it touched
-abbrev pub TouchesThenSettles : Handle → Noted → List ℕ → ℤ → Handle → Noted → Type 0
-TouchesThenSettles old noted input n new noted_new =
-    (mid : Session) × Touches old.session noted input n mid noted_new × Settles (looked_at old.releases noted_new mid) old.releases mid new
+-- a feed, after which those are looked at that it touched
+abbrev pub TouchesThenPurges : Handle → Noted → List ℕ → ℤ → Handle → Noted → Type 0
+TouchesThenPurges old noted input n new noted_new =
+    (mid : Session) × Touches old.session noted input n mid noted_new × Purges (looked_at old.releases noted_new mid) old.releases mid new
 
 -- ---- without copies
 
@@ -148,9 +148,9 @@ DropsPayload released bytes count s t =
     MatchOption (if_released released (passing s)) ((count ≡ 0) × (t ≡ s))
     (λ p. (count ≡ min (length bytes) p.missing) × (((count ≡ 0) × (t ≡ s)) ⊎ Passes p.id (take count bytes) s t))
 
--- a feed up to the first payload that may be passed on, behind which what comes of a released stream is dropped, and all
+-- a feed up to the first payload that may be passed on, after which what comes of a released stream is dropped, and all
 -- released streams are looked at: the last byte dropped may be a stream's end, of which no note tells
-pub record ToPayloadThenSettles (old : Handle) (noted : Noted) (input : List ℕ) (n : ℤ) (new : Handle) (noted_new : Noted) : Type 0 where
+pub record ToPayloadThenPurges (old : Handle) (noted : Noted) (input : List ℕ) (n : ℤ) (new : Handle) (noted_new : Noted) : Type 0 where
   pub taken : ℕ
   pub dropped : ℕ
   pub answer : n ≡ pos (taken + dropped)
@@ -158,7 +158,7 @@ pub record ToPayloadThenSettles (old : Handle) (noted : Noted) (input : List ℕ
   pub mid : Session
   pub feeds : FeedsToPayload old.session noted input taken fed noted_new
   pub drops : DropsPayload old.releases (drop taken input) dropped fed mid
-  pub settles : Settles old.releases old.releases mid new
+  pub purges : Purges old.releases old.releases mid new
 
 abbrev pub unless_released : List ℕ → Option Passing → Option Passing
 unless_released released None = None

@@ -8,7 +8,7 @@ use Rattle.ymx_session.specs.NewSessions.{new_fault, IsNewFault}
 use Rattle.ymx_c.specs.Answers.{role_of}
 use Rattle.ymx_machine.specs.shared.Evidence.{evidence}
 
--- why no session was made: -13, -14, or -11 as for any want of memory
+-- why no session was made: -13, -14, or -11 as for any lack of memory
 abbrev pub new_refusal : NewFault → ℤ
 new_refusal BadWindow = negsuc 12
 new_refusal BadFirst = negsuc 13

@@ -21,7 +21,7 @@ number_limit = 4294967295
 abbrev pub total_limit : ℕ
 total_limit = 9223372036854775807
 
--- The bytes were fed, and the streams that they touched stand in the note, behind those that stood there before. None
+-- The bytes were fed, and the streams that they touched stand in the note, after those that stood there before. None
 -- is added that no frame among the bytes taken was of.
 pub record Touches (old : Session) (noted : Noted) (input : List ℕ) (n : ℤ) (new : Session) (noted_new : Noted) : Type 0 where
   pub feeds : Answers old (event.Feed input) n new

@@ -11,7 +11,7 @@ ghost use Rattle.ymx_session.specs.Touched.{nothing_noted};
 ghost use Rattle.ymx_session.specs.Opens.{opens_left};
 ghost use Rattle.ymx_session.specs.Streams.{waiting, room_of, has_ended, unsent_of, unsent_total, next_of, is_acknowledged};
 ghost use Rattle.ymx_c.specs.Answers.{refusal, status_number, flag, role_of, next_number};
-ghost use Rattle.ymx_c.specs.Handles.{new_handle, AnswersIn, AnswersOf, FillsIn, FillsOf, ConsumesOf, told, at_most, at_most_total, ShowsOf, TellsEnd, TellsReset, ListsStreams, SaysGiven, SaysGivenOf, ReleasesOne, AnswersThenSettles, TouchesThenSettles, ToPayloadThenSettles, passing_of, TellsPassing, PassesSome, WritesOn};
+ghost use Rattle.ymx_c.specs.Handles.{new_handle, AnswersIn, AnswersOf, FillsIn, FillsOf, ConsumesOf, told, at_most, at_most_total, ShowsOf, TellsEnd, TellsReset, ListsStreams, SaysGiven, SaysGivenOf, ReleasesOne, AnswersThenPurges, TouchesThenPurges, ToPayloadThenPurges, passing_of, TellsPassing, PassesSome, WritesOn};
 ghost use Rattle.ymx_c.specs.NewAnswers.{new_refusal, config_of, IsMade, IsRefused, IsNoteMade, IsNoNote};
 ghost use Rattle.ymx_c.specs.Readiness.{CountsOffered, ListsIds, IsCleared, IsPlaced, number_limit};
 
@@ -226,7 +226,7 @@ pub(crate) fn read(handle: &mut Handle, id: u32, buffer: &mut [u8]) -> i64
     }
 }
 
-/// How many bytes wait at the address that is written to `out`, where there is room for one; more may wait behind
+/// How many bytes wait at the address that is written to `out`, where there is room for one; more may wait after
 /// them.
 pub(crate) fn unread(handle: &mut Handle, id: u32, out: &mut [*const u8]) -> i64
     ensures { ShowsOf id handle.old result × IsPlaced out.old out.new × (handle.new ≡ handle.old) }
@@ -444,28 +444,28 @@ pub(crate) fn shrink_spare(handle: &mut Handle) -> i64
 
 /// How many bytes were taken.
 pub(crate) fn feed(handle: &mut Handle, input: &[u8]) -> i64
-    ensures { AnswersThenSettles handle.old (event.Feed input.now) result handle.new }
+    ensures { AnswersThenPurges handle.old (event.Feed input.now) result handle.new }
 {
     let fed = handle.session.feed(input);
-    handle.settle_all();
+    handle.purge_all();
     number(fed.taken)
 }
 
 /// How many bytes were taken. The streams that they touched are noted.
 pub(crate) fn feed_touching(handle: &mut Handle, input: &[u8], touched: &mut Touched) -> i64
-    ensures { TouchesThenSettles handle.old touched.old input.now result handle.new touched.new }
+    ensures { TouchesThenPurges handle.old touched.old input.now result handle.new touched.new }
 {
     let fed = handle.session.feed_touching(input, touched);
-    handle.settle(touched);
+    handle.purge(touched);
     number(fed.taken)
 }
 
 /// 0.
 pub(crate) fn feed_end(handle: &mut Handle) -> i64
-    ensures { AnswersThenSettles handle.old event.FeedEnd result handle.new }
+    ensures { AnswersThenPurges handle.old event.FeedEnd result handle.new }
 {
     handle.session.feed_end();
-    handle.settle_all();
+    handle.purge_all();
     0
 }
 
@@ -513,12 +513,12 @@ pub(crate) fn write_through(handle: &mut Handle, id: u32, bytes: &[u8], buffer: 
 
 /// How many bytes were taken. The streams that they touched are noted.
 pub(crate) fn feed_to_payload(handle: &mut Handle, input: &[u8], touched: &mut Touched) -> i64
-    ensures { ToPayloadThenSettles handle.old touched.old input.now result handle.new touched.new }
+    ensures { ToPayloadThenPurges handle.old touched.old input.now result handle.new touched.new }
 {
     let fed = handle.session.feed_to_payload(input, touched);
     let dropped = handle.drop_payload(&input[fed.taken..]);
     // what was dropped may have been the last of its stream, of which nothing was noted
-    handle.settle_all();
+    handle.purge_all();
     number(fed.taken + dropped)
 }
 

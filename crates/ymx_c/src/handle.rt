@@ -3,7 +3,7 @@
 ghost use Rattle.std.specs.Prelude.{◌≡◌, ◌≤◌, length};
 ghost use Rattle.ymx_session.specs.Passing.{passing};
 ghost use Rattle.ymx_session.specs.Releases.{looked_at};
-ghost use Rattle.ymx_c.specs.Handles.{is_released, no_stream, if_released, DropsPayload, Settles};
+ghost use Rattle.ymx_c.specs.Handles.{is_released, no_stream, if_released, DropsPayload, Purges};
 
 use ymx_model::Status;
 use ymx_session::{Passing, Releases, Session, Touched};
@@ -62,20 +62,20 @@ impl Handle {
     }
 
     /// All released streams are looked at, if there are any.
-    pub(crate) fn settle_all(&mut self)
-        ensures { Settles self.old.releases self.old.releases self.old.session self.new }
+    pub(crate) fn purge_all(&mut self)
+        ensures { Purges self.old.releases self.old.releases self.old.session self.new }
     {
         if !self.releases.is_empty() {
-            self.releases.settle_all(&mut self.session);
+            self.releases.purge_all(&mut self.session);
         }
     }
 
     /// The released streams that were touched are looked at, if there are any.
-    pub(crate) fn settle(&mut self, touched: &Touched)
-        ensures { Settles (looked_at self.old.releases touched.now self.old.session) self.old.releases self.old.session self.new }
+    pub(crate) fn purge(&mut self, touched: &Touched)
+        ensures { Purges (looked_at self.old.releases touched.now self.old.session) self.old.releases self.old.session self.new }
     {
         if !self.releases.is_empty() {
-            self.releases.settle(&mut self.session, touched);
+            self.releases.purge(&mut self.session, touched);
         }
     }
 }

@@ -1,6 +1,6 @@
 //! A session for C: what `ymx.h` declares, under names that begin with `ymx_core_`.
 //!
-//! C holds a pointer that `ymx_core_new` wrote, and never looks behind it. Each call takes that pointer,
+//! C holds a pointer that `ymx_core_new` wrote, and never reads what it points to. Each call takes that pointer,
 //! requires that a session lies there which nobody else uses, and says by one number what became of it: 0 or
 //! more is the answer, less than 0 a refusal. `face` has the calls over a session, with numbers for answers.
 //!
@@ -27,7 +27,7 @@ ghost use Rattle.ymx_c.specs.contracts.handle.Handle.{the_row};
 ghost use Rattle.ymx_c.specs.declared.handle.Handle.{Handle as HandleValue};
 ghost use Rattle.ymx_c.specs.Handed.{handed};
 ghost use Rattle.ymx_c.specs.NewAnswers.{IsMade, IsRefused, IsNoteMade, IsNoNote};
-ghost use Rattle.ymx_c.specs.Handles.{new_handle, AnswersIn, AnswersOf, FillsIn, FillsOf, ConsumesOf, told, at_most, at_most_total, ShowsOf, TellsEnd, TellsReset, ListsStreams, SaysGiven, SaysGivenOf, ReleasesOne, AnswersThenSettles, TouchesThenSettles, ToPayloadThenSettles, TellsPassing, PassesSome, WritesOn};
+ghost use Rattle.ymx_c.specs.Handles.{new_handle, AnswersIn, AnswersOf, FillsIn, FillsOf, ConsumesOf, told, at_most, at_most_total, ShowsOf, TellsEnd, TellsReset, ListsStreams, SaysGiven, SaysGivenOf, ReleasesOne, AnswersThenPurges, TouchesThenPurges, ToPayloadThenPurges, TellsPassing, PassesSome, WritesOn};
 ghost use Rattle.ymx_c.specs.Readiness.{CountsOffered, ListsIds, IsCleared, IsPlaced};
 
 use crate::handle::Handle;
@@ -97,7 +97,7 @@ pub unsafe extern "C" fn ymx_core_offered_count(at: *mut u8) -> i64
     face::offered_count(unsafe { &mut *(at as *mut Handle) })
 }
 
-/// How many streams may be opened now, one behind another: at most 256.
+/// How many streams may be opened now, one after another: at most 256.
 #[unsafe(no_mangle)]
 pub unsafe extern "C" fn ymx_core_opens_left(at: *mut u8) -> i64
     ghost old: { HandleValue }
@@ -117,7 +117,7 @@ pub unsafe extern "C" fn ymx_core_is_peer_away(at: *mut u8) -> i64
     face::is_peer_away(unsafe { &mut *(at as *mut Handle) })
 }
 
-/// Asks the peer for a sign of life (ping): the number of the ping, or a refusal.
+/// Pings the peer (ping): the number of the ping, or a refusal.
 #[unsafe(no_mangle)]
 pub unsafe extern "C" fn ymx_core_ping(at: *mut u8) -> i64
     ghost old: { HandleValue }
@@ -366,7 +366,7 @@ pub unsafe extern "C" fn ymx_core_release(at: *mut u8, id: u32) -> i64
 pub unsafe extern "C" fn ymx_core_feed(at: *mut u8, input: &[u8]) -> i64
     ghost old: { HandleValue }
     requires* { sem 𝓛 (lies_at the_row full_share at old) }
-    ensures* { ∃ₛ (λ (now : HandleValue). sem 𝓛 (lies_at the_row full_share at now) ∗ ⌜ AnswersThenSettles old (event.Feed input.now) result now ⌝) }
+    ensures* { ∃ₛ (λ (now : HandleValue). sem 𝓛 (lies_at the_row full_share at now) ∗ ⌜ AnswersThenPurges old (event.Feed input.now) result now ⌝) }
 {
     face::feed(unsafe { &mut *(at as *mut Handle) }, input)
 }
@@ -376,7 +376,7 @@ pub unsafe extern "C" fn ymx_core_feed(at: *mut u8, input: &[u8]) -> i64
 pub unsafe extern "C" fn ymx_core_feed_touching(at: *mut u8, input: &[u8], noted: *mut u8) -> i64
     ghost old: { HandleValue × Noted }
     requires* { sem 𝓛 (lies_at the_row full_share at old.0) ∗ sem 𝓛 (lies_at touched_row full_share noted old.1) }
-    ensures* { ∃ₛ (λ (now : HandleValue × Noted). sem 𝓛 (lies_at the_row full_share at now.0) ∗ sem 𝓛 (lies_at touched_row full_share noted now.1) ∗ ⌜ TouchesThenSettles old.0 old.1 input.now result now.0 now.1 ⌝) }
+    ensures* { ∃ₛ (λ (now : HandleValue × Noted). sem 𝓛 (lies_at the_row full_share at now.0) ∗ sem 𝓛 (lies_at touched_row full_share noted now.1) ∗ ⌜ TouchesThenPurges old.0 old.1 input.now result now.0 now.1 ⌝) }
 {
     face::feed_touching(
         unsafe { &mut *(at as *mut Handle) },
@@ -390,7 +390,7 @@ pub unsafe extern "C" fn ymx_core_feed_touching(at: *mut u8, input: &[u8], noted
 pub unsafe extern "C" fn ymx_core_feed_end(at: *mut u8) -> i64
     ghost old: { HandleValue }
     requires* { sem 𝓛 (lies_at the_row full_share at old) }
-    ensures* { ∃ₛ (λ (now : HandleValue). sem 𝓛 (lies_at the_row full_share at now) ∗ ⌜ AnswersThenSettles old event.FeedEnd result now ⌝) }
+    ensures* { ∃ₛ (λ (now : HandleValue). sem 𝓛 (lies_at the_row full_share at now) ∗ ⌜ AnswersThenPurges old event.FeedEnd result now ⌝) }
 {
     face::feed_end(unsafe { &mut *(at as *mut Handle) })
 }
@@ -448,7 +448,7 @@ pub unsafe extern "C" fn ymx_core_write_through(
 pub unsafe extern "C" fn ymx_core_feed_to_payload(at: *mut u8, input: &[u8], noted: *mut u8) -> i64
     ghost old: { HandleValue × Noted }
     requires* { sem 𝓛 (lies_at the_row full_share at old.0) ∗ sem 𝓛 (lies_at touched_row full_share noted old.1) }
-    ensures* { ∃ₛ (λ (now : HandleValue × Noted). sem 𝓛 (lies_at the_row full_share at now.0) ∗ sem 𝓛 (lies_at touched_row full_share noted now.1) ∗ ⌜ ToPayloadThenSettles old.0 old.1 input.now result now.0 now.1 ⌝) }
+    ensures* { ∃ₛ (λ (now : HandleValue × Noted). sem 𝓛 (lies_at the_row full_share at now.0) ∗ sem 𝓛 (lies_at touched_row full_share noted now.1) ∗ ⌜ ToPayloadThenPurges old.0 old.1 input.now result now.0 now.1 ⌝) }
 {
     face::feed_to_payload(
         unsafe { &mut *(at as *mut Handle) },

@@ -6,7 +6,6 @@ use Rattle.ymx_arguments.specs.CommandLine.{SaysMistake}
 use Rattle.ymx_arguments.specs.declared.reading.CommandFault.{CommandFault}
 use Rattle.ymx_arguments.specs.declared.reading.Task.{Task}
 use Rattle.ymx_arguments.specs.declared.reading.Task.TheVariants as task
-use Rattle.ymx_forward.specs.Echoes.{echo_lines}
 use Rattle.ymx_frames.specs.Outputs.{Prints}
 use Rattle.ymx_frames.specs.declared.print.FramesEnd.{FramesEnd}
 use Rattle.ymx_frames.specs.declared.print.FramesEnd.TheVariants as frames
@@ -42,7 +41,7 @@ IsUntouched c = Keeps c.before c.after
 abbrev pub TakesText : Change → List ℕ → Type 0
 TakesText c text = Appends c.before c.after text
 
--- Frames are printed with this limit, in bytes of payload: the status is 0 at their good end, where no fault is said, and else 1. A
+-- Frames are printed with this limit, in bytes of payload: the status is 0 at their good end, where no fault is logged, and else 1. A
 -- device is blamed only if it failed, and memory only with what shows that it was refused.
 abbrev pub PrintsFrames : (limit status : ℕ) → (input output errors : Change) → Type 0
 PrintsFrames limit status input output errors =
@@ -70,17 +69,17 @@ PrintsFile limit status held output errors = ReadsFile status held output (λ in
 abbrev pub PlaysFile : (status : ℕ) → (held : Option (List ℕ)) → (output errors : Change) → Type 0
 PlaysFile status held output errors = ReadsFile status held output (λ input. PlaysScript status input output errors)
 
--- The task is done: only frames and a script of the reader read it, and an end of a tunnel writes nothing to the writer.
+-- The task is done: only frames and a script of the reader read it, and an endpoint of a tunnel writes nothing to the writer.
 abbrev pub Does : (held : List ℕ → Option (List ℕ)) → Task → (status : ℕ) → (input output errors : Change) → Type 0
 Does held (task.Frames limit None) status input output errors = PrintsFrames limit status input output errors
 Does held (task.Frames limit (Some name)) status input output errors = IsUntouched input × PrintsFile limit status (held name.now) output errors
 Does held (task.Script None) status input output errors = PlaysScript status input output errors
 Does held (task.Script (Some name)) status input output errors = IsUntouched input × PlaysFile status (held name.now) output errors
 Does held (task.Tunnel plan) status input output errors = IsUntouched input × IsUntouched output
-Does held task.Selftest status input output errors = IsUntouched input × (status ≡ 0 → TakesText output echo_lines)
+Does held task.Selftest status input output errors = IsUntouched input
 
 -- The fault of words is explained: a mistake with status 2, and nothing is written to the writer; the help or the version with status 0,
--- and no fault is said; or, with status 1, there was no memory for it, or the writer failed.
+-- and no fault is logged; or, with status 1, there was no memory for it, or the writer failed.
 abbrev pub Refuses : CommandFault → (status : ℕ) → (output errors : Change) → Type 0
 Refuses fault status output errors =
     (status ≤ 2) × (SaysMistake fault → IsUntouched output) × (status ≡ 2 → SaysMistake fault) × (status ≡ 0 → (SaysMistake fault → ⊥) × IsUntouched errors)

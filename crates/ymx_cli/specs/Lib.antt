@@ -1,3 +1,1 @@
 pub mod Doing
-pub mod Log
-pub mod Repeats

@@ -26,7 +26,7 @@ use ymx_policy::Plan;
 use ymx_script::{ScriptEnd, script};
 use ymx_sockets::Host;
 
-/// How many milliseconds the last words of an end may wait to be said.
+/// How many milliseconds the last lines of an endpoint may wait to be written.
 const LAST_WORDS: u16 = 1_000;
 
 /// Opens files by their names.
@@ -34,10 +34,10 @@ pub trait FileOpener {
     /// An opened file.
     type File: Inlet + Drop;
 
-    /// The bytes of the file of this name, if the opener can tell.
+    /// The bytes of the file of this name, if the opener records them.
     ghost held: { Self → List ℕ → Option (List ℕ) };
 
-    /// Opens the file of this name, to be read from its beginning. An error says why it can't be, or nothing.
+    /// Opens the file of this name, to be read from its beginning. The error is why it can't be, if that is known.
     fn open(&self, name: &str) -> Result<Self::File, &'static str>
         ensures { IfOk result (λ file. Keeps (held self.now name.now) (Self.File.remaining file) × (Self.File.failures file ≡ 0)) };
 }
@@ -48,9 +48,9 @@ pub struct Devices<F, R, W, D> {
     pub files: F,
     pub reader: R,
     pub writer: W,
-    /// Where faults are said.
+    /// Where faults go.
     pub errors: D,
-    /// Where it is said why they came, and what `-v` asks for.
+    /// Where their reasons go, and what `-v` asks for.
     pub lines: D,
 }
 
@@ -64,7 +64,7 @@ pub fn ymx_main<
     W: Outlet + Send,
     D: LogOutlet + Send,
 >(rt: &T, alloc: Global, words: &[S], devices: &mut Devices<F, R, W, D>) -> u8
-    // It does the task that the words name, with what their options say, or says a fault that they have.
+    // It does the task that the words name, with their options, or reports a fault that they have.
     ensures { let input = change_of R.remaining R.failures devices.old.reader devices.new.reader in
         let output = change_of W.contents W.failures devices.old.writer devices.new.writer in
         let errors = change_of D.contents D.failures devices.old.errors devices.new.errors in
@@ -93,13 +93,13 @@ impl<F: FileOpener, R: Inlet, W: Outlet + Send, D: LogOutlet + Send> Devices<F, 
         }
     }
 
-    /// Runs the end of this plan, and answers the status. No line waits to be said, unless it may be the last words of an end that
-    /// neither lasts nor tells of each connection.
+    /// Runs the endpoint of this plan, and returns the status. No line waits to be written, unless it may be the last of an endpoint that
+    /// neither lasts nor logs each connection.
     fn run_end<T: Host + Threads + Sync>(&mut self, rt: &T, alloc: Global, plan: Plan) -> u8
         ensures { (self.new.reader ≡ self.old.reader) × (self.new.writer ≡ self.old.writer) }
     {
         let terms = plan.terms();
-        let of_errors = LAST_WORDS * u16::from(!terms.goes_on && terms.places <= 1);
+        let of_errors = LAST_WORDS * u16::from(!terms.session.reconnects && terms.link_count <= 1);
         let of_lines = of_errors * u16::from(!plan.is_verbose);
         self.errors.limit(of_errors, plan.has_times);
         self.lines.limit(of_lines, plan.has_times);
@@ -161,33 +161,33 @@ impl<F: FileOpener, R: Inlet, W: Outlet + Send, D: LogOutlet + Send> Devices<F, 
             CommandFault::Clap(error) => error,
             CommandFault::BadAddress(option, text) => {
                 let form = b": it wants an IPv4 address and a port, as 127.0.0.1:8080\n";
-                say(&mut self.lines, &[b"ymx: --", option.as_bytes(), form]);
-                say(errors, &[b"ymx: bad address ", text.as_bytes(), b"\n"]);
+                report(&mut self.lines, &[b"ymx: --", option.as_bytes(), form]);
+                report(errors, &[b"ymx: bad address ", text.as_bytes(), b"\n"]);
                 return 2;
             }
         };
         match error.to_string(alloc) {
             Ok(text) if error.kind() != ErrorKind::OutOfMemory && error.use_stderr() => {
-                say(errors, &[text.as_bytes()]);
+                report(errors, &[text.as_bytes()]);
                 2
             }
             Ok(text) if error.kind() != ErrorKind::OutOfMemory => {
                 match push_all(&mut self.writer, text.as_bytes()) {
                     Ok(()) => 0,
-                    Err(_) => say_fault(errors, b"ymx: writing failed\n"),
+                    Err(_) => report_fault(errors, b"ymx: writing failed\n"),
                 }
             }
-            _ => say_fault(errors, b"ymx: out of memory\n"),
+            _ => report_fault(errors, b"ymx: out of memory\n"),
         }
     }
 }
 
-/// Says of an option that only the other end of a tunnel has that it is that one's.
+/// Reports that an option is one of the other endpoint alone.
 pub(crate) fn name_other_end<S: AsStr, D: Outlet>(lines: &mut D, words: &[S]) {
     if let Some((option, other)) = foreign_option(words) {
-        say(lines, &[b"ymx: ", option.as_bytes()]);
+        report(lines, &[b"ymx: ", option.as_bytes()]);
         let other = other.as_bytes();
-        say(lines, &[b" is an option of `ymx ", other, b"`\n"]);
+        report(lines, &[b" is an option of `ymx ", other, b"`\n"]);
     }
 }
 
@@ -203,11 +203,11 @@ fn finish<D: Outlet>(end: FramesEnd, errors: &mut D) -> u8
 {
     match end {
         FramesEnd::Good => 0,
-        FramesEnd::Fault => say_fault(errors, RULES),
+        FramesEnd::Fault => report_fault(errors, RULES),
         FramesEnd::Rest => 1,
-        FramesEnd::Reading => say_fault(errors, b"ymx: reading failed\n"),
-        FramesEnd::Writing => say_fault(errors, b"ymx: writing failed\n"),
-        FramesEnd::Memory(_) => say_fault(errors, b"ymx: out of memory\n"),
+        FramesEnd::Reading => report_fault(errors, b"ymx: reading failed\n"),
+        FramesEnd::Writing => report_fault(errors, b"ymx: writing failed\n"),
+        FramesEnd::Memory(_) => report_fault(errors, b"ymx: out of memory\n"),
     }
 }
 
@@ -224,12 +224,12 @@ fn finish_script<D: Outlet>(end: ScriptEnd, errors: &mut D) -> u8
             let line = buffer.format(number).as_bytes();
             let why =
                 b": no step, a number out of range, or a setting after a step: see `ymx script --help`\n";
-            say(errors, &[b"ymx: line ", line, why]);
+            report(errors, &[b"ymx: line ", line, why]);
             1
         }
-        ScriptEnd::Reading => say_fault(errors, b"ymx: reading failed\n"),
-        ScriptEnd::Writing => say_fault(errors, b"ymx: writing failed\n"),
-        ScriptEnd::Memory(_) => say_fault(errors, b"ymx: out of memory\n"),
+        ScriptEnd::Reading => report_fault(errors, b"ymx: reading failed\n"),
+        ScriptEnd::Writing => report_fault(errors, b"ymx: writing failed\n"),
+        ScriptEnd::Memory(_) => report_fault(errors, b"ymx: out of memory\n"),
     }
 }
 
@@ -239,21 +239,21 @@ pub(crate) fn cannot_open<'a, D: Outlet>(errors: &mut D, name: &'a str, why: &'a
 {
     let name = name.as_bytes();
     if !why.is_empty() {
-        say(errors, &[b"ymx: ", name, b": ", why.as_bytes(), b"\n"]);
+        report(errors, &[b"ymx: ", name, b": ", why.as_bytes(), b"\n"]);
     }
-    say(errors, &[b"ymx: ", name, b": the file can't be opened\n"]);
+    report(errors, &[b"ymx: ", name, b": the file can't be opened\n"]);
     1
 }
 
 /// Says this, and answers the status of a fault.
-pub(crate) fn say_fault<D: Outlet>(errors: &mut D, text: &[u8]) -> u8
+pub(crate) fn report_fault<D: Outlet>(errors: &mut D, text: &[u8]) -> u8
     ensures { result ≡ 1 }
 {
-    say(errors, &[text]);
+    report(errors, &[text]);
     1
 }
 
 /// Says these, as far as the device takes them.
-pub(crate) fn say<D: Outlet>(errors: &mut D, texts: &[&[u8]]) {
+pub(crate) fn report<D: Outlet>(errors: &mut D, texts: &[&[u8]]) {
     let _ = texts.iter().try_for_each(|text| push_all(errors, text));
 }

@@ -20,10 +20,12 @@ impl<T: Files<File = File>> FileOpener for Disk<'_, T> {
     ghost held = { λ s name. None };
 
     fn open(&self, name: &str) -> Result<ReaderInlet<File>, &'static str> {
-        let reader = match File::open(self.rt, name) {
-            Ok(file) => file,
-            Err(error) => return Err(reason_of(&error)),
-        };
+        let reader = File::open(self.rt, name).map_err(|error| match error.kind() {
+            ErrorKind::NotFound => "no such file",
+            ErrorKind::PermissionDenied => "permission denied",
+            ErrorKind::IsADirectory => "is a folder",
+            _ => "",
+        })?;
         match reader.metadata() {
             Ok(metadata) if metadata.is_dir() => Err("is a folder"),
             _ => Ok(ReaderInlet {
@@ -31,15 +33,5 @@ impl<T: Files<File = File>> FileOpener for Disk<'_, T> {
                 failures: 0,
             }),
         }
-    }
-}
-
-/// Why the system opens no file.
-fn reason_of(error: &io::Error) -> &'static str {
-    match error.kind() {
-        ErrorKind::NotFound => "no such file",
-        ErrorKind::PermissionDenied => "permission denied",
-        ErrorKind::IsADirectory => "is a folder",
-        _ => "",
     }
 }

@@ -7,11 +7,10 @@ mod command;
 mod disk;
 mod help;
 mod log;
-mod repeats;
 mod standard;
 mod time;
 
-use command::{Devices, cannot_open, name_other_end, say, say_fault, ymx_main};
+use command::{Devices, cannot_open, name_other_end, report, report_fault, ymx_main};
 use disk::Disk;
 use help::words_of_help;
 use log::{Log, LogWriter};
@@ -67,9 +66,9 @@ fn words<R: Env + AllocGlobal>(rt: &R, alloc: Global) -> io::Result<Vec<String>>
 /// Says why the words of the command line can't be had, and answers the exit status.
 fn no_words<E: Outlet>(error: &io::Error, errors: &mut E) -> u8 {
     if error.kind() != io::ErrorKind::InvalidData {
-        return say_fault(errors, b"ymx: out of memory\n");
+        return report_fault(errors, b"ymx: out of memory\n");
     }
     let words = b"error: a word of the command line is not UTF-8\n";
-    say(errors, &[words]);
+    report(errors, &[words]);
     2
 }

@@ -19,7 +19,7 @@ pub(crate) fn hold_standard(rt: &impl Files<File = File>) -> bool {
     (0..=ERRORS).all(|number| events_of(number, 0, 0) & POLLNVAL == 0 || fill(rt, number))
 }
 
-/// Opens the descriptor of this number, which is the lowest that is closed. It is /dev/null, opened so that whoever reads
+/// Opens the descriptor of this number, which is the lowest that is closed. It is /dev/null, opened so that a read of
 /// standard input, or writes to the others, fails as at a closed one. False where the system refuses.
 fn fill(rt: &impl Files<File = File>, number: i32) -> bool {
     let is_input = number == 0;
@@ -50,8 +50,6 @@ pub(crate) struct StandardError<W> {
 }
 
 impl<W: Write> LineDevice for StandardError<W> {
-    ghost contents = { λ s. W.contents s.outlet.writer };
-
     fn write(&mut self, bytes: &[u8], patience: Option<u16>) -> Result<usize, DeviceFault> {
         let is_full = |limit| events_of(ERRORS, POLLOUT, i32::from(limit)) & POLLOUT == 0;
         if patience.is_some_and(is_full) {

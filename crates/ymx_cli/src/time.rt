@@ -5,7 +5,7 @@ use jiff_core::civil::DateTime;
 use std::fmt::Write;
 use std::time::Duration;
 
-/// How many bytes a time has as a text, with the space behind it.
+/// How many bytes a time has as a text, with the space after it.
 pub(crate) const TIME: usize = 25;
 
 /// The time so long after the beginning of 1970, in UTC, as `2026-11-27T18:55:00.123Z` and a space. None from the year
@@ -13,15 +13,15 @@ pub(crate) const TIME: usize = 25;
 pub(crate) fn time_text(since_1970: Duration) -> Option<ArrayString<TIME>> {
     let nanoseconds = i128::try_from(since_1970.as_nanos()).ok()?;
     let DateTime { date, time } = DateTime::from_nanosecond(nanoseconds).ok()?;
-    let mut text = ArrayString::new();
+    let (month, day, hour, minute) = (date.month, date.day, time.hour, time.minute);
     let milliseconds = time.subsec_nanosecond / 1_000_000;
-    write!(text, "{:04}-{:02}-{:02}T", date.year, date.month, date.day).ok()?;
+    let mut text = ArrayString::new();
     write!(
         text,
-        "{:02}:{:02}:{:02}",
-        time.hour, time.minute, time.second
+        "{:04}-{month:02}-{day:02}T{hour:02}:{minute:02}:",
+        date.year
     )
     .ok()?;
-    write!(text, ".{milliseconds:03}Z ").ok()?;
+    write!(text, "{:02}.{milliseconds:03}Z ", time.second).ok()?;
     Some(text)
 }

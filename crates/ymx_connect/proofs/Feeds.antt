@@ -15,10 +15,10 @@ use Rattle.ymx_memory.specs.declared.refused.RefusedAllocation.{RefusedAllocatio
 use Rattle.ymx_hub.specs.Books.{Books, One, Does}
 use Rattle.ymx_hub.proofs.Books.{books_same, books_at, books_weaker}
 use Rattle.ymx_machine.specs.declared.types.Why.TheVariants as feed
-use Rattle.ymx_hub.specs.declared.settled.Settled.{Settled}
-use Rattle.ymx_hub.specs.Releasing.{Settles}
-use Rattle.ymx_hub.proofs.Released.{settles_none}
-use Rattle.ymx_hub.specs.declared.moving.FedAndSettled.{FedAndSettled}
+use Rattle.ymx_hub.specs.declared.purged.Purged.{Purged}
+use Rattle.ymx_hub.specs.Releasing.{Purges}
+use Rattle.ymx_hub.proofs.Released.{purges_none}
+use Rattle.ymx_hub.specs.declared.moving.FedAndPurged.{FedAndPurged}
 use Rattle.ymx_connect.specs.declared.pump_end.PumpWhy.{PumpWhy}
 use Rattle.ymx_connect.specs.declared.pump_end.PumpWhy.TheVariants.{End, Device, Broken, Memory, Gate, NoThread}
 use Rattle.ymx_connect.specs.declared.pump_end.Stop.{Stop}
@@ -51,7 +51,7 @@ one_feed seat bytes fed es l o =
       (refl, refl),
     )
 
--- more bytes that come behind change nothing
+-- more bytes that come after change nothing
 feed_more : (seat : ℕ) (left first rest more : List ℕ) (e : Entry) → IsFeed seat left first rest e → IsFeed seat (left ++ more) first (rest ++ more) e
 feed_more seat left first rest more e f = record {
   named = f.named;
@@ -129,20 +129,20 @@ fed_once keeps old new bytes fed fault t l g =
     (l, books_weaker keeps old new _ (FeedsTo old.number bytes (take fed.taken bytes) (drop fed.taken bytes) fault) (λ es o. (one_feed old.number bytes fed es l o, one_tells old.number bytes fed fault es t o)) g)
 
 -- the same, by why it stopped
-pub fed_whole : (keeps : Bool) (old new : SeatView) (bytes : List ℕ) (done : FedAndSettled) → done.fed.why ≡ feed.All → done.fed.taken ≤ length bytes → Books keeps old new (Does (event.Feed bytes) (λ (d : FedAndSettled). reply.Fed d.fed) old.number (Ok done)) → FeedsFirst keeps old new bytes done.fed.taken None
+pub fed_whole : (keeps : Bool) (old new : SeatView) (bytes : List ℕ) (done : FedAndPurged) → done.fed.why ≡ feed.All → done.fed.taken ≤ length bytes → Books keeps old new (Does (event.Feed bytes) (λ (d : FedAndPurged). reply.Fed d.fed) old.number (Ok done)) → FeedsFirst keeps old new bytes done.fed.taken None
 fed_whole keeps old new bytes done e l g = fed_once keeps old new bytes done.fed None (ap fault_of_feed e) l g
 
-pub fed_held : (keeps : Bool) (old new : SeatView) (bytes : List ℕ) (done : FedAndSettled) → done.fed.why ≡ feed.Held → done.fed.taken ≤ length bytes → Books keeps old new (Does (event.Feed bytes) (λ (d : FedAndSettled). reply.Fed d.fed) old.number (Ok done)) → FeedsFirst keeps old new bytes done.fed.taken None
+pub fed_held : (keeps : Bool) (old new : SeatView) (bytes : List ℕ) (done : FedAndPurged) → done.fed.why ≡ feed.Held → done.fed.taken ≤ length bytes → Books keeps old new (Does (event.Feed bytes) (λ (d : FedAndPurged). reply.Fed d.fed) old.number (Ok done)) → FeedsFirst keeps old new bytes done.fed.taken None
 fed_held keeps old new bytes done e l g = fed_once keeps old new bytes done.fed None (ap fault_of_feed e) l g
 
-pub fed_broken : (keeps : Bool) (old new : SeatView) (bytes : List ℕ) (done : FedAndSettled) (fault : Fault) → done.fed.why ≡ feed.Broken fault → done.fed.taken ≤ length bytes → Books keeps old new (Does (event.Feed bytes) (λ (d : FedAndSettled). reply.Fed d.fed) old.number (Ok done)) → FeedsFirst keeps old new bytes done.fed.taken (Some fault)
+pub fed_broken : (keeps : Bool) (old new : SeatView) (bytes : List ℕ) (done : FedAndPurged) (fault : Fault) → done.fed.why ≡ feed.Broken fault → done.fed.taken ≤ length bytes → Books keeps old new (Does (event.Feed bytes) (λ (d : FedAndPurged). reply.Fed d.fed) old.number (Ok done)) → FeedsFirst keeps old new bytes done.fed.taken (Some fault)
 fed_broken keeps old new bytes done fault e l g = fed_once keeps old new bytes done.fed (Some fault) (ap fault_of_feed e) l g
 
 none_fed : (seat : ℕ) (bytes : List ℕ) → FeedsTo seat bytes (take 0 bytes) (drop 0 bytes) None []
 none_fed seat bytes = ((grind (arith, common_steps), grind (arith, common_steps)), refl)
 
 -- there was no memory for it
-pub fed_none : (keeps : Bool) (old new : SeatView) (bytes : List ℕ) (refused : RefusedAllocation) → Books keeps old new (Does {A = FedAndSettled} (event.Feed bytes) (λ (d : FedAndSettled). reply.Fed d.fed) old.number (Err refused)) → FeedsFirst keeps old new bytes 0 None
+pub fed_none : (keeps : Bool) (old new : SeatView) (bytes : List ℕ) (refused : RefusedAllocation) → Books keeps old new (Does {A = FedAndPurged} (event.Feed bytes) (λ (d : FedAndPurged). reply.Fed d.fed) old.number (Err refused)) → FeedsFirst keeps old new bytes 0 None
 fed_none keeps old new bytes refused g =
     (omega arith, books_weaker keeps old new _ (FeedsTo old.number bytes (take 0 bytes) (drop 0 bytes) None) (λ es o. subst (λ (v : List Entry). FeedsTo old.number bytes (take 0 bytes) (drop 0 bytes) None v) (sym o) (none_fed old.number bytes)) g)
 
@@ -186,8 +186,8 @@ pub all_on : (keeps : Bool) (old mid new : SeatView) (bytes rest : List ℕ) (at
 all_on keeps old mid new bytes rest at n f r g e = first_all keeps old new bytes (at + n) (first_on keeps old mid new bytes rest at n None f r g) e
 
 -- no stream was looked at
-pub none_tended : (keeps : Bool) (seat : SeatView) → Books keeps seat seat (Settles seat.number)
-none_tended keeps seat = settles_none keeps seat
+pub none_tended : (keeps : Bool) (seat : SeatView) → Books keeps seat seat (Purges seat.number)
+none_tended keeps seat = purges_none keeps seat
 
 -- ---- a turn
 
@@ -216,7 +216,7 @@ turn_ends keeps fails failed why result before after old new w k g = (
 )
 
 -- all that was read was fed
-pub turn_read : (keeps : Bool) (n fails failed : ℕ) (u : Settled) (buffer : List ℕ) (before after : Option (List ℕ)) (old new : SeatView) → n ≤ length buffer → failed ≡ fails → Consumes before after (take n buffer) →
+pub turn_read : (keeps : Bool) (n fails failed : ℕ) (u : Purged) (buffer : List ℕ) (before after : Option (List ℕ)) (old new : SeatView) → n ≤ length buffer → failed ≡ fails → Consumes before after (take n buffer) →
     FedAll keeps old new (take n buffer) (Ok u) → TurnRead keeps fails failed before after old new (Ok (n, u))
 turn_read keeps n fails failed u buffer before after old new l f k g = (f, take n buffer, grind (arith, common_steps), k, g)
 
@@ -258,7 +258,7 @@ fed_nothing keeps fails before old = record {
   booked = books_same keeps old (FeedsTo old.number [] [] [] None) ((refl, refl), refl);
 }
 
--- feeds of all these bytes, and then of those behind
+-- feeds of all these bytes, and then of those after
 feeds_behind : (seat : ℕ) (xs ys taken last : List ℕ) (es ds : List Entry) → AreFeeds seat xs xs [] es → AreFeeds seat ys taken last ds → AreFeeds seat (xs ++ ys) (xs ++ taken) last (es ++ ds)
 feeds_behind seat xs ys taken last es ds a b = feeds_on seat (xs ++ ys) xs ys taken last es ds (feeds_more seat xs xs [] ys es a) b
 
@@ -266,7 +266,7 @@ all_behind : (seat : ℕ) (xs ys : List ℕ) (es ds : List Entry) → FeedsTo se
 all_behind seat xs ys es ds a b = (feeds_behind seat xs ys ys [] es ds a.0 b.0, tells_on None es ds a.1 b.1)
 
 -- one turn more
-pub fed_more : (keeps : Bool) (fails failed failing : ℕ) (before mid after : Option (List ℕ)) (old between new : SeatView) (moved n now : ℕ) (s : Settled) →
+pub fed_more : (keeps : Bool) (fails failed failing : ℕ) (before mid after : Option (List ℕ)) (old between new : SeatView) (moved n now : ℕ) (s : Purged) →
     AllFed keeps fails failed before mid old between moved → TurnRead keeps failed failing mid after between new (Ok (n, s)) →
     now ≡ min (moved + n) (2 ^ 64 - 1) → AllFed keeps fails failing before after old new now
 fed_more keeps fails failed failing before mid after old between new moved n now s w u k = record {

@@ -36,7 +36,7 @@ stands_itself (Some es) = ([], append-nil es)
 stands_at : (v w x : Option (List Entry)) → StandsIn v w → x ≡ w → StandsIn v x
 stands_at v w x g e = subst (StandsIn v) (sym e) g
 
--- what a seat had seen stands in what it has seen behind its own entries
+-- what a seat had seen stands in what it has seen after its own entries
 grows_stands : (n : ℕ) (v added w : List Entry) → Grows n v added w → IsPrefix v w
 grows_stands n v [] w g = ([], append-nil v ∙ sym g)
 grows_stands n v (e ∷ es) w g =
@@ -63,16 +63,16 @@ module _ (old new half : SeatView) (Such : List Entry → Type 0) (sees : SeesLa
   pub caller_stands : StandsIn old.seen new.seen
   caller_stands = stands old.number old.seen new.seen sees.shown.grown
 
--- the caller meets the seat of a half behind its last call
+-- the caller meets the seat of a half after its last call
 pub sees_last : (old new half last shown : SeatView) (Such : List Entry → Type 0) → Books false half last Such → IsShown last shown → IsShown old new → new.seen ≡ shown.seen → SeesLast old new half Such
 sees_last old new half last shown Such booked met mine same = record { last = shown; booked = record { between = last; booked = booked; shown = met }; shown = mine; seen = same }
 
--- nobody else has called the writing half of a stream, whose caller was shown the history behind its last call
+-- nobody else has called the writing half of a stream, whose caller was shown the history after its last call
 pub last_alone : (role : Role) (config : Config) (id number n : ℕ) (right last : Right) (seen met : Option (List Entry)) → MayWrite right id → last ≡ right → n ≡ number → SaysSole last n met → seen ≡ met → IsWitnessed true role config seen → WritesAlone id number seen
 last_alone role config id number n right last seen met may same by sole is history =
     writes_alone role config id number right seen may (subst (λ (x : Right × ℕ × Option (List Entry)). SaysSole x.0 x.1 x.2) (λ i. (same i, by i, sym is i)) sole) history
 
--- nobody else has read a stream, whose reader was shown the history behind its last call
+-- nobody else has read a stream, whose reader was shown the history after its last call
 pub last_reads_alone : (role : Role) (config : Config) (id number n : ℕ) (right last : Right) (seen met : Option (List Entry)) → MayRead right id → last ≡ right → n ≡ number → SaysSole last n met → seen ≡ met → IsWitnessed true role config seen → ReadsAlone id number seen
 last_reads_alone role config id number n right last seen met may same by sole is history =
     reads_alone role config id number right seen may (subst (λ (x : Right × ℕ × Option (List Entry)). SaysSole x.0 x.1 x.2) (λ i. (same i, by i, sym is i)) sole) history

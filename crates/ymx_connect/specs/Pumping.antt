@@ -45,7 +45,7 @@ pub record HasWritten (role : Role) (config : Config) (fails failed : ℕ) (befo
 
 -- A caller that had seen what stands in `first` closed the session, and has then seen what stands in `last`. Before that it had
 -- seen the history, which goes on from there, of a session of which nothing was due; or of which something was due, where it
--- waited in vain. No want of memory kept it from closing.
+-- waited in vain. No lack of memory kept it from closing.
 pub record HasClosed (role : Role) (config : Config) (first last : SeatView) (drained : Result (Unit {0}) Undrained) : Type 0 where
   pub between : SeatView
   pub session : Session
@@ -56,7 +56,7 @@ pub record HasClosed (role : Role) (config : Config) (first last : SeatView) (dr
   pub closed : Books false between last (Asks to_close done_or between.number told)
   pub spared : IsNotMemory told
 
--- A caller did its work, and this is kept of the history as it had seen it then. Behind it the same caller closed the session, once
+-- A caller did its work, and this is kept of the history as it had seen it then. After it the same caller closed the session, once
 -- nothing was due or something was in vain. It has then seen what stands in `now`, perhaps more than at its last call.
 pub record HasWorked (role : Role) (config : Config) (Kept : Option (List Entry) → Type 0) (drained : Result (Unit {0}) Undrained) (now : SeatView) : Type 0 where
   pub caller : SeatView

@@ -54,7 +54,7 @@ pub record WriteAdds (size seat : ℕ) (failed : Bool) (written : List ℕ) (why
   pub ended : EndsWrite seat why closing
 
 -- What a write pump did. The writer took the bytes written, which are those that the emissions gave. The history may have been
--- shown to its seat behind them.
+-- shown to its seat after them.
 pub record PumpWrote (keeps : Bool) (size : ℕ) (failed : Bool) (before after : Option (List ℕ)) (old new : SeatView) (moved : ℕ) (why : PumpWhy) : Type 0 where
   pub written : List ℕ
   pub took : Appends before after written

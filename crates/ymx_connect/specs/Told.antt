@@ -13,8 +13,8 @@ use Rattle.ymx_connect.specs.Streams.{ReadsUpTo, WritesOn}
 
 -- ---- last calls
 
--- A half made its last call, whose entries are such, and its seat is gone. The caller has seen the whole history behind it: of
--- its own nothing is new there, and of the half just these entries, behind all that the half had seen.
+-- A half made its last call, whose entries are such, and its seat is gone. The caller has seen the whole history after it: of
+-- its own nothing is new there, and of the half just these entries, after all that the half had seen.
 pub record SeesLast (old new half : SeatView) (Such : List Entry → Type 0) : Type 0 where
   pub last : SeatView
   pub booked : BooksShown false half last Such

@@ -14,7 +14,7 @@ use Rattle.ymx_model.specs.declared.types.Config.{Config}
 use Rattle.ymx_hub.specs.declared.moving.Turn.TheVariants.{Emitted}
 use Rattle.ymx_hub.specs.Pumped.{EmitsOnce, IsAwake}
 use Rattle.ymx_hub.specs.Shown.{IsShown, BooksShown}
-use Rattle.ymx_hub.specs.declared.settled.Settled.{Settled}
+use Rattle.ymx_hub.specs.declared.purged.Purged.{Purged}
 use Rattle.ymx_connect.specs.declared.pump_end.PumpWhy.{PumpWhy}
 use Rattle.ymx_connect.specs.declared.pump_end.PumpWhy.TheVariants.{End, Device, Memory, NoThread}
 use Rattle.ymx_connect.specs.declared.pump_end.Stop.{Stop}
@@ -58,17 +58,17 @@ abbrev pub FeedsFirst : (keeps : Bool) → (old new : SeatView) → List ℕ →
 FeedsFirst keeps old new bytes n fault = (n ≤ length bytes) × Books keeps old new (FeedsTo old.number bytes (take n bytes) (drop n bytes) fault)
 
 -- feeds of these bytes took so many, and released streams were looked at; or so many up to the pump's end
-abbrev pub TurnFed : (keeps : Bool) → (old new : SeatView) → List ℕ → Result (ℕ × Settled) Stop → Type 0
+abbrev pub TurnFed : (keeps : Bool) → (old new : SeatView) → List ℕ → Result (ℕ × Purged) Stop → Type 0
 TurnFed keeps old new bytes (Ok done) = FeedsFirst keeps old new bytes done.0 None
 TurnFed keeps old new bytes (Err stop) = IsInside stop.why × FeedsFirst keeps old new bytes stop.moved (fault_of_end stop.why)
 
 -- feeds of these bytes took all, and released streams were looked at; or so many up to the pump's end
-abbrev pub FedAll : (keeps : Bool) → (old new : SeatView) → List ℕ → Result Settled Stop → Type 0
-FedAll keeps old new bytes (Ok settled) = Books keeps old new (FeedsTo old.number bytes bytes [] None)
+abbrev pub FedAll : (keeps : Bool) → (old new : SeatView) → List ℕ → Result Purged Stop → Type 0
+FedAll keeps old new bytes (Ok purged) = Books keeps old new (FeedsTo old.number bytes bytes [] None)
 FedAll keeps old new bytes (Err stop) = IsInside stop.why × FeedsFirst keeps old new bytes stop.moved (fault_of_end stop.why)
 
 -- a turn that went well, or the last one
-abbrev pub TurnRead : (keeps : Bool) → (fails failed : ℕ) → (before after : Option (List ℕ)) → (old new : SeatView) → Result (ℕ × Settled) Stop → Type 0
+abbrev pub TurnRead : (keeps : Bool) → (fails failed : ℕ) → (before after : Option (List ℕ)) → (old new : SeatView) → Result (ℕ × Purged) Stop → Type 0
 TurnRead keeps fails failed before after old new (Ok done) =
     (failed ≡ fails) × (given : List ℕ) × (length given ≡ done.0) × Consumes before after given × Books keeps old new (FeedsTo old.number given given [] None)
 TurnRead keeps fails failed before after old new (Err stop) =

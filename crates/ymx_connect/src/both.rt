@@ -2,20 +2,20 @@
 
 ghost use Rattle.std.specs.Prelude.{◌≡◌, ◌<◌, length, false, IsOk};
 ghost use Rattle.ymx_hub.specs.Books.{Books};
-ghost use Rattle.ymx_hub.specs.Releasing.{Settles};
+ghost use Rattle.ymx_hub.specs.Releasing.{Purges};
 ghost use Rattle.ymx_model.specs.devices.Devices.{has_failed};
 ghost use Rattle.ymx_hub.specs.Pumped.{EmitsNoMore};
 ghost use Rattle.ymx_connect.specs.Ends.{ReadEnd, WriteEndOrNone};
 ghost use Rattle.ymx_connect.specs.Pumps.{PumpRead, PumpWrote};
 
-use crate::gate::{Gate, Lent};
-use crate::pump_end::{PumpEnd, PumpWhy, SettlerEnd, Stop};
+use crate::gate::{Gate, PumpIo};
+use crate::pump_end::{PumpEnd, PumpWhy, PurgerEnd, Stop};
 use crate::reading::read_on;
 use crate::start::{Start, await_begin, begin};
 use crate::writing::write_on;
 use std::sync::{Mutex, Wait};
 use std::thread::{Threads, join_mut};
-use ymx_hub::{Hub, Settled};
+use ymx_hub::{Hub, Purged};
 use ymx_memory::RefusedAllocation;
 use ymx_model::{Inlet, Outlet};
 use ymx_seats::{Recorder, Seat};
@@ -27,7 +27,7 @@ fn write_if_begun<R: Recorder, W: Wait, O: Outlet, G: Gate>(
     start: &Mutex<Start>,
     hub: &Hub<R>,
     seat: &mut Seat<R>,
-    lent: Lent<'_, O, G>,
+    lent: PumpIo<'_, O, G>,
 ) -> Stop
     ensures wrote { PumpWrote R.KEEPS (length lent.entry.2.now) (has_failed (O.failures lent.entry.0.now) (O.failures lent.exit.0.now)) (O.contents lent.entry.0.now) (O.contents lent.exit.0.now) seat.old seat.new result.moved result.why }
     ensures ended { WriteEndOrNone R.KEEPS (O.failures lent.entry.0.now) (O.failures lent.exit.0.now) (O.is_ended lent.exit.0.now) (G.has_refused lent.exit.1.0.now) result.why }
@@ -37,8 +37,8 @@ fn write_if_begun<R: Recorder, W: Wait, O: Outlet, G: Gate>(
     ensures unwritten { result.why ≡ PumpWhy.NoThread → lent.exit.0.now ≡ lent.entry.0.now }
 {
     if begin(rt, start) {
-        let Lent(device, gate, buffer) = lent;
-        return write_on(rt, hub, seat, Lent(device, gate, buffer));
+        let PumpIo(device, gate, buffer) = lent;
+        return write_on(rt, hub, seat, PumpIo(device, gate, buffer));
     }
     hub.mute(rt);
     Stop::at_once(PumpWhy::NoThread)
@@ -60,16 +60,16 @@ pub fn run_pumps<
     rt: &W,
     hub: &Hub<R>,
     seats: (Seat<R>, Seat<R>, Seat<R>),
-    reading: Lent<'_, I, G>,
-    writing: Lent<'_, O, H>,
-) -> (PumpEnd<R>, SettlerEnd<R>, PumpEnd<R>)
+    reading: PumpIo<'_, I, G>,
+    writing: PumpIo<'_, O, H>,
+) -> (PumpEnd<R>, PurgerEnd<R>, PumpEnd<R>)
     requires read_buffer { 0 < length reading.2.now }
     requires write_buffer { 0 < length writing.2.now }
     ensures gave { PumpRead R.KEEPS (I.remaining reading.entry.0.now) (I.remaining reading.exit.0.now) seats.0 result.0.seat result.0.moved result.0.why }
     // What the read pump did of released streams stands in the list of the second seat: a stream is given up only where nothing more could come.
-    ensures tended { Books R.KEEPS seats.1 result.1.seat (Settles seats.1.number) }
+    ensures tended { Books R.KEEPS seats.1 result.1.seat (Purges seats.1.number) }
     // Where no entries are kept, all released streams are looked at in the end.
-    ensures off { R.KEEPS ≡ false → IsOk result.1.settled }
+    ensures off { R.KEEPS ≡ false → IsOk result.1.purged }
     ensures wrote { PumpWrote R.KEEPS (length writing.entry.2.now) (has_failed (O.failures writing.entry.0.now) (O.failures writing.exit.0.now)) (O.contents writing.entry.0.now) (O.contents writing.exit.0.now) seats.2 result.2.seat result.2.moved result.2.why }
     ensures read { ReadEnd R.KEEPS (I.failures reading.entry.0.now) (I.failures reading.exit.0.now) (I.remaining reading.exit.0.now) (G.has_refused reading.exit.1.0.now) result.0.why }
     ensures written { WriteEndOrNone R.KEEPS (O.failures writing.entry.0.now) (O.failures writing.exit.0.now) (O.is_ended writing.exit.0.now) (H.has_refused writing.exit.1.0.now) result.2.why }
@@ -80,28 +80,28 @@ pub fn run_pumps<
     ensures unbooked { result.2.why ≡ PumpWhy.NoThread → result.2.seat ≡ seats.2 }
     ensures unwritten { result.2.why ≡ PumpWhy.NoThread → writing.exit.0.now ≡ writing.entry.0.now }
 {
-    let (own, settler, mut write_seat) = seats;
-    let mut read_seats = (own, settler);
+    let (own, purger, mut write_seat) = seats;
+    let mut read_seats = (own, purger);
     let start = Mutex::new(Start::new());
-    let Lent(reader, read_gate, read_buffer) = reading;
-    let Lent(writer, write_gate, write_buffer) = writing;
-    let mut read = || -> (Stop, Result<Settled, RefusedAllocation>)
+    let PumpIo(reader, read_gate, read_buffer) = reading;
+    let PumpIo(writer, write_gate, write_buffer) = writing;
+    let mut read = || -> (Stop, Result<Purged, RefusedAllocation>)
         requires { 0 < length read_buffer.now }
     {
         // The write pump has begun then, or was given up.
         await_begin(rt, &start);
-        let lent = Lent(reader, read_gate, read_buffer);
+        let lent = PumpIo(reader, read_gate, read_buffer);
         read_on(rt, hub, &mut read_seats, lent)
     };
     let mut write = || -> Stop {
-        let lent = Lent(writer, write_gate, write_buffer);
+        let lent = PumpIo(writer, write_gate, write_buffer);
         write_if_begun(rt, &start, hub, &mut write_seat, lent)
     };
-    let (wrote, (fed, settled)) = join_mut(rt, &mut write, &mut read);
+    let (wrote, (fed, purged)) = join_mut(rt, &mut write, &mut read);
     let (own, seat) = read_seats;
     (
         fed.of(own),
-        SettlerEnd { seat, settled },
+        PurgerEnd { seat, purged },
         wrote.of(write_seat),
     )
 }

@@ -5,7 +5,7 @@ ghost use Rattle.std.specs.Prelude.{◌≡◌, ◌||◌, Bool, not};
 /// What is lent to a pump while it runs: the device that bytes come from or go to, who may end the pump, and the buffer that bytes are
 /// moved through, no more at once than it holds.
 #[derive(Drop)]
-pub struct Lent<'a, D, G>(pub &'a mut D, pub &'a mut G, pub &'a mut [u8]);
+pub struct PumpIo<'a, D, G>(pub &'a mut D, pub &'a mut G, pub &'a mut [u8]);
 
 /// Who is asked before a pump reads or waits, and told what it moved. An answer of `false` ends the pump with
 /// `Gate`. No lock is held while it is asked.

@@ -3,7 +3,7 @@
 ghost use Rattle.std.specs.Prelude.{◌≡◌, ◌+◌, ◌-◌, ◌^◌, min};
 
 use ymx_header::Fault;
-use ymx_hub::Settled;
+use ymx_hub::Purged;
 use ymx_memory::RefusedAllocation;
 use ymx_seats::{Recorder, Seat};
 
@@ -36,11 +36,11 @@ pub struct PumpEnd<R: Recorder> {
 }
 
 /// The end of a read pump's look at the streams that were released.
-pub struct SettlerEnd<R: Recorder> {
+pub struct PurgerEnd<R: Recorder> {
     /// The seat at which it looked.
     pub seat: Seat<R>,
     /// The evidence that each stream that was still released waited in the end; or there was no memory for an entry.
-    pub settled: Result<Settled, RefusedAllocation>,
+    pub purged: Result<Purged, RefusedAllocation>,
 }
 
 /// Why a pump stops while its seat is lent.
@@ -60,7 +60,7 @@ impl Stop {
         Stop { moved: 0, why }
     }
 
-    /// Behind so many bytes, which were moved.
+    /// After so many bytes, which were moved.
     pub(crate) fn behind_bytes(moved: usize, why: PumpWhy) -> Stop
         ensures { result ≡ record { moved = moved; why = why } }
     {
@@ -70,7 +70,7 @@ impl Stop {
         }
     }
 
-    /// The same, behind so many bytes that were moved before.
+    /// The same, after so many bytes that were moved before.
     pub(crate) fn behind(self, moved: u64) -> Stop
         ensures { result ≡ record { moved = min (moved + self.moved) (2 ^ 64 - 1); why = self.why } }
     {

@@ -1,8 +1,8 @@
 //! How two pumps begin.
 //!
-//! `join_mut` runs its first closure in a new thread, and in the calling one where none can be made, behind the
+//! `join_mut` runs its first closure in a new thread, and in the calling one where none can be made, after the
 //! second closure. The pump in the first would then run only once the other has ended. So it says that it has begun,
-//! and the second pump waits for that, a bounded number of turns; behind them the first one is given up.
+//! and the second pump waits for that, a bounded number of turns; after them the first one is given up.
 
 use std::sync::{Mutex, Wait};
 use std::thread;

@@ -10,7 +10,7 @@ ghost use Rattle.ymx_connect.specs.Ends.{WriteEnd};
 ghost use Rattle.ymx_connect.specs.Pumps.{PumpWrote, EndsWrite};
 ghost use Rattle.ymx_connect.specs.Turns.{SaysEnd, TurnWrote, EmitsOrWakes};
 
-use crate::gate::{Gate, Lent};
+use crate::gate::{Gate, PumpIo};
 use crate::pump_end::{PumpEnd, PumpWhy, Stop};
 use crate::reading::end_input;
 use std::sync::Wait;
@@ -52,7 +52,7 @@ fn write_turn<R: Recorder, W: Wait, O: Outlet, G: Gate>(
     rt: &W,
     hub: &Hub<R>,
     seat: &mut Seat<R>,
-    lent: Lent<'_, O, G>,
+    lent: PumpIo<'_, O, G>,
 ) -> Result<usize, Stop>
     ensures length { length lent.exit.1.1.0.now ≡ length lent.entry.2.now }
     ensures turned { TurnWrote R.KEEPS (length lent.entry.2.now) (O.failures lent.entry.0.now) (O.failures lent.exit.0.now) (O.contents lent.entry.0.now) (O.contents lent.exit.0.now) seat.old seat.new result }
@@ -60,7 +60,7 @@ fn write_turn<R: Recorder, W: Wait, O: Outlet, G: Gate>(
     ensures out { IfErr result (λ stop. stop.why ≡ PumpWhy.End → EmitsNoMore R.WITNESSED R.role R.config seat.new.seen) }
     ensures awake { IfOk result (λ count. EmitsOrWakes R.KEEPS R.WITNESSED R.role R.config (length lent.entry.2.now) lent.exit.1.1.0.now seat.old seat.new count) }
 {
-    let Lent(device, gate, buffer) = lent;
+    let PumpIo(device, gate, buffer) = lent;
     let count = match hub.emit_turn(rt, seat, buffer) {
         Ok(Turn::Emitted(count)) => count,
         Ok(Turn::Idle) => {
@@ -88,16 +88,16 @@ pub(crate) fn write_on<R: Recorder, W: Wait, O: Outlet, G: Gate>(
     rt: &W,
     hub: &Hub<R>,
     seat: &mut Seat<R>,
-    lent: Lent<'_, O, G>,
+    lent: PumpIo<'_, O, G>,
 ) -> Stop
     ensures wrote { PumpWrote R.KEEPS (length lent.entry.2.now) (has_failed (O.failures lent.entry.0.now) (O.failures lent.exit.0.now)) (O.contents lent.entry.0.now) (O.contents lent.exit.0.now) seat.old seat.new result.moved result.why }
     ensures ended { WriteEnd R.KEEPS (O.failures lent.entry.0.now) (O.failures lent.exit.0.now) (O.is_ended lent.exit.0.now) (G.has_refused lent.exit.1.0.now) result.why }
     ensures out { result.why ≡ PumpWhy.End → EmitsNoMore R.WITNESSED R.role R.config seat.new.seen }
 {
-    let Lent(device, gate, buffer) = lent;
+    let PumpIo(device, gate, buffer) = lent;
     let mut count = 0u64;
     for _ in rt.forever() {
-        match write_turn(rt, hub, seat, Lent(device, gate, buffer)) {
+        match write_turn(rt, hub, seat, PumpIo(device, gate, buffer)) {
             Ok(written) => count = count.saturating_add(written as u64),
             Err(stop) => return stop.behind(count),
         }
@@ -114,7 +114,7 @@ pub fn write_pump<R: Recorder, W: Wait, O: Outlet, G: Gate>(
     rt: &W,
     hub: &Hub<R>,
     seat: Seat<R>,
-    lent: Lent<'_, O, G>,
+    lent: PumpIo<'_, O, G>,
 ) -> PumpEnd<R>
     requires { 0 < length lent.2.now }
     ensures wrote { PumpWrote R.KEEPS (length lent.entry.2.now) (has_failed (O.failures lent.entry.0.now) (O.failures lent.exit.0.now)) (O.contents lent.entry.0.now) (O.contents lent.exit.0.now) seat result.seat result.moved result.why }
@@ -123,7 +123,7 @@ pub fn write_pump<R: Recorder, W: Wait, O: Outlet, G: Gate>(
     ensures out { result.why ≡ PumpWhy.End → EmitsNoMore R.WITNESSED R.role R.config result.seat.seen }
 {
     let mut seat = seat;
-    let Lent(device, gate, buffer) = lent;
-    let stop = write_on(rt, hub, &mut seat, Lent(device, gate, buffer));
+    let PumpIo(device, gate, buffer) = lent;
+    let stop = write_on(rt, hub, &mut seat, PumpIo(device, gate, buffer));
     stop.of(seat)
 }

@@ -4,7 +4,7 @@ use Rattle.std.proofs.lemmas.Bool.Decides.{nat_tests}
 use Rattle.ymx_model.specs.session.Pings.{Ping, is_pending, without_ping, free_from, number_after}
 use Rattle.ymx_control.specs.Numbers.{steps_up, ArePendingBefore}
 
--- the number so many steps behind another, after one step more
+-- the number so many steps after another, after one step more
 pub number_after-ahead : (n k : ℕ) → number_after ((n + k) % 2 ^ 32) ≡ (n + suc k) % 2 ^ 32
 number_after-ahead n k = omega arith
 

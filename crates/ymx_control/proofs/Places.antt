@@ -5,7 +5,7 @@ use Rattle.std.proofs.lemmas.Grind.{common_steps}
 use Rattle.std.proofs.lemmas.Bool.Decides.{nat_tests}
 use Rattle.ymx_machine.specs.shared.Lists.{drop_id}
 
--- taking out the first element, or one behind it
+-- taking out the first element, or one after it
 pub cond-remove : {X : Type 0} (b : Bool) (x : X) (xs : List X) (n : ℕ) → cond b xs (x ∷ remove xs n) ≡ remove (x ∷ xs) (cond (not b) (1 + n) 0)
 cond-remove true x xs n = grind (arith, common_steps)
 cond-remove false x xs n = grind (arith, common_steps)

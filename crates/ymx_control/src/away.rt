@@ -34,7 +34,7 @@ impl Away {
         }
     }
 
-    /// It is said here: its frame is due. A second time changes nothing, whether or not the frame
+    /// It was called here: its frame is due. A second time changes nothing, whether or not the frame
     /// has gone.
     pub fn say(&mut self)
         ensures { self.new ≡ say_away self.old }

@@ -160,14 +160,14 @@ impl Pings {
     fn set_stage(&mut self, number: u32, stage: PingStage)
         ensures { self.new ≡ record self.old { pending = staged stage number self.old.pending } }
     {
-        if let Some(place) = place_of(self.pending.as_slice(), number) {
+        if let Some(place) = index_of(self.pending.as_slice(), number) {
             self.pending[place] = Ping { number, stage };
         }
     }
 }
 
 /// The place of a number among the pings.
-fn place_of(pending: &[Ping], number: u32) -> Option<usize>
+fn index_of(pending: &[Ping], number: u32) -> Option<usize>
     ensures first { result ≡ position (λ p. p.number == number) pending.now }
     ensures within { IfSome result (λ place. place < length pending.now) }
 {
@@ -178,7 +178,7 @@ fn place_of(pending: &[Ping], number: u32) -> Option<usize>
 fn is_pending(pending: &[Ping], number: u32) -> bool
     ensures { result ≡ is_pending number pending.now }
 {
-    place_of(pending, number).is_some()
+    index_of(pending, number).is_some()
 }
 
 /// The place of a ping whose answer is back.
@@ -187,7 +187,7 @@ fn back_at(pending: &[Ping], number: u32) -> Option<usize>
     ensures first { IfSome result (λ place. position (λ p. p.number == number) pending.now ≡ Some place) }
     ensures within { IfSome result (λ place. place < length pending.now) }
 {
-    let place = place_of(pending, number)?;
+    let place = index_of(pending, number)?;
     let ping = pending[place];
     is_back(ping.stage).then_some(place)
 }

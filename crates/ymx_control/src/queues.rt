@@ -75,7 +75,7 @@ impl<T: Copy, const N: usize> BoundedQueue<T, N> {
         self.items.len() == N
     }
 
-    /// Puts an item behind the others. Takes no memory.
+    /// Puts an item after the others. Takes no memory.
     pub fn push(&mut self, item: T)
         requires { length self.old < N }
         ensures { self.new ≡ self.old ++ item ∷ [] }
@@ -105,14 +105,14 @@ impl Backlog {
     pub fn remove(&mut self, id: u32)
         ensures { self.new ≡ drop_id id self.old }
     {
-        if let Some(place) = place_of(&self.items, id) {
+        if let Some(place) = index_of(&self.items, id) {
             self.items.remove(place);
         }
     }
 }
 
 /// The place of the first occurrence of an id.
-fn place_of(ids: &VecDeque<u32>, id: u32) -> Option<usize>
+fn index_of(ids: &VecDeque<u32>, id: u32) -> Option<usize>
     ensures first { result ≡ position (λ x. x == id) ids.now.items }
     ensures within { IfSome result (λ place. place < length ids.now.items) }
 {

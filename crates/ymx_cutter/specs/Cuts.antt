@@ -1,4 +1,4 @@
--- What a text of bytes says, whoever reads it: its frames, or where a fault stands (framing).
+-- What a text of bytes says, for any reader: its frames, or where a fault stands (framing).
 use Rattle.std.specs.Prelude.{◌≡◌, ℕ, List, ◌++◌, length, Some, All}
 use Rattle.ymx_header.specs.declared.header.Header.{Header}
 use Rattle.ymx_header.specs.declared.fault.Fault.{Fault}

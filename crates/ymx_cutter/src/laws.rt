@@ -26,8 +26,8 @@ pub fn one_way()
 {}
 
 /// A cutter that has read a whole text has found all its frames and nothing else. The frames that were gathered are
-/// those that the text is cut into, the frame that is begun has the rest of its bytes, and a fault is told exactly where
-/// one stands, behind the frames before it.
+/// those that the text is cut into, the frame that is begun has the rest of its bytes, and a fault is reported exactly where
+/// one stands, after the frames before it.
 pub fn what_is_read()
     ensures nothing { (limit : ℕ) → Gathers limit [] nothing (InHeader []) }
     ensures cuts { (limit : ℕ) (text : List ℕ) (g : Gathered) (seen : Seen) → Gathers limit text g seen →
@@ -39,7 +39,7 @@ pub fn what_is_read()
 {}
 
 /// In whatever pieces a text comes to a new cutter, its items make the frames of the text. A fault
-/// is told only where one stands, and none that stands is missed.
+/// is reported only where one stands, and none that stands is missed.
 pub fn any_pieces()
     ensures frames { (limit : ℕ) (calls : List Call) (end : Seen) → AreCalls limit (InHeader []) calls end →
         (rest : List ℕ) × Cuts limit (text_of calls) (gathered nothing calls).frames rest × (length rest ≡ begun_of end) }

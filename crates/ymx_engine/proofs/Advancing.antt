@@ -13,17 +13,17 @@ use Rattle.ymx_model.specs.declared.types.Event.TheVariants as event
 use Rattle.ymx_model.specs.session.Sessions.{Session}
 use Rattle.ymx_model.specs.session.Emissions.{in_turn}
 use Rattle.ymx_model.specs.session.Histories.{Gives}
-use Rattle.ymx_engine.specs.declared.ways.Ways.{Ways}
+use Rattle.ymx_engine.specs.declared.directions.Directions.{Directions}
 use Rattle.ymx_engine.specs.declared.device.Pushed.TheVariants as pushed
 use Rattle.ymx_engine.specs.Devices.{Seen, Marks, may_take_more, IsPushed, IsShut}
 use Rattle.ymx_engine.specs.declared.device.Pushed.{Pushed}
 use Rattle.ymx_engine.specs.Events.{Happen, given}
 use Rattle.ymx_engine.specs.Engines.{Engine}
 use Rattle.ymx_engine.specs.Wires.{fed_at, fed, is_of_read, has_feed_end, FeedsFront, HandlesIn, OffersFront, ReadsWire, rejections}
-use Rattle.ymx_engine.specs.Passes.{PassesOn, OffersOnce, Settles}
+use Rattle.ymx_engine.specs.Passes.{PassesOn, OffersOnce, Commits}
 use Rattle.ymx_engine.proofs.Exchanging.{happen_then, or_same, or_none, or_true, same_id, none_pushed, some_bytes, take_both}
-use Rattle.ymx_engine.proofs.Following.{ways_passed, ways_reset, breaks}
-use Rattle.ymx_engine.specs.Ways.{break_if, may_push, is_open}
+use Rattle.ymx_engine.proofs.Following.{directions_passed, directions_reset, breaks}
+use Rattle.ymx_engine.specs.Directions.{break_if, may_push, is_open}
 use Rattle.ymx_engine.proofs.Quiet.{both}
 use Rattle.ymx_machine.specs.declared.types.Fed.{Fed}
 use Rattle.ymx_machine.specs.declared.types.Reply.TheVariants as reply
@@ -48,7 +48,7 @@ drop_front (x ∷ xs) ys = drop_front xs ys
 pub drop_twice : (xs ys zs : List ℕ) → drop (length (xs ++ ys)) zs ≡ drop (length ys) (drop (length xs) zs)
 drop_twice xs ys zs = ap (λ (n : ℕ). drop n zs) (length-append xs ys) ∙ sym (drop-drop (length ys) (length xs) zs)
 
--- feeds behind feeds offer the front of what waits then
+-- feeds after feeds offer the front of what waits then
 pub fronts_then : (es fs : List (Event × Reply)) (waits next : List ℕ) → drop (length (fed es)) waits ≡ next → FeedsFront waits es → FeedsFront next fs → FeedsFront waits (es ++ fs)
 fronts_then [] fs waits next e h k = subst (λ (v : List ℕ). FeedsFront v fs) (sym e) k
 fronts_then (e ∷ es) fs waits next same h k = (h.0, fronts_then es fs (drop (length (fed_at e.0 e.1)) waits) next (sym (drop_twice (fed_at e.0 e.1) (fed es) waits) ∙ same) h.1 k)
@@ -158,7 +158,7 @@ fed_fits : (waits : List ℕ) (e : Event) (told : Reply) → OffersFront waits e
 fed_fits waits (event.Feed bytes) (reply.Fed f) h = taken_fits f.taken bytes h.0 waits h.1
 fed_fits waits e told h = omega arith
 
--- where more waits behind what is offered
+-- where more waits after what is offered
 pub fronts_more : (waits more : List ℕ) (es : List (Event × Reply)) → FeedsFront waits es → FeedsFront (waits ++ more) es
 fronts_more waits more [] h = tt
 fronts_more waits more (e ∷ es) h = (
@@ -179,11 +179,11 @@ and_none : (b : Bool) → (b && false) ≡ false
 and_none true = refl
 and_none false = refl
 
-takes_none_now : (w : Ways) (bytes : List ℕ) (a b : Seen) → IsPushed pushed.NotNow bytes a b → may_push w b.marks ≡ false
+takes_none_now : (w : Directions) (bytes : List ℕ) (a b : Seen) → IsPushed pushed.NotNow bytes a b → may_push w b.marks ≡ false
 takes_none_now w bytes a b p = ap (λ (m : Marks). m.may_push && is_open w.from_peer) p.marks ∙ ap (λ (v : Bool). v && is_open w.from_peer) (and_none a.marks.may_push)
 
 -- the device took nothing, and did not fail
-pub offered_none : (id : ℕ) (s : Session) (payload waits : List ℕ) (a b : Seen) (w : Ways) → IsPushed pushed.NotNow payload a b → OffersOnce id waits 0 s s a b w w
+pub offered_none : (id : ℕ) (s : Session) (payload waits : List ℕ) (a b : Seen) (w : Directions) → IsPushed pushed.NotNow payload a b → OffersOnce id waits 0 s s a b w w
 offered_none id s payload waits a b w p = record {
   events = [];
   happen = refl;
@@ -201,7 +201,7 @@ offered_none id s payload waits a b w p = record {
   ended = p.ended ∙ or_same a.ended;
   shut = p.shut ∙ or_same a.shut;
   few = let i = p.counted in omega arith;
-  ways = refl;
+  directions = refl;
   delivers = inr (takes_none_now w payload a b p);
   pull_on = λ on. inl (pull_stays pushed.NotNow payload a b p on);
   push_on = λ on. inl (push_stays pushed.NotNow payload a b p on);
@@ -217,7 +217,7 @@ front_is front waits count within e =
     let n : length front ≡ count = omega arith in sym (take-append_seam front (drop count waits)) ∙ ap (take (length front)) (sym e) ∙ ap (λ (k : ℕ). take k waits) n
 
 -- the device took the first bytes, which came and were read
-pub offered_some : (id n count : ℕ) (s t : Session) (payload waits : List ℕ) (a b : Seen) (w : Ways) → IsPushed (pushed.Took n) payload a b → 0 < n → count ≤ length waits → Settles id (take n payload) waits (drop count waits) s t →
+pub offered_some : (id n count : ℕ) (s t : Session) (payload waits : List ℕ) (a b : Seen) (w : Directions) → IsPushed (pushed.Took n) payload a b → 0 < n → count ≤ length waits → Commits id (take n payload) waits (drop count waits) s t →
     OffersOnce id waits count s t a b w w
 offered_some id n count s t payload waits a b w p some within x = record {
   events = x.events;
@@ -236,14 +236,14 @@ offered_some id n count s t payload waits a b w p some within x = record {
   ended = rw x.ends (p.ended ∙ or_same a.ended);
   shut = rw x.stops (p.shut ∙ or_same a.shut);
   few = let j = p.counted in omega arith;
-  ways = sym (ways_passed id x.events w x.own x.ends x.stops);
+  directions = sym (directions_passed id x.events w x.own x.ends x.stops);
   delivers = inl (some_bytes (given id x.events) (subst (λ (v : List ℕ). 0 < length v) (sym x.gave) (let l = length-take-le n payload p.within in omega arith)));
   pull_on = λ on. inl (pull_stays (pushed.Took n) payload a b p on);
   push_on = λ on. inl (push_stays (pushed.Took n) payload a b p on);
 }
 
 -- the device failed: the stream was reset, and the device shut
-pub offered_failed : (id : ℕ) (told : Reply) (s t : Session) (payload waits : List ℕ) (a b c : Seen) (v w : Ways) → IsPushed pushed.Failed payload a b → Gives in_turn s (event.Call (call.Reset id)) told t → IsShut b c →
+pub offered_failed : (id : ℕ) (told : Reply) (s t : Session) (payload waits : List ℕ) (a b c : Seen) (v w : Directions) → IsPushed pushed.Failed payload a b → Gives in_turn s (event.Call (call.Reset id)) told t → IsShut b c →
     w ≡ record v { to_peer = break_if true v.to_peer; from_peer = break_if true v.from_peer } → OffersOnce id waits 0 s t a c v w
 offered_failed id told s t payload waits a b c v w p g q broken =
     let i = same_id id in
@@ -265,14 +265,14 @@ offered_failed id told s t payload waits a b c v w p g q broken =
       ended = q.ended ∙ p.ended ∙ or_same a.ended;
       shut = rw i (q.shut ∙ ap (option_map (λ x. true)) p.shut ∙ or_true a.shut);
       few = let j = p.counted in let k = q.counted in omega arith;
-      ways = broken ∙ sym (ways_reset id told v);
-      delivers = inr (ap (λ (x : Ways). c.marks.may_push && is_open x.from_peer) broken ∙ ap (λ (b : Bool). c.marks.may_push && b) (breaks v.from_peer) ∙ and_none c.marks.may_push);
+      directions = broken ∙ sym (directions_reset id told v);
+      delivers = inr (ap (λ (x : Directions). c.marks.may_push && is_open x.from_peer) broken ∙ ap (λ (b : Bool). c.marks.may_push && b) (breaks v.from_peer) ∙ and_none c.marks.may_push);
       pull_on = λ on. inr (rw i refl);
       push_on = λ on. inr (rw i refl);
     }
 
 -- the front of what waits was offered
-pub offers_front : (id count : ℕ) (waits : List ℕ) (a b : Engine) (s : Session) (d e : Seen) (v w : Ways) → s ≡ a.session → waits ≡ a.incoming → OffersOnce id waits count s b.session d e v w →
+pub offers_front : (id count : ℕ) (waits : List ℕ) (a b : Engine) (s : Session) (d e : Seen) (v w : Directions) → s ≡ a.session → waits ≡ a.incoming → OffersOnce id waits count s b.session d e v w →
     b.incoming ≡ drop count a.incoming → b.outgoing ≡ a.outgoing → PassesOn id a b d e 2 v w
 offers_front id count waits a b s d e v w same all x incoming outgoing =
     let y : OffersOnce id a.incoming count s b.session d e v w = subst (λ (bytes : List ℕ). OffersOnce id bytes count s b.session d e v w) all x in record {
@@ -292,7 +292,7 @@ offers_front id count waits a b s d e v w same all x incoming outgoing =
       ended = y.ended;
       shut = y.shut;
       few = y.few;
-      ways = y.ways;
+      directions = y.directions;
       pull_on = y.pull_on;
       push_on = y.push_on;
     }

@@ -1,4 +1,4 @@
--- Payload of one stream that is passed on, and the header behind it, leave the other streams alone.
+-- Payload of one stream that is passed on, and the header after it, leave the other streams alone.
 use Rattle.std.proofs.Common.{◌≡◌, ◌≢◌, ℕ, ◌+◌, ◌-◌, ◌<◌, ◌≤◌, ◌==◌, List, [], ◌∷◌, ◌++◌, length, take, Bool, true, false, if◌then◌else◌, refl, sym, ap, ◌∙◌, subst, arith, append_assoc, length-append, length-take-le, suc}
 use Rattle.std.specs.Prelude.{nat_eq, nat_lt}
 use Rattle.std.proofs.lemmas.Bool.Decides.{nat_tests}
@@ -18,7 +18,7 @@ use Rattle.ymx_model.specs.session.Feeds.{Takes, byte_comes, byte_in}
 use Rattle.ymx_model.specs.session.Histories.{Gives, CallGives}
 use Rattle.ymx_model.specs.session.Histories.CallGives.{Outcome as HasOutcome, NoMemory}
 use Rattle.ymx_model.specs.session.Tables.{remove_record}
-use Rattle.ymx_model.specs.session.Sessions.{Session, Incoming, is_spent, on_stream, settle}
+use Rattle.ymx_model.specs.session.Sessions.{Session, Incoming, is_spent, on_stream, reap}
 use Rattle.ymx_model.specs.session.Sessions.Incoming.{Head, Payload}
 use Rattle.ymx_law_session.proofs.nothing_else.Others.{head-others, piece-others, read-others}
 use Rattle.ymx_law_session.proofs.nothing_else.StreamCalls.{read-stays}
@@ -107,7 +107,7 @@ read_same id count s t told (HasOutcome answer state) =
     let k = read-stays P id count s (record { now = (refl, refl); changed = λ f. (refl, refl); gone = λ f. gone_same (on_stream id f s) refl refl }) in
     (ap (λ (x : Session). x.status) state ∙ k.0, ap (λ (x : Session). x.incoming) state ∙ k.1, λ j ne. ap (λ (x : Session). look j x.table.entries) state ∙ read-others id count s j ne)
   where
-    gone_same : (u : Session) → u.status ≡ s.status → u.incoming ≡ s.incoming → ((settle id u).status ≡ s.status) × ((settle id u).incoming ≡ s.incoming)
+    gone_same : (u : Session) → u.status ≡ s.status → u.incoming ≡ s.incoming → ((reap id u).status ≡ s.status) × ((reap id u).incoming ≡ s.incoming)
     gone_same u p q = split (λ (x : Session). (x.status ≡ s.status) × (x.incoming ≡ s.incoming)) (is_spent u.table.window u.outgoing id (look id u.table.entries)) (record u { table = remove_record id u.table }) u (λ e. (p, q)) (λ e. (p, q))
 read_same id count s t told (NoMemory needs answer state) = (ap (λ (x : Session). x.status) state, ap (λ (x : Session). x.incoming) state, λ j ne. ap (λ (x : Session). look j x.table.entries) state)
 
@@ -127,7 +127,7 @@ differ id other ne = grind (arith, nat_tests)
 pub piece_came : (id other : ℕ) (last : Bool) (s t : Session) → IsPiece id last s t → nat_eq id other ≡ false → GainsNone other s t
 piece_came id other last s t x ne = gains_same other s t x.status (x.others other (differ id other ne))
 
--- and the header behind it
+-- and the header after it
 pub header_came : (id count other : ℕ) (header : List ℕ) (told : Fed) (t u : Session) → t.status ≡ Running → u.status ≡ Running → t.incoming ≡ Head [] → IsPlainHeader id count header → told ≡ all_fed header → Gives in_turn t (event.Feed header) (reply.Fed told) u →
     nat_eq id other ≡ false → GainsNone other t u
 header_came id count other header told t u run runs inc plain all g ne =

@@ -14,7 +14,7 @@ use Rattle.ymx_model.specs.session.Emissions.{is_ready}
 use Rattle.ymx_session.specs.Streams.{room_of}
 use Rattle.ymx_session.specs.Through.{goes_through}
 
--- bytes that are put into the room behind those that wait
+-- bytes that are put into the room after those that wait
 pub waits_behind : (at end count : ℕ) (memory room post : List ℕ) → at ≤ end → end ≤ length memory → count ≤ length room →
     drop at (take (end + count) (take end memory ++ (room ++ post))) ≡ drop at (take end memory) ++ take count room
 waits_behind at end count memory room post a b k =

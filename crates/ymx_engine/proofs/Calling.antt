@@ -6,7 +6,7 @@ use Rattle.std.specs.Map.{lookup, keys_of}
 use Rattle.std.proofs.lemmas.List.{take_more}
 use Rattle.std.proofs.lemmas.List.Folds.{list_any-append}
 use Rattle.std.proofs.lemmas.Option.{slice_get_within, slice_get-get_or}
-use Rattle.ymx_engine.specs.Turns.{Entry, Lines, Waits, Awaits}
+use Rattle.ymx_engine.specs.Turns.{Entry, Connections, Waits, Awaits}
 use Rattle.ymx_engine.proofs.Entries.{eq_ids, same_id}
 
 -- it holds of the first so many of a list
@@ -30,11 +30,11 @@ first_more P Q n id xs on at q h k x below there = by (before k n below)
         let is : id ≡ x = cc in subst Q is q
 
 -- the place of one that is there
-place_of : (id : ℕ) (es : List (ℕ × Entry)) → IsSome (option_map (λ (e : Entry). e.line) (lookup (nat_eq id) es)) → (k : ℕ) × (slice_get (keys_of es) k ≡ Some id)
-place_of id [] some = let no : ⊥ = cc in absurd no
-place_of id (e ∷ es) some = by (nat_eq id e.0) refl (place_of id es) some
+index_of : (id : ℕ) (es : List (ℕ × Entry)) → IsSome (option_map (λ (e : Entry). e.connection) (lookup (nat_eq id) es)) → (k : ℕ) × (slice_get (keys_of es) k ≡ Some id)
+index_of id [] some = let no : ⊥ = cc in absurd no
+index_of id (e ∷ es) some = by (nat_eq id e.0) refl (index_of id es) some
   where
-    by : (b : Bool) → nat_eq id e.0 ≡ b → (IsSome (option_map (λ (x : Entry). x.line) (lookup (nat_eq id) es)) → (k : ℕ) × (slice_get (keys_of es) k ≡ Some id)) → IsSome (option_map (λ (x : Entry). x.line) (cond b (Some e.1) (lookup (nat_eq id) es))) →
+    by : (b : Bool) → nat_eq id e.0 ≡ b → (IsSome (option_map (λ (x : Entry). x.connection) (lookup (nat_eq id) es)) → (k : ℕ) × (slice_get (keys_of es) k ≡ Some id)) → IsSome (option_map (λ (x : Entry). x.connection) (cond b (Some e.1) (lookup (nat_eq id) es))) →
         (k : ℕ) × (slice_get (e.0 ∷ keys_of es) k ≡ Some id)
     by true t rest h = (0, ap (λ (n : ℕ). Some n) (eq_ids id e.0 t))
     by false t rest h = let at = rest h in (suc at.0, at.1)
@@ -51,13 +51,13 @@ all_past n xs none = past_end n xs none (either (length xs) n)
     either a b = grind arith
 
 -- once all were called, each that is there was
-pub all_called : (P : ℕ → Type 0) (n id : ℕ) (es : List (ℕ × Entry)) → FirstAll P n (keys_of es) → length (keys_of es) ≤ n → IsSome (option_map (λ (e : Entry). e.line) (lookup (nat_eq id) es)) → P id
+pub all_called : (P : ℕ → Type 0) (n id : ℕ) (es : List (ℕ × Entry)) → FirstAll P n (keys_of es) → length (keys_of es) ≤ n → IsSome (option_map (λ (e : Entry). e.connection) (lookup (nat_eq id) es)) → P id
 all_called P n id es h past some =
-    let at = place_of id es some in
+    let at = index_of id es some in
     let within : at.0 < length (keys_of es) = slice_get_within (keys_of es) at.0 id at.1 in h at.0 id (omega (arith, within, past)) at.1
 
 -- one of a list more was called
-pub called_more : (There : ℕ → Type 0) (t u : Lines) (xs : List ℕ) (n : ℕ) → n < length xs → ((id : ℕ) → Awaits id t → Awaits id u) → (There (get_or xs n 0) → Awaits (get_or xs n 0) u) →
+pub called_more : (There : ℕ → Type 0) (t u : Connections) (xs : List ℕ) (n : ℕ) → n < length xs → ((id : ℕ) → Awaits id t → Awaits id u) → (There (get_or xs n 0) → Awaits (get_or xs n 0) u) →
     ((id : ℕ) → list_any (nat_eq id) (take n xs) ≡ true → There id → Awaits id t) → (id : ℕ) → list_any (nat_eq id) (take (n + 1) xs) ≡ true → There id → Awaits id u
 called_more There t u xs n within on own before id among there =
     let parts : list_any (nat_eq id) (take (n + 1) xs) ≡ (list_any (nat_eq id) (take n xs) || list_any (nat_eq id) (get_or xs n 0 ∷ [])) = ap (list_any (nat_eq id)) (take_more xs n 0 within) ∙ list_any-append (nat_eq id) (take n xs) (get_or xs n 0 ∷ []) in
@@ -77,7 +77,7 @@ second_or true b h = refl
 second_or false b h = h
 
 -- each that waits now waited before, or was called
-pub called_only : (s t u : Lines) (xs : List ℕ) (n : ℕ) → n < length xs → ((id : ℕ) → Waits id u → Waits id t ⊎ (get_or xs n 0 ≡ id)) → ((id : ℕ) → Waits id t → Waits id s ⊎ (list_any (nat_eq id) (take n xs) ≡ true)) →
+pub called_only : (s t u : Connections) (xs : List ℕ) (n : ℕ) → n < length xs → ((id : ℕ) → Waits id u → Waits id t ⊎ (get_or xs n 0 ≡ id)) → ((id : ℕ) → Waits id t → Waits id s ⊎ (list_any (nat_eq id) (take n xs) ≡ true)) →
     (id : ℕ) → Waits id u → Waits id s ⊎ (list_any (nat_eq id) (take (n + 1) xs) ≡ true)
 called_only s t u xs n within one before id waits = by (one id waits)
   where

@@ -23,8 +23,8 @@ use Rattle.ymx_model.specs.session.FramesDue.{begin_frame, next_kind, is_due}
 use Rattle.ymx_model.specs.session.Tables.{with_record, remove_record}
 use Rattle.ymx_model.specs.session.Sessions.{Session, Outgoing, is_closed, is_lost, is_running, is_broken, is_spent, belongs_to, on_stream, nothing_outgoing}
 use Rattle.ymx_model.specs.session.Calls.{outcome, write_outcome, read_outcome, read_from, finish_outcome, reset_outcome, status_input_ends, feed_end}
-use Rattle.ymx_model.specs.session.Emissions.{Choice, begin, begin_answer, begin_stream, begin_kind, begins, alarm_frame, go_away_frame, ping_frame, moves_on, settles, Ready, Flows, in_turn}
-use Rattle.ymx_model.specs.session.Emissions.Choice.{TheAlarm, TheGoAway, TheAnswer, ThePing, AStream}
+use Rattle.ymx_model.specs.session.Emissions.{Choice, begin, begin_answer, begin_stream, begin_kind, begins, error_frame, go_away_frame, ping_frame, moves_on, reaps, Ready, Flows, in_turn}
+use Rattle.ymx_model.specs.session.Emissions.Choice.{TheErrorDue, TheGoAway, TheAnswer, ThePing, AStream}
 use Rattle.ymx_model.specs.session.GoAway.{away_due, begin_away}
 use Rattle.ymx_model.specs.session.Pings.{has_asked, begin_ping}
 use Rattle.ymx_model.specs.session.Events.{Event}
@@ -229,7 +229,7 @@ answer_kept [] s t b = cc
 answer_kept (r ∷ more) s t b = subst (Kept s) (one_some _ t b) (refl, λ j. (refl, refl))
 
 begin_kept : (c : Choice) (s t : Session) → begin c s ≡ Some t → Kept s t
-begin_kept TheAlarm s t b = subst (Kept s) (sym (some_if (s.alarm && is_broken s.status) (begins alarm_frame (record s { alarm = false })) t b).1) (refl, λ j. (refl, refl))
+begin_kept TheErrorDue s t b = subst (Kept s) (sym (some_if (s.error_due && is_broken s.status) (begins error_frame (record s { error_due = false })) t b).1) (refl, λ j. (refl, refl))
 begin_kept TheGoAway s t b = subst (Kept s) (sym (some_if (is_running s.status && away_due s.away.here) (begins go_away_frame (record s { away = begin_away s.away })) t b).1) (refl, λ j. (refl, refl))
 begin_kept TheAnswer s t b = answer_kept s.answers s t (if_some (is_running s.status) (begin_answer s.answers s) t b).1
 begin_kept (ThePing n) s t b = subst (Kept s) (sym (some_if (is_running s.status && has_asked n s.pings.pending) (begins (ping_frame n) (record s { pings = begin_ping n s.pings })) t b).1) (refl, λ j. (refl, refl))
@@ -257,16 +257,16 @@ gone id j ps distinct nothing = by (same_or_not j id)
         let none : look j (without id ps) ≡ None = subst (λ (k : ℕ). look j (without k ps) ≡ None) e (look-without_same j ps distinct) in
         subst (Same (look j ps)) (sym none) (subst (λ (k : ℕ). Same (look k ps) None) (sym e) nothing)
 
-settles_kept : (of : Option ℕ) (s : Session) → Distinct s.table.entries → Kept s (settles of s)
-settles_kept None s distinct = none_kept s
-settles_kept (Some id) s distinct =
+reaps_kept : (of : Option ℕ) (s : Session) → Distinct s.table.entries → Kept s (reaps of s)
+reaps_kept None s distinct = none_kept s
+reaps_kept (Some id) s distinct =
     split (Kept s) (is_spent s.table.window s.outgoing id (look id s.table.entries)) (record s { table = remove_record id s.table }) s
     (λ t. (refl, λ j. gone id j s.table.entries distinct (spent_same s.table.window s.outgoing id (look id s.table.entries) t))) (λ f. none_kept s)
 
 moves_kept : (n : ℕ) (s : Session) → Distinct s.table.entries → Kept s (moves_on n s)
 moves_kept n s distinct =
-    split (Kept s) (nat_lt n (length s.outgoing.bytes)) _ (settles s.outgoing.of (record s { outgoing = nothing_outgoing }))
-    (λ t. (refl, λ j. (refl, refl))) (λ f. settles_kept s.outgoing.of (record s { outgoing = nothing_outgoing }) distinct)
+    split (Kept s) (nat_lt n (length s.outgoing.bytes)) _ (reaps s.outgoing.of (record s { outgoing = nothing_outgoing }))
+    (λ t. (refl, λ j. (refl, refl))) (λ f. reaps_kept s.outgoing.of (record s { outgoing = nothing_outgoing }) distinct)
 
 flows_kept : (may : Choice → Session → Bool) (bytes : List ℕ) (s t : Session) → Flows may bytes s t → IsWithin s → Kept s t
 flows_kept may [] s t e w = subst (Kept s) (sym e) (none_kept s)

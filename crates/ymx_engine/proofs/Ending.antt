@@ -23,10 +23,10 @@ use Rattle.ymx_model.specs.declared.types.Status.TheVariants as status
 use Rattle.ymx_model.specs.session.Records.{End, end_write, end_finish, end_read}
 use Rattle.ymx_model.specs.session.FramesDue.{begin_frame, next_kind, spelled, is_due}
 use Rattle.ymx_model.specs.session.Tables.{with_record, pass_turn, remove_record}
-use Rattle.ymx_model.specs.session.Sessions.{Session, Outgoing, is_closed, is_lost, is_running, is_broken, is_spent, belongs_to, on_stream, settle, nothing_outgoing}
+use Rattle.ymx_model.specs.session.Sessions.{Session, Outgoing, is_closed, is_lost, is_running, is_broken, is_spent, belongs_to, on_stream, reap, nothing_outgoing}
 use Rattle.ymx_model.specs.session.Calls.{outcome, refused, at_record, write_outcome, read_outcome, finish_outcome}
-use Rattle.ymx_model.specs.session.Emissions.{Choice, begin, begin_answer, begin_stream, begin_kind, begins, alarm_frame, go_away_frame, ping_frame, moves_on, settles, Ready, Flows, in_turn}
-use Rattle.ymx_model.specs.session.Emissions.Choice.{TheAlarm, TheGoAway, TheAnswer, ThePing, AStream}
+use Rattle.ymx_model.specs.session.Emissions.{Choice, begin, begin_answer, begin_stream, begin_kind, begins, error_frame, go_away_frame, ping_frame, moves_on, reaps, Ready, Flows, in_turn}
+use Rattle.ymx_model.specs.session.Emissions.Choice.{TheErrorDue, TheGoAway, TheAnswer, ThePing, AStream}
 use Rattle.ymx_model.specs.session.GoAway.{away_due, begin_away}
 use Rattle.ymx_model.specs.session.Pings.{has_asked, begin_ping}
 use Rattle.ymx_model.specs.session.Events.{Event}
@@ -186,8 +186,8 @@ removed id j ps over = by (same_or_not j id)
     by (inr n) = milder_same (look j ps) (look j (without id ps)) (look-without_other id j ps n)
     by (inl e) = (λ lost h. subst (λ (k : ℕ). mute lost (look k ps) ≡ true) (sym e) (over lost).0, λ lost h. subst (λ (k : ℕ). shut lost (look k ps) ≡ true) (sym e) (over lost).1)
 
-settled_ends : (id : ℕ) (s : Session) → NoneEnd s (settle id s)
-settled_ends id s =
+reaped_ends : (id : ℕ) (s : Session) → NoneEnd s (reap id s)
+reaped_ends id s =
     split (NoneEnd s) (is_spent s.table.window s.outgoing id (look id s.table.entries)) (record s { table = remove_record id s.table }) s
     (λ t j. ends_by j s (record s { table = remove_record id s.table }) refl (removed id j s.table.entries (λ lost. spent_over s.table.window s.outgoing id (look id s.table.entries) lost t))) (λ f. none_end s)
 
@@ -222,7 +222,7 @@ answer_ends [] s t b = cc
 answer_ends (r ∷ more) s t b = subst (NoneEnd s) (one_some _ t b) (rests s _ refl refl)
 
 begin_ends : (c : Choice) (s t : Session) → begin c s ≡ Some t → NoneEnd s t
-begin_ends TheAlarm s t b = subst (NoneEnd s) (sym (some_if (s.alarm && is_broken s.status) (begins alarm_frame (record s { alarm = false })) t b).1) (rests s (begins alarm_frame (record s { alarm = false })) refl refl)
+begin_ends TheErrorDue s t b = subst (NoneEnd s) (sym (some_if (s.error_due && is_broken s.status) (begins error_frame (record s { error_due = false })) t b).1) (rests s (begins error_frame (record s { error_due = false })) refl refl)
 begin_ends TheGoAway s t b = subst (NoneEnd s) (sym (some_if (is_running s.status && away_due s.away.here) (begins go_away_frame (record s { away = begin_away s.away })) t b).1) (rests s (begins go_away_frame (record s { away = begin_away s.away })) refl refl)
 begin_ends TheAnswer s t b = answer_ends s.answers s t (if_some (is_running s.status) (begin_answer s.answers s) t b).1
 begin_ends (ThePing n) s t b = subst (NoneEnd s) (sym (some_if (is_running s.status && has_asked n s.pings.pending) (begins (ping_frame n) (record s { pings = begin_ping n s.pings })) t b).1) (rests s (begins (ping_frame n) (record s { pings = begin_ping n s.pings })) refl refl)
@@ -232,14 +232,14 @@ ready_ends : (may : Choice → Session → Bool) (s t : Session) → Ready may s
 ready_ends may s t (inl h) = subst (NoneEnd s) (sym h.1) (none_end s)
 ready_ends may s t (inr (e, (c, ok, b))) = begin_ends c s t b
 
-settles_ends : (of : Option ℕ) (s : Session) → NoneEnd s (settles of s)
-settles_ends None s = none_end s
-settles_ends (Some id) s = settled_ends id s
+reaps_ends : (of : Option ℕ) (s : Session) → NoneEnd s (reaps of s)
+reaps_ends None s = none_end s
+reaps_ends (Some id) s = reaped_ends id s
 
 moves_ends : (n : ℕ) (s : Session) → NoneEnd s (moves_on n s)
 moves_ends n s =
-    split (NoneEnd s) (nat_lt n (length s.outgoing.bytes)) _ (settles s.outgoing.of (record s { outgoing = nothing_outgoing }))
-    (λ t. rests s _ refl refl) (λ f. end_then s (record s { outgoing = nothing_outgoing }) (settles s.outgoing.of (record s { outgoing = nothing_outgoing })) (rests s (record s { outgoing = nothing_outgoing }) refl refl) (settles_ends s.outgoing.of (record s { outgoing = nothing_outgoing })))
+    split (NoneEnd s) (nat_lt n (length s.outgoing.bytes)) _ (reaps s.outgoing.of (record s { outgoing = nothing_outgoing }))
+    (λ t. rests s _ refl refl) (λ f. end_then s (record s { outgoing = nothing_outgoing }) (reaps s.outgoing.of (record s { outgoing = nothing_outgoing })) (rests s (record s { outgoing = nothing_outgoing }) refl refl) (reaps_ends s.outgoing.of (record s { outgoing = nothing_outgoing })))
 
 flows_end : (may : Choice → Session → Bool) (bytes : List ℕ) (s t : Session) → Flows may bytes s t → NoneEnd s t
 flows_end may [] s t e = subst (NoneEnd s) (sym e) (none_end s)

@@ -8,10 +8,10 @@ use Rattle.std.proofs.lemmas.Option.{slice_get-map}
 use Rattle.std.proofs.lemmas.Bool.Decides.{nat_tests}
 use Rattle.indexmap.specs.IndexMap.{insert_entry}
 use Rattle.ymx_machine.proofs.Tests.{is_lt}
-use Rattle.ymx_engine.specs.declared.lines.Entry.{Entry as KeptEntry}
+use Rattle.ymx_engine.specs.declared.connections.Entry.{Entry as KeptEntry}
 use Rattle.ymx_engine.specs.Devices.{Seen}
-use Rattle.ymx_engine.specs.Entries.{line_seen, entry_seen, entries_seen, Rewrites}
-use Rattle.ymx_engine.specs.Turns.{Line, Entry, Lines, line_of, queue_mark, held_mark}
+use Rattle.ymx_engine.specs.Entries.{connection_seen, entry_seen, entries_seen, Rewrites}
+use Rattle.ymx_engine.specs.Turns.{Connection, Entry, Connections, connection_of, queue_mark, held_mark}
 
 -- this entry was written, and each other is what it was
 abbrev pub Written : {E : Type 0} → ℕ → E → List (ℕ × E) → List (ℕ × E) → Type 0
@@ -42,23 +42,23 @@ pub seen_at : {D : Type 0} (seen : D → Seen) (es : List (ℕ × KeptEntry D)) 
 seen_at seen es id = lookup-map_values (entry_seen seen) (nat_eq id) es
 
 -- one that was found
-pub line_seen_at : {D : Type 0} (seen : D → Seen) (es : List (ℕ × KeptEntry D)) (id : ℕ) (x : KeptEntry D) → lookup (nat_eq id) es ≡ Some x → option_map (λ (e : Entry). e.line) (lookup (nat_eq id) (entries_seen seen es)) ≡ Some (line_seen seen x.line)
-line_seen_at seen es id x found = ap (option_map (λ e. e.line)) (seen_at seen es id ∙ ap (option_map (entry_seen seen)) found)
+pub connection_seen_at : {D : Type 0} (seen : D → Seen) (es : List (ℕ × KeptEntry D)) (id : ℕ) (x : KeptEntry D) → lookup (nat_eq id) es ≡ Some x → option_map (λ (e : Entry). e.connection) (lookup (nat_eq id) (entries_seen seen es)) ≡ Some (connection_seen seen x.connection)
+connection_seen_at seen es id x found = ap (option_map (λ e. e.connection)) (seen_at seen es id ∙ ap (option_map (entry_seen seen)) found)
 
-pub line_found : {D : Type 0} (seen : D → Seen) (es : List (ℕ × KeptEntry D)) (id : ℕ) (x : KeptEntry D) (t : Lines) → entries_seen seen es ≡ t.by_id → lookup (nat_eq id) es ≡ Some x → line_of id t ≡ Some (line_seen seen x.line)
-line_found seen es id x t is found = ap (λ (v : List (ℕ × Entry)). option_map (λ e. e.line) (lookup (nat_eq id) v)) (sym is) ∙ line_seen_at seen es id x found
+pub connection_found : {D : Type 0} (seen : D → Seen) (es : List (ℕ × KeptEntry D)) (id : ℕ) (x : KeptEntry D) (t : Connections) → entries_seen seen es ≡ t.by_id → lookup (nat_eq id) es ≡ Some x → connection_of id t ≡ Some (connection_seen seen x.connection)
+connection_found seen es id x t is found = ap (λ (v : List (ℕ × Entry)). option_map (λ e. e.connection) (lookup (nat_eq id) v)) (sym is) ∙ connection_seen_at seen es id x found
 
 -- one that was not
-pub line_none : {D : Type 0} (seen : D → Seen) (es : List (ℕ × KeptEntry D)) (id : ℕ) (t : Lines) → entries_seen seen es ≡ t.by_id → lookup (nat_eq id) es ≡ None → line_of id t ≡ None
-line_none seen es id t is none = ap (λ (v : List (ℕ × Entry)). option_map (λ e. e.line) (lookup (nat_eq id) v)) (sym is) ∙ ap (option_map (λ e. e.line)) (seen_at seen es id ∙ ap (option_map (entry_seen seen)) none)
+pub connection_none : {D : Type 0} (seen : D → Seen) (es : List (ℕ × KeptEntry D)) (id : ℕ) (t : Connections) → entries_seen seen es ≡ t.by_id → lookup (nat_eq id) es ≡ None → connection_of id t ≡ None
+connection_none seen es id t is none = ap (λ (v : List (ℕ × Entry)). option_map (λ e. e.connection) (lookup (nat_eq id) v)) (sym is) ∙ ap (option_map (λ e. e.connection)) (seen_at seen es id ∙ ap (option_map (entry_seen seen)) none)
 
-seen_is_some : {D : Type 0} (seen : D → Seen) (o : Option (KeptEntry D)) → is_some o ≡ is_some (option_map (λ (e : Entry). e.line) (option_map (entry_seen seen) o))
+seen_is_some : {D : Type 0} (seen : D → Seen) (o : Option (KeptEntry D)) → is_some o ≡ is_some (option_map (λ (e : Entry). e.connection) (option_map (entry_seen seen) o))
 seen_is_some seen None = refl
 seen_is_some seen (Some x) = refl
 
 -- whether it is there
-pub line_is_some : {D : Type 0} (seen : D → Seen) (es : List (ℕ × KeptEntry D)) (id : ℕ) (t : Lines) → entries_seen seen es ≡ t.by_id → is_some (lookup (nat_eq id) es) ≡ is_some (line_of id t)
-line_is_some seen es id t is = seen_is_some seen (lookup (nat_eq id) es) ∙ ap (λ (o : Option Entry). is_some (option_map (λ e. e.line) o)) (sym (seen_at seen es id)) ∙ ap (λ (v : List (ℕ × Entry)). is_some (option_map (λ e. e.line) (lookup (nat_eq id) v))) is
+pub connection_is_some : {D : Type 0} (seen : D → Seen) (es : List (ℕ × KeptEntry D)) (id : ℕ) (t : Connections) → entries_seen seen es ≡ t.by_id → is_some (lookup (nat_eq id) es) ≡ is_some (connection_of id t)
+connection_is_some seen es id t is = seen_is_some seen (lookup (nat_eq id) es) ∙ ap (λ (o : Option Entry). is_some (option_map (λ e. e.connection) o)) (sym (seen_at seen es id)) ∙ ap (λ (v : List (ℕ × Entry)). is_some (option_map (λ e. e.connection) (lookup (nat_eq id) v))) is
 
 pub seen_keys : {D : Type 0} (seen : D → Seen) (es : List (ℕ × KeptEntry D)) → keys_of (entries_seen seen es) ≡ keys_of es
 seen_keys seen [] = refl
@@ -68,15 +68,15 @@ pub seen_length : {D : Type 0} (seen : D → Seen) (es : List (ℕ × KeptEntry 
 seen_length seen es = length-map es (λ e. (e.0, entry_seen seen e.1))
 
 -- the stream of one at a place
-pub key_at : {D : Type 0} (seen : D → Seen) (es : List (ℕ × KeptEntry D)) (place : ℕ) (t : Lines) → entries_seen seen es ≡ t.by_id → option_map (λ e. e.0) (slice_get es place) ≡ slice_get (keys_of t.by_id) place
+pub key_at : {D : Type 0} (seen : D → Seen) (es : List (ℕ × KeptEntry D)) (place : ℕ) (t : Connections) → entries_seen seen es ≡ t.by_id → option_map (λ e. e.0) (slice_get es place) ≡ slice_get (keys_of t.by_id) place
 key_at seen es place t is = sym (slice_get-map (λ e. e.0) es place) ∙ ap (λ (v : List ℕ). slice_get v place) (sym (seen_keys seen es)) ∙ ap (λ (v : List (ℕ × Entry)). slice_get (keys_of v) place) is
 
 -- the first is there
-pub first_there : (es : List (ℕ × Entry)) (o : Option ℕ) → o ≡ slice_get (keys_of es) 0 → IfSome o (λ id. IsSome (option_map (λ e. e.line) (lookup (nat_eq id) es)))
-first_there [] o h = subst (λ (v : Option ℕ). IfSome v (λ id. IsSome (option_map (λ (e : Entry). e.line) None))) (sym h) tt
+pub first_there : (es : List (ℕ × Entry)) (o : Option ℕ) → o ≡ slice_get (keys_of es) 0 → IfSome o (λ id. IsSome (option_map (λ e. e.connection) (lookup (nat_eq id) es)))
+first_there [] o h = subst (λ (v : Option ℕ). IfSome v (λ id. IsSome (option_map (λ (e : Entry). e.connection) None))) (sym h) tt
 first_there (e ∷ es) o h =
-    subst (λ (v : Option ℕ). IfSome v (λ id. IsSome (option_map (λ (x : Entry). x.line) (lookup (nat_eq id) (e ∷ es))))) (sym h)
-    (ap (λ (b : Bool). is_some (option_map (λ (x : Entry). x.line) (cond b (Some e.1) (lookup (nat_eq e.0) es)))) (same_id e.0))
+    subst (λ (v : Option ℕ). IfSome v (λ id. IsSome (option_map (λ (x : Entry). x.connection) (lookup (nat_eq id) (e ∷ es))))) (sym h)
+    (ap (λ (b : Bool). is_some (option_map (λ (x : Entry). x.connection) (cond b (Some e.1) (lookup (nat_eq e.0) es)))) (same_id e.0))
 
 -- where there is no first, there is none
 pub first_none : (es : List (ℕ × Entry)) (o : Option ℕ) → o ≡ slice_get (keys_of es) 0 → IfNone o (es ≡ [])
@@ -114,26 +114,26 @@ put_in (Err x) spare id w old new place succeeds put = let no : ⊥ = let k : 0 
 -- ---- entries and connections
 
 -- the connection of this stream is this now, and each other what it was: `Puts`, of entries alone
-abbrev pub PutsIn : ℕ → Option Line → List (ℕ × Entry) → List (ℕ × Entry) → Type 0
-PutsIn id what old new = (other : ℕ) → option_map (λ e. e.line) (lookup (nat_eq other) new) ≡ cond (nat_eq id other) what (option_map (λ e. e.line) (lookup (nat_eq other) old))
+abbrev pub PutsIn : ℕ → Option Connection → List (ℕ × Entry) → List (ℕ × Entry) → Type 0
+PutsIn id what old new = (other : ℕ) → option_map (λ e. e.connection) (lookup (nat_eq other) new) ≡ cond (nat_eq id other) what (option_map (λ e. e.connection) (lookup (nat_eq other) old))
 
-line_put : (b : Bool) (w : Entry) (o p : Option Entry) → p ≡ cond b (Some w) o → option_map (λ e. e.line) p ≡ cond b (Some w.line) (option_map (λ e. e.line) o)
-line_put true w o p h = ap (option_map (λ e. e.line)) h
-line_put false w o p h = ap (option_map (λ e. e.line)) h
+connection_put : (b : Bool) (w : Entry) (o p : Option Entry) → p ≡ cond b (Some w) o → option_map (λ e. e.connection) p ≡ cond b (Some w.connection) (option_map (λ e. e.connection) o)
+connection_put true w o p h = ap (option_map (λ e. e.connection)) h
+connection_put false w o p h = ap (option_map (λ e. e.connection)) h
 
 -- an entry was written, so that its connection is this
-pub puts_written : (id : ℕ) (w : Entry) (old new : List (ℕ × Entry)) → Written id w old new → PutsIn id (Some w.line) old new
-puts_written id w old new put other = line_put (nat_eq id other) w (lookup (nat_eq other) old) (lookup (nat_eq other) new) (put other)
+pub puts_written : (id : ℕ) (w : Entry) (old new : List (ℕ × Entry)) → Written id w old new → PutsIn id (Some w.connection) old new
+puts_written id w old new put other = connection_put (nat_eq id other) w (lookup (nat_eq other) old) (lookup (nat_eq other) new) (put other)
 
-pub put_there : (id : ℕ) (line : Line) (old new : List (ℕ × Entry)) → PutsIn id (Some line) old new → IsSome (option_map (λ (e : Entry). e.line) (lookup (nat_eq id) new))
-put_there id line old new put = is_some_at (put id ∙ ap (λ (b : Bool). cond b (Some line) (option_map (λ e. e.line) (lookup (nat_eq id) old))) (same_id id))
+pub put_there : (id : ℕ) (connection : Connection) (old new : List (ℕ × Entry)) → PutsIn id (Some connection) old new → IsSome (option_map (λ (e : Entry). e.connection) (lookup (nat_eq id) new))
+put_there id connection old new put = is_some_at (put id ∙ ap (λ (b : Bool). cond b (Some connection) (option_map (λ e. e.connection) (lookup (nat_eq id) old))) (same_id id))
 
-line_gone : (b : Bool) (o p : Option Entry) → p ≡ cond b None o → option_map (λ e. e.line) p ≡ cond b None (option_map (λ e. e.line) o)
-line_gone true o p h = ap (option_map (λ e. e.line)) h
-line_gone false o p h = ap (option_map (λ e. e.line)) h
+connection_gone : (b : Bool) (o p : Option Entry) → p ≡ cond b None o → option_map (λ e. e.connection) p ≡ cond b None (option_map (λ e. e.connection) o)
+connection_gone true o p h = ap (option_map (λ e. e.connection)) h
+connection_gone false o p h = ap (option_map (λ e. e.connection)) h
 
 pub puts_gone : (id : ℕ) (old new : List (ℕ × Entry)) → Gone id old new → PutsIn id None old new
-puts_gone id old new gone other = line_gone (nat_eq id other) (lookup (nat_eq other) old) (lookup (nat_eq other) new) (gone other)
+puts_gone id old new gone other = connection_gone (nat_eq id other) (lookup (nat_eq other) old) (lookup (nat_eq other) new) (gone other)
 
 -- ---- what is changed in place
 
@@ -199,16 +199,16 @@ pub mark_found : {D : Type 0} (seen : D → Seen) (es : List (ℕ × KeptEntry D
 mark_found seen es id x found = ap (option_map (λ (e : Entry). e.is_queued)) (seen_at seen es id ∙ ap (option_map (entry_seen seen)) found)
 
 -- the marks of one that was found
-pub queue_mark_found : {D : Type 0} (seen : D → Seen) (es : List (ℕ × KeptEntry D)) (id : ℕ) (x : KeptEntry D) (t : Lines) → entries_seen seen es ≡ t.by_id → lookup (nat_eq id) es ≡ Some x → queue_mark id t ≡ Some x.is_queued
+pub queue_mark_found : {D : Type 0} (seen : D → Seen) (es : List (ℕ × KeptEntry D)) (id : ℕ) (x : KeptEntry D) (t : Connections) → entries_seen seen es ≡ t.by_id → lookup (nat_eq id) es ≡ Some x → queue_mark id t ≡ Some x.is_queued
 queue_mark_found seen es id x t is found = ap (λ (v : List (ℕ × Entry)). option_map (λ e. e.is_queued) (lookup (nat_eq id) v)) (sym is) ∙ ap (option_map (λ e. e.is_queued)) (seen_at seen es id ∙ ap (option_map (entry_seen seen)) found)
 
-pub held_mark_found : {D : Type 0} (seen : D → Seen) (es : List (ℕ × KeptEntry D)) (id : ℕ) (x : KeptEntry D) (t : Lines) → entries_seen seen es ≡ t.by_id → lookup (nat_eq id) es ≡ Some x → held_mark id t ≡ Some x.is_held
+pub held_mark_found : {D : Type 0} (seen : D → Seen) (es : List (ℕ × KeptEntry D)) (id : ℕ) (x : KeptEntry D) (t : Connections) → entries_seen seen es ≡ t.by_id → lookup (nat_eq id) es ≡ Some x → held_mark id t ≡ Some x.is_held
 held_mark_found seen es id x t is found = ap (λ (v : List (ℕ × Entry)). option_map (λ e. e.is_held) (lookup (nat_eq id) v)) (sym is) ∙ ap (option_map (λ e. e.is_held)) (seen_at seen es id ∙ ap (option_map (entry_seen seen)) found)
 
 -- one that was not found is not there
-pub absent : {A D : Type 0} (seen : D → Seen) (es : List (ℕ × KeptEntry D)) (id : ℕ) (t : Lines) → entries_seen seen es ≡ t.by_id → lookup (nat_eq id) es ≡ None → IsSome (line_of id t) → A
-absent seen es id t is none some = let no : false ≡ true = subst (λ (o : Option Line). IsSome o) (line_none seen es id t is none) some in absurd cc
+pub absent : {A D : Type 0} (seen : D → Seen) (es : List (ℕ × KeptEntry D)) (id : ℕ) (t : Connections) → entries_seen seen es ≡ t.by_id → lookup (nat_eq id) es ≡ None → IsSome (connection_of id t) → A
+absent seen es id t is none some = let no : false ≡ true = subst (λ (o : Option Connection). IsSome o) (connection_none seen es id t is none) some in absurd cc
 
 -- one that was found is there
-pub present : {D : Type 0} (seen : D → Seen) (es : List (ℕ × KeptEntry D)) (id : ℕ) (x : KeptEntry D) (t : Lines) → entries_seen seen es ≡ t.by_id → lookup (nat_eq id) es ≡ Some x → IsSome (line_of id t)
-present seen es id x t is found = is_some_at (line_found seen es id x t is found)
+pub present : {D : Type 0} (seen : D → Seen) (es : List (ℕ × KeptEntry D)) (id : ℕ) (x : KeptEntry D) (t : Connections) → entries_seen seen es ≡ t.by_id → lookup (nat_eq id) es ≡ Some x → IsSome (connection_of id t)
+present seen es id x t is found = is_some_at (connection_found seen es id x t is found)

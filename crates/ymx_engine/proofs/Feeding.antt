@@ -32,7 +32,7 @@ use Rattle.ymx_engine.proofs.Exchanging.{take_both}
 free_at : (status : Status) (incoming : Incoming) (entries : List (ℕ × End)) (answers : ℕ) → IsSome (if is_running status then if_read_up entries (kept_payload incoming) else None) →
     (is_broken status || (not (is_deaf status) && is_between incoming && nat_le most_answers answers)) ≡ false
 free_at Running (Head bytes) entries answers h = let no : ⊥ = cc in absurd no
-free_at Running (Payload id missing fin stray) entries answers h = refl
+free_at Running (Payload id missing fin discarded) entries answers h = refl
 free_at Lost incoming entries answers h = let no : ⊥ = cc in absurd no
 free_at (Broken fault) incoming entries answers h = let no : ⊥ = cc in absurd no
 free_at Closed incoming entries answers h = let no : ⊥ = cc in absurd no
@@ -131,7 +131,7 @@ stuck_unless : (closed : Bool) (id : ℕ) (s : Session) → is_stuck (if closed 
 stuck_unless true id s = refl
 stuck_unless false id s = stuck_at id s (look id s.table.entries)
 
--- behind it the session takes bytes as before
+-- after it the session takes bytes as before
 pub reset_goes_on : (id : ℕ) (told : Reply) (s t : Session) → Gives in_turn s (event.Call (call.Reset id)) told t → is_stuck s ≡ false → is_stuck t ≡ false
 reset_goes_on id told s t (Outcome answer state) free = ap is_stuck state ∙ stuck_unless (is_closed s.status) id s ∙ free
 reset_goes_on id told s t (NoMemory needs answer state) free = ap is_stuck state ∙ free

@@ -3,9 +3,9 @@ use Rattle.std.proofs.Common.{◌≡◌, ℕ, ◌≤◌, ◌<◌, ◌+◌, min, 
 use Rattle.std.proofs.lemmas.Bool.Decides.{nat_tests}
 use Rattle.ymx_engine.specs.declared.device.Pulled.{Pulled}
 use Rattle.ymx_engine.specs.declared.device.Pulled.TheVariants as pulled
-use Rattle.ymx_engine.specs.declared.ways.Ways.{Ways}
+use Rattle.ymx_engine.specs.declared.directions.Directions.{Directions}
 use Rattle.ymx_engine.specs.Devices.{Seen, Marks, IsPulled, may_have_more, pulled_count}
-use Rattle.ymx_engine.specs.Ways.{is_open, may_pull}
+use Rattle.ymx_engine.specs.Directions.{is_open, may_pull}
 use Rattle.ymx_engine.proofs.Quiet.{both}
 
 more_so : (n room : ℕ) (closing : Bool) → closing ≡ false → (nat_le room n || closing) ≡ true → room ≤ n
@@ -25,7 +25,7 @@ filled_room r buffer a b p on near =
     by pulled.Ended more far = cc
     by pulled.Failed more far = cc
 
-pub filled : (w : Ways) (n most : ℕ) (buffer : List ℕ) (a b : Seen) → IsPulled (pulled.Gave n) buffer a b → may_pull w b.marks ≡ true → b.marks.is_closing ≡ false → most ≤ length buffer → most ≤ n
+pub filled : (w : Directions) (n most : ℕ) (buffer : List ℕ) (a b : Seen) → IsPulled (pulled.Gave n) buffer a b → may_pull w b.marks ≡ true → b.marks.is_closing ≡ false → most ≤ length buffer → most ≤ n
 filled w n most buffer a b p may near fits =
     let all = filled_room (pulled.Gave n) buffer a b p (both b.marks.may_pull (is_open w.to_peer) may).0 near in
     omega (arith, all, fits)

@@ -23,7 +23,7 @@ use Rattle.ymx_engine.specs.Served.{Serving}
 use Rattle.ymx_engine.specs.Serves.{PutsDue, is_emission}
 use Rattle.ymx_engine.specs.Steps.{WritesOnce}
 use Rattle.ymx_engine.specs.Tunnels.{Tunnel}
-use Rattle.ymx_engine.specs.Turns.{Line, KeepsLines}
+use Rattle.ymx_engine.specs.Turns.{Connection, KeepsConnections}
 use Rattle.ymx_engine.specs.Wires.{is_of_flush, has_feed_end, FlushesWire, HandlesOut, GivesOut}
 use Rattle.ymx_engine.proofs.Attending.{all_then, writes_then}
 use Rattle.ymx_engine.proofs.Carrying.{flushes_handled, handles_out_none, loses_out, pushed_heard_so}
@@ -32,10 +32,10 @@ use Rattle.ymx_engine.proofs.Gaining.{emissions_gain}
 use Rattle.ymx_engine.proofs.Queueing.{keeps_same, keeps_then}
 use Rattle.ymx_engine.proofs.Running.{SameSeen, moves_same_so, moves_then_so, moves_flushed_so}
 use Rattle.ymx_engine.proofs.Steady.{is_steady, steady_all}
-use Rattle.ymx_engine.proofs.Tending.{Calms, serving_kept, serving_lines}
+use Rattle.ymx_engine.proofs.Tending.{Calms, serving_kept, serving_connections}
 
-seen_lines : (a b : Tunnel) → KeepsLines a.lines b.lines → SameSeen a b
-seen_lines a b x id = ap (option_map (λ (l : Line). l.seen)) (x.lines id)
+seen_connections : (a b : Tunnel) → KeepsConnections a.connections b.connections → SameSeen a b
+seen_connections a b x id = ap (option_map (λ (l : Connection). l.seen)) (x.connections id)
 
 -- ---- what is due
 
@@ -133,18 +133,18 @@ pushed_on : (r : Pushed) (bytes : List ℕ) (d e : Seen) → IsPushed r bytes d 
 pushed_on r bytes d e x h = (two_of d.marks.may_push (may_take_more r (length bytes)) (sym (may_of r bytes d e x) ∙ h)).0
 
 -- The wire was called with what waited, what it said was heard, and where nothing waits then nobody is held back any more.
-pub pushes_once : (r : Pushed) (on : Bool) (a b c d : Tunnel) → GivesOut r a.engine b.engine a.wire b.wire → b.lines ≡ a.lines → HandlesOut (is_push_failure r) b.engine c.engine → c.engine.outgoing ≡ b.engine.outgoing → c.wire ≡ b.wire →
-    KeepsLines b.lines c.lines → (Serving b → Serving c) → d.engine ≡ c.engine → d.wire ≡ c.wire → KeepsLines c.lines d.lines → (d.engine.outgoing ≡ [] → d.lines.held ≡ []) → on ≡ d.wire.marks.may_push →
+pub pushes_once : (r : Pushed) (on : Bool) (a b c d : Tunnel) → GivesOut r a.engine b.engine a.wire b.wire → b.connections ≡ a.connections → HandlesOut (is_push_failure r) b.engine c.engine → c.engine.outgoing ≡ b.engine.outgoing → c.wire ≡ b.wire →
+    KeepsConnections b.connections c.connections → (Serving b → Serving c) → d.engine ≡ c.engine → d.wire ≡ c.wire → KeepsConnections c.connections d.connections → (d.engine.outgoing ≡ [] → d.connections.held ≡ []) → on ≡ d.wire.marks.may_push →
     0 < length a.engine.outgoing → a.wire.marks.may_push ≡ true → d.no_memory ≡ a.no_memory → WritesOnce on a d
 pushes_once r on a b c d gave still heard waits wire keeps serves engine beside behind free is some may memory =
     let same_wire : d.wire ≡ b.wire = beside ∙ wire in
     let g : GivesOut r a.engine b.engine a.wire d.wire = subst (λ (w : Seen). GivesOut r a.engine b.engine a.wire w) (sym same_wire) gave in
     let h : HandlesOut (is_push_failure r) b.engine d.engine = subst (λ (v : Engine). HandlesOut (is_push_failure r) b.engine v) (sym engine) heard in
     let left : d.engine.outgoing ≡ drop (pushed_count r) a.engine.outgoing = ap (λ (v : Engine). v.outgoing) engine ∙ waits ∙ gave.outgoing in
-    let first : KeepsLines a.lines b.lines = subst (KeepsLines a.lines) (sym still) (keeps_same a.lines) in
-    let all : KeepsLines a.lines d.lines = keeps_then a.lines b.lines d.lines first (keeps_then b.lines c.lines d.lines keeps behind) in
+    let first : KeepsConnections a.connections b.connections = subst (KeepsConnections a.connections) (sym still) (keeps_same a.connections) in
+    let all : KeepsConnections a.connections d.connections = keeps_then a.connections b.connections d.connections first (keeps_then b.connections c.connections d.connections keeps behind) in
     let flushed = pushed_heard_so r a.engine b.engine d.engine a.wire d.wire g h in
-    let moved = moves_flushed_so a d 1 flushed.0 (seen_lines a d all) in
+    let moved = moves_flushed_so a d 1 flushed.0 (seen_connections a d all) in
     let sent : moved.0.sent ≡ take (pushed_count r) a.engine.outgoing = moved.1 ∙ flushed.1 in
     record {
       writes = record {
@@ -155,8 +155,8 @@ pushes_once r on a b c d gave still heard waits wire keeps serves engine beside 
         releases = λ m none. free none;
       };
       going = λ goes. let now : d.wire.marks.may_push ≡ true = sym is ∙ goes in (may, now, goes_by moved.0.sent sent now (pushed_some r a.engine.outgoing a.wire d.wire g.pushed some));
-      lines = all;
-      serves = λ s. serving_lines c d (ap (λ (v : Engine). v.session) engine) behind (serves (serving_lines a b gave.session first s));
+      connections = all;
+      serves = λ s. serving_connections c d (ap (λ (v : Engine). v.session) engine) behind (serves (serving_connections a b gave.session first s));
       memory = memory;
       pull = ap (λ (m : Marks). m.may_pull) g.pushed.marks;
       push = pushed_on r a.engine.outgoing a.wire d.wire g.pushed;
@@ -197,7 +197,7 @@ writes_off : (a : Tunnel) → a.wire.marks.may_push ≡ false → WritesOnce fal
 writes_off a off = record {
   writes = record { moves = (moves_same_so a).0; own = ap (list_all (λ (e : Event × Reply). is_of_flush e.0)) (moves_same_so a).1; offers = λ on due. absurd (no on); all = λ on. absurd (no on); releases = λ on none. absurd (no on) };
   going = λ (h : false ≡ true). absurd cc;
-  lines = keeps_same a.lines;
+  connections = keeps_same a.connections;
   serves = λ s. s;
   pull = refl;
   push = λ h. h;
@@ -216,15 +216,15 @@ may_not a b e off = writes_off b (sym (ap (λ (t : Tunnel). t.wire.marks.may_pus
 pub not_empty : (xs ys : List ℕ) (b : Bool) → b ≡ (length xs == 0) → xs ≡ ys → b ≡ false → 0 < length ys
 not_empty xs ys b e s h = let n = ap (λ (v : List ℕ). length v) s in grind (arith, nat_tests)
 
--- what was due waits for the wire, and the connections stay, but for those that are let go of
-puts_moves : (a b : Tunnel) → PutsDue a.engine.session b.engine.session a.engine.outgoing b.engine.outgoing → b.engine.incoming ≡ a.engine.incoming → b.wire ≡ a.wire → KeepsLines a.lines b.lines →
+-- what was due waits for the wire, and the connections stay, but for those that are dropped
+puts_moves : (a b : Tunnel) → PutsDue a.engine.session b.engine.session a.engine.outgoing b.engine.outgoing → b.engine.incoming ≡ a.engine.incoming → b.wire ≡ a.wire → KeepsConnections a.connections b.connections →
     (m : Moves a b) × (list_all (λ e. is_of_flush e.0) m.events ≡ true)
 puts_moves a b x incoming wire keeps =
     let flushes : FlushesWire a.engine b.engine a.wire b.wire 0 = subst (λ (w : Seen). FlushesWire a.engine b.engine a.wire w 0) (sym wire) (flushes_handled a.engine b.engine a.wire 0 (puts_handled a.engine b.engine x incoming)) in
-    let moved = moves_flushed_so a b 0 flushes (seen_lines a b keeps) in
+    let moved = moves_flushed_so a b 0 flushes (seen_connections a b keeps) in
     (moved.0, ap (list_all (λ (e : Event × Reply). is_of_flush e.0)) moved.2 ∙ flushes.own)
 
-puts_serves : (a b : Tunnel) → PutsDue a.engine.session b.engine.session a.engine.outgoing b.engine.outgoing → KeepsLines a.lines b.lines → Serving a → Serving b
+puts_serves : (a b : Tunnel) → PutsDue a.engine.session b.engine.session a.engine.outgoing b.engine.outgoing → KeepsConnections a.connections b.connections → Serving a → Serving b
 puts_serves a b x keeps = serving_kept a b (puts_calm a.engine.session b.engine.session a.engine.outgoing b.engine.outgoing x) keeps
 
 nothing_due : (out out_new : List ℕ) (ready : Bool) → (ready ≡ true → 0 < length out_new) → (0 < length out → 0 < length out_new) → out_new ≡ [] → (has_bytes out || ready) ≡ true → ⊥
@@ -234,7 +234,7 @@ nothing_due (b ∷ out) out_new ready due more none h = let x = more (omega arit
 
 -- nothing waits for the wire and nothing is due: nobody is held back any more
 pub writes_none : (a b : Tunnel) → PutsDue a.engine.session b.engine.session a.engine.outgoing b.engine.outgoing → (is_ready a.engine.session ≡ true → 0 < length b.engine.outgoing) → (0 < length a.engine.outgoing → 0 < length b.engine.outgoing) →
-    b.engine.outgoing ≡ [] → b.engine.incoming ≡ a.engine.incoming → b.wire ≡ a.wire → KeepsLines a.lines b.lines → b.lines.held ≡ [] → b.no_memory ≡ a.no_memory → WritesOnce false a b
+    b.engine.outgoing ≡ [] → b.engine.incoming ≡ a.engine.incoming → b.wire ≡ a.wire → KeepsConnections a.connections b.connections → b.connections.held ≡ [] → b.no_memory ≡ a.no_memory → WritesOnce false a b
 writes_none a b x due more none incoming wire keeps free memory = record {
   writes = record {
     moves = (puts_moves a b x incoming wire keeps).0;
@@ -244,7 +244,7 @@ writes_none a b x due more none incoming wire keeps free memory = record {
     releases = λ on out. free;
   };
   going = λ (h : false ≡ true). absurd cc;
-  lines = keeps;
+  connections = keeps;
   serves = puts_serves a b x keeps;
   pull = ap (λ (w : Seen). w.marks.may_pull) wire;
   push = λ h. sym (ap (λ (w : Seen). w.marks.may_push) wire) ∙ h;
@@ -262,9 +262,9 @@ some_waits [] some ready = absurd (omega (arith, some))
 some_waits (x ∷ xs) some ready = refl
 
 -- what was due waited, and it was written to
-pub writes_put : (on : Bool) (a b c : Tunnel) → PutsDue a.engine.session b.engine.session a.engine.outgoing b.engine.outgoing → b.engine.incoming ≡ a.engine.incoming → b.wire ≡ a.wire → b.lines ≡ a.lines → 0 < length b.engine.outgoing → b.no_memory ≡ a.no_memory → WritesOnce on b c → WritesOnce on a c
+pub writes_put : (on : Bool) (a b c : Tunnel) → PutsDue a.engine.session b.engine.session a.engine.outgoing b.engine.outgoing → b.engine.incoming ≡ a.engine.incoming → b.wire ≡ a.wire → b.connections ≡ a.connections → 0 < length b.engine.outgoing → b.no_memory ≡ a.no_memory → WritesOnce on b c → WritesOnce on a c
 writes_put on a b c x incoming wire still some memory y =
-    let keeps : KeepsLines a.lines b.lines = subst (KeepsLines a.lines) (sym still) (keeps_same a.lines) in
+    let keeps : KeepsConnections a.connections b.connections = subst (KeepsConnections a.connections) (sym still) (keeps_same a.connections) in
     let put = puts_moves a b x incoming wire keeps in
     let both = moves_then_so a b c put.0 y.writes.moves in
     let may : a.wire.marks.may_push ≡ true → b.wire.marks.may_push ≡ true = λ h. ap (λ (w : Seen). w.marks.may_push) wire ∙ h in
@@ -278,7 +278,7 @@ writes_put on a b c x incoming wire still some memory y =
         releases = λ on none. y.writes.releases (may on) none;
       };
       going = λ h. let goes = y.going h in (back goes.0, goes.1, ap has_bytes both.2 ∙ some_behind put.0.sent y.writes.moves.sent goes.2);
-      lines = keeps_then a.lines b.lines c.lines keeps y.lines;
+      connections = keeps_then a.connections b.connections c.connections keeps y.connections;
       serves = λ s. y.serves (puts_serves a b x keeps s);
       pull = y.pull ∙ ap (λ (w : Seen). w.marks.may_pull) wire;
       push = λ h. back (y.push h);
@@ -312,12 +312,12 @@ went_on turn a b (inl e) some = let x = e.0 in absurd (omega (arith, x, some))
 went_on turn a b (inr x) some = x
 
 pub stays_written : (on : Bool) (a b : Tunnel) → WritesOnce on a b → Stays a b
-stays_written on a b x = record { joined = λ id. ap is_some (seen_lines a b x.lines id); ended = x.ended; shut = x.shut }
+stays_written on a b x = record { joined = λ id. ap is_some (seen_connections a b x.connections id); ended = x.ended; shut = x.shut }
 
 pub rests_written : (on : Bool) (a b : Tunnel) → WritesOnce on a b → Rests a b
 rests_written on a b x = record {
   wire_pull = λ h. sym x.pull ∙ h;
   wire_push = x.push;
-  pull = λ id l there may. inr (l, sym (x.lines.lines id) ∙ there, may);
-  push = λ id l there may. inr (l, sym (x.lines.lines id) ∙ there, may);
+  pull = λ id l there may. inr (l, sym (x.connections.connections id) ∙ there, may);
+  push = λ id l there may. inr (l, sym (x.connections.connections id) ∙ there, may);
 }

@@ -1,5 +1,5 @@
 pub mod Exchanging
-pub mod WaysAfter
+pub mod DirectionsAfter
 pub mod Advancing
 pub mod Carrying
 pub mod Listing

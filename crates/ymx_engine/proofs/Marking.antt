@@ -4,11 +4,11 @@ use Rattle.std.specs.Prelude.{nat_eq, Contains, IfSome, IsSome, option_map}
 use Rattle.std.specs.Map.{lookup}
 use Rattle.std.proofs.lemmas.List.Elements.{Contains-append_left, Contains-append_cases, Contains-push}
 use Rattle.std.proofs.lemmas.Bool.Decides.{nat_tests}
-use Rattle.ymx_engine.specs.declared.lines.Entry.{Entry as KeptEntry}
+use Rattle.ymx_engine.specs.declared.connections.Entry.{Entry as KeptEntry}
 use Rattle.ymx_engine.specs.Devices.{Seen}
-use Rattle.ymx_engine.specs.Entries.{line_seen, entry_seen, entries_seen, Rewrites}
-use Rattle.ymx_engine.specs.Turns.{Line, Entry, AreListed, AreHeld, StaysOrAdds, StandsBehind, times, once_if, without}
-use Rattle.ymx_engine.proofs.Entries.{Written, Gone, PutsIn, eq_ids, same_id, some_is, seen_at, line_seen_at, written_seen, puts_written, rewrites_others, rewrites_self}
+use Rattle.ymx_engine.specs.Entries.{connection_seen, entry_seen, entries_seen, Rewrites}
+use Rattle.ymx_engine.specs.Turns.{Connection, Entry, AreListed, AreHeld, StaysOrAdds, StandsBehind, times, once_if, without}
+use Rattle.ymx_engine.proofs.Entries.{Written, Gone, PutsIn, eq_ids, same_id, some_is, seen_at, connection_seen_at, written_seen, puts_written, rewrites_others, rewrites_self}
 use Rattle.ymx_engine.proofs.Once.{turn_round, times-self, times-other, times-first, times-behind-first, times-stands, times-gone, times-kept, at_most_once}
 
 abbrev pub Stands : List ℕ → List ℕ → ℕ → Type 0
@@ -20,7 +20,7 @@ pub stays_or_adds : (id other : ℕ) (old new : List ℕ) → StaysOrAdds id old
 stays_or_adds id other old new (inl e) h = subst (λ (v : List ℕ). Contains v other) (sym e) h
 stays_or_adds id other old new (inr e) h = subst (λ (v : List ℕ). Contains v other) (sym e) (Contains-append_left old (id ∷ []) other h)
 
--- one that came to stand behind the others stands in a queue
+-- one that came to stand after the others stands in a queue
 pub stand_behind : (id : ℕ) (f g f2 g2 : List ℕ) → StandsBehind id f g f2 g2 → Stands f2 g2 id
 stand_behind id f g f2 g2 (inl x) = inl (subst (λ (v : List ℕ). Contains v id) (sym x.0) (Contains-push f id))
 stand_behind id f g f2 g2 (inr x) = inr (subst (λ (v : List ℕ). Contains v id) (sym x.1) (Contains-push g id))
@@ -92,7 +92,7 @@ marked_once : (o : Option Entry) → option_map (λ (e : Entry). e.is_queued) o 
 marked_once None off = let no : ⊥ = cc in absurd no
 marked_once (Some e) off = refl
 
--- this one was not marked as queued, is so now, and stands behind the others
+-- this one was not marked as queued, is so now, and stands after the others
 pub listed_marked : (id : ℕ) (old new : List (ℕ × Entry)) (f g f2 g2 : List ℕ) → AreListed old f g → Rewrites id (λ e. record e { is_queued = true }) old new → option_map (λ (e : Entry). e.is_queued) (lookup (nat_eq id) old) ≡ Some false → StandsBehind id f g f2 g2 → AreListed new f2 g2
 listed_marked id old new f g f2 g2 all rewrites off behind = λ other. by other (nat_eq id other) refl
   where
@@ -120,12 +120,12 @@ listed_found seen es id x f g all found marked =
     let one : times id f + times id g ≡ 1 = all id ∙ ap own_times there ∙ ap (λ (b : Bool). once_if (Some b)) marked in
     stands_once id f g (times id f) refl (omega (arith, one))
 
-unmarked_none : (o : Option Entry) → option_map (λ (e : Entry). e.line) o ≡ None → own_times o ≡ 0
+unmarked_none : (o : Option Entry) → option_map (λ (e : Entry). e.connection) o ≡ None → own_times o ≡ 0
 unmarked_none None none = refl
 unmarked_none (Some e) none = let no : ⊥ = cc in absurd no
 
 -- one was added that is not marked so
-pub listed_put : (id : ℕ) (w : Entry) (old new : List (ℕ × Entry)) (f g : List ℕ) → AreListed old f g → Written id w old new → w.is_queued ≡ false → option_map (λ (e : Entry). e.line) (lookup (nat_eq id) old) ≡ None → AreListed new f g
+pub listed_put : (id : ℕ) (w : Entry) (old new : List (ℕ × Entry)) (f g : List ℕ) → AreListed old f g → Written id w old new → w.is_queued ≡ false → option_map (λ (e : Entry). e.connection) (lookup (nat_eq id) old) ≡ None → AreListed new f g
 listed_put id w old new f g all put off free = λ other. all other ∙ by other (nat_eq id other) refl
   where
     by : (other : ℕ) (t : Bool) → nat_eq id other ≡ t → own_times (lookup (nat_eq other) old) ≡ own_times (lookup (nat_eq other) new)
@@ -186,12 +186,12 @@ listed_turned id old new f g f2 g2 all rewrites taken = λ other. by other (nat_
     by other true t = subst (λ (n : ℕ). times n f2 + times n g2 ≡ own_times (lookup (nat_eq n) new)) (sym (eq_ids id other t)) own
     by other false t = sym (taken_same id other f g f2 g2 t taken) ∙ all other ∙ sym (ap own_times (rewrites_others id (λ e. record e { is_queued = false }) old new rewrites other t))
 
-there_once : (o : Option Entry) → 0 < own_times o → IsSome (option_map (λ (e : Entry). e.line) o)
+there_once : (o : Option Entry) → 0 < own_times o → IsSome (option_map (λ (e : Entry). e.connection) o)
 there_once None some = absurd (omega (arith, some))
 there_once (Some e) some = refl
 
 -- one that stood at the head of a queue is there
-pub listed_there : (id : ℕ) (es : List (ℕ × Entry)) (f g f2 g2 : List ℕ) → AreListed es f g → Taken id f g f2 g2 → IsSome (option_map (λ (e : Entry). e.line) (lookup (nat_eq id) es))
+pub listed_there : (id : ℕ) (es : List (ℕ × Entry)) (f g f2 g2 : List ℕ) → AreListed es f g → Taken id f g f2 g2 → IsSome (option_map (λ (e : Entry). e.connection) (lookup (nat_eq id) es))
 listed_there id es f g f2 g2 all taken = let less = taken_less id f g f2 g2 taken in let h = all id in there_once (lookup (nat_eq id) es) (omega (arith, less, h))
 
 -- one that is there and is not marked so has a mark that says it
@@ -277,20 +277,20 @@ held_let_go id old new xs ys all rewrites first = λ other e there marked. by ot
 
 -- The connection of this stream was that and is this, and each other is what it was; and each that is marked stands where its
 -- marks say.
-pub record IsInPlace (id : ℕ) (was now : Line) (old new : List (ℕ × Entry)) (fresh busy held : List ℕ) : Type 0 where
-  pub there : option_map (λ (e : Entry). e.line) (lookup (nat_eq id) old) ≡ Some was
+pub record IsInPlace (id : ℕ) (was now : Connection) (old new : List (ℕ × Entry)) (fresh busy held : List ℕ) : Type 0 where
+  pub there : option_map (λ (e : Entry). e.connection) (lookup (nat_eq id) old) ≡ Some was
   pub puts : PutsIn id (Some now) old new
   pub are_listed : AreListed new fresh busy
   pub are_held : AreHeld new held
 
 -- where one entry was written whose marks stay, its connection alone changed
 pub in_place : {D : Type 0} (seen : D → Seen) (id : ℕ) (x w : KeptEntry D) (ms ns : List (ℕ × KeptEntry D)) (fresh busy held : List ℕ) → lookup (nat_eq id) ms ≡ Some x → Written id w ms ns → w.is_queued ≡ x.is_queued → w.is_held ≡ x.is_held →
-    AreListed (entries_seen seen ms) fresh busy × AreHeld (entries_seen seen ms) held → IsInPlace id (line_seen seen x.line) (line_seen seen w.line) (entries_seen seen ms) (entries_seen seen ns) fresh busy held
+    AreListed (entries_seen seen ms) fresh busy × AreHeld (entries_seen seen ms) held → IsInPlace id (connection_seen seen x.connection) (connection_seen seen w.connection) (entries_seen seen ms) (entries_seen seen ns) fresh busy held
 in_place seen id x w ms ns fresh busy held found put queued is_held marks =
     let there : lookup (nat_eq id) (entries_seen seen ms) ≡ Some (entry_seen seen x) = seen_at seen ms id ∙ ap (option_map (entry_seen seen)) found in
     let written = written_seen seen id w ms ns put in
     record {
-      there = line_seen_at seen ms id x found;
+      there = connection_seen_at seen ms id x found;
       puts = puts_written id (entry_seen seen w) (entries_seen seen ms) (entries_seen seen ns) written;
       are_listed = listed_kept id (entry_seen seen w) (entry_seen seen x) (entries_seen seen ms) (entries_seen seen ns) fresh busy marks.0 written there queued;
       are_held = held_kept id (entry_seen seen w) (entry_seen seen x) (entries_seen seen ms) (entries_seen seen ns) held marks.1 written there is_held;

@@ -118,7 +118,7 @@ stands_at xs id (place, within, same) = (place, slice_get-get_or xs place id wit
 pub at_stands : (xs : List ℕ) (id place : ℕ) → slice_get xs place ≡ Some id → Contains xs id
 at_stands xs id place at = (place, slice_get_within xs place id at, get_or_from_slice_get xs place id id at)
 
--- where another left, one stands no further behind
+-- where another left, one stands no further back
 pub without_place : (k id : ℕ) (xs : List ℕ) (place : ℕ) → nat_eq k id ≡ false → slice_get xs place ≡ Some id → (p : ℕ) × (p ≤ place) × (slice_get (without k xs) p ≡ Some id)
 without_place k id [] place ne at = no_some (sym at)
 without_place k id (x ∷ xs) zero ne at =

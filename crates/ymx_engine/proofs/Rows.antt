@@ -23,7 +23,7 @@ use Rattle.ymx_engine.specs.Events.{given, has_end, has_reset, has_stop}
 use Rattle.ymx_engine.specs.Wires.{fed}
 use Rattle.ymx_engine.specs.declared.row.Row.{Row}
 use Rattle.ymx_engine.specs.Engines.{Engine}
-use Rattle.ymx_engine.specs.Passes.{is_of_pass, IsPayload, counts_of, payload_in, payload_of, behind_row, InRow, IsRow, Follows, MayFollow, Settles}
+use Rattle.ymx_engine.specs.Passes.{is_of_pass, IsPayload, counts_of, payload_in, payload_of, behind_row, InRow, IsRow, Follows, MayFollow, Commits}
 use Rattle.ymx_engine.specs.Served.{GainsNone}
 use Rattle.ymx_engine.proofs.Advancing.{fed_then, fronts_then, rest_of, fed_on, take_all}
 use Rattle.ymx_engine.proofs.Beside.{IsPiece, passes_beside, piece_came, header_came, whole_piece}
@@ -36,7 +36,7 @@ first_and n ns = sum_by-cons (λ (x : ℕ). x) n ns
 
 -- ---- what is found
 
--- Behind what waits so many bytes of each further frame were found, until the row ended; then the headers say `total` bytes, and
+-- After what waits so many bytes of each further frame were found, until the row ended; then the headers say `total` bytes, and
 -- `last` waits.
 abbrev pub Found : (id missing : ℕ) → (ended : Bool) → (ahead : ℕ) → (waits : List ℕ) → List ℕ → (total : ℕ) → (last : List ℕ) → Session → Type 0
 Found id missing ended ahead waits [] total last s = (total ≡ ahead) × (last ≡ waits)
@@ -46,7 +46,7 @@ Found id missing ended ahead waits (n ∷ ns) total last s =
 none_of : (n : ℕ) (ns : List ℕ) → n ≡ 0 → sum ns ≡ 0 → sum (n ∷ ns) ≡ 0
 none_of n ns e f = let k = first_and n ns in omega arith
 
--- behind the end of a row stands nothing of it
+-- after the end of a row stands nothing of it
 found_none : (id missing ahead total : ℕ) (ended : Bool) (waits ns last : List ℕ) (s : Session) → ended ≡ true → Found id missing ended ahead waits ns total last s → sum ns ≡ 0
 found_none id missing ahead total ended waits [] last s e h = refl
 found_none id missing ahead total ended waits (n ∷ ns) last s e (behind, next, ends, inl none, more) = none_of n ns none.0 (found_none id missing next total ends behind ns last s none.2 more)
@@ -91,7 +91,7 @@ passes_first p s e = record { passes = e; further = λ none. let no : ⊥ = omeg
 at_least : (n a b : ℕ) → n ≡ min a b → (n ≤ a) × (n ≤ b)
 at_least n a b e = (omega arith, omega arith)
 
--- a frame behind which no byte of the row waits
+-- a frame after which no byte of the row waits
 in_row_last : (id missing said n : ℕ) (ns waits : List ℕ) → n ≡ min missing (length waits) → sum ns ≡ 0 → InRow id missing said (n ∷ ns) waits
 in_row_last id missing said n ns waits least none =
     let two = at_least n missing (length waits) least in (two.0, two.1, λ some. let no : ⊥ = omega (arith, none) in absurd no)
@@ -105,7 +105,7 @@ is_all n missing all left least rest long = omega arith
 fits_in : (ahead said next total : ℕ) → next ≡ ahead + said → next ≤ total → (said ≤ total - ahead) × (total - next ≡ total - ahead - said)
 fits_in ahead said next total e le = (omega arith, omega arith)
 
--- a frame behind which one more waits
+-- a frame after which one more waits
 in_row_more : (id of missing ahead next total n m : ℕ) (ms waits behind rest : List ℕ) (s : Session) → n ≡ min missing (length waits) → behind ≡ drop n waits → (f : Follows id of ahead m behind rest next s) → next ≤ total →
     InRow id f.said (total - next) (m ∷ ms) (drop 12 behind) → InRow id missing (total - ahead) (n ∷ m ∷ ms) waits
 in_row_more id of missing ahead next total n m ms waits behind rest s least is f le inner =
@@ -143,7 +143,7 @@ row_goes : (n : ℕ) (ns waits : List ℕ) → 0 < sum ns → behind_row (n ∷ 
 unfolding behind_row
 row_goes n ns waits some = grind (arith, nat_tests, some)
 
--- where no byte of the frame behind waits, nothing waits behind it
+-- where no byte of the frame after waits, nothing waits after it
 nothing_behind : (id of ahead next m : ℕ) (behind rest last : List ℕ) (s : Session) → Follows id of ahead m behind rest next s → m ≡ 0 → length last ≤ length rest → 0 < length last → ⊥
 nothing_behind id of ahead next m behind rest last s f none fewer some =
     let long = long_enough behind (f.plain).whole in
@@ -166,7 +166,7 @@ behind_more id of ahead next n m ms waits behind rest last s is f fewer some sam
     by (inl none) = absurd (nothing_behind id of ahead next m behind rest last s f (let k = first_and m ms in omega arith) fewer some)
     by (inr more) = same ∙ ap (behind_row (m ∷ ms)) at ∙ sym (row_goes n (m ∷ ms) waits more)
 
--- what waits last waits behind the row
+-- what waits last waits after the row
 found_behind : (id of ahead total n : ℕ) (ended : Bool) (waits behind ns last : List ℕ) (s : Session) → behind ≡ drop n waits → Found id of ended ahead behind ns total last s → 0 < length last → last ≡ behind_row (n ∷ ns) waits
 found_behind id of ahead total n ended waits behind [] last s is h some = h.1 ∙ is ∙ sym (row_ends n [] waits refl)
 found_behind id of ahead total n ended waits behind (m ∷ ms) last s is (rest, next, ends, inl none, more) some =
@@ -199,11 +199,11 @@ is_payload r e row = record { payload = record { id = r.id; missing = row.missin
 
 -- ---- passing on
 
-settles_none : (id : ℕ) (waits : List ℕ) (s : Session) → Settles id [] waits waits s s
-settles_none id waits s = record { events = []; happen = refl; own = refl; fronts = tt; starves = refl; took = refl; gave = refl; some = omega arith; ends = refl; resets = refl; stops = refl }
+commits_none : (id : ℕ) (waits : List ℕ) (s : Session) → Commits id [] waits waits s s
+commits_none id waits s = record { events = []; happen = refl; own = refl; fronts = tt; starves = refl; took = refl; gave = refl; some = omega arith; ends = refl; resets = refl; stops = refl }
 
-settles_pass : (id : ℕ) (bytes waits rest : List ℕ) (s t : Session) → waits ≡ bytes ++ rest → Passes id bytes s t → Settles id bytes waits rest s t
-settles_pass id bytes waits rest s t e x =
+commits_pass : (id : ℕ) (bytes waits rest : List ℕ) (s t : Session) → waits ≡ bytes ++ rest → Passes id bytes s t → Commits id bytes waits rest s t
+commits_pass id bytes waits rest s t e x =
     let i = same_id id in
     let f : Event = event.Feed bytes in
     let d : Event = event.Call (call.Read id (length bytes)) in
@@ -222,8 +222,8 @@ settles_pass id bytes waits rest s t e x =
       stops = rw i refl;
     }
 
-settles_feed : (id : ℕ) (header waits rest : List ℕ) (told : Fed) (s t : Session) → waits ≡ header ++ rest → told ≡ all_fed header → Gives in_turn s (event.Feed header) (reply.Fed told) t → Settles id [] waits rest s t
-settles_feed id header waits rest told s t e same g =
+commits_feed : (id : ℕ) (header waits rest : List ℕ) (told : Fed) (s t : Session) → waits ≡ header ++ rest → told ≡ all_fed header → Gives in_turn s (event.Feed header) (reply.Fed told) t → Commits id [] waits rest s t
+commits_feed id header waits rest told s t e same g =
     let all : take (length header) header ++ [] ≡ header = append-nil (take (length header) header) ∙ take_all header in
     record {
       events = (event.Feed header, reply.Fed (all_fed header)) ∷ [];
@@ -239,8 +239,8 @@ settles_feed id header waits rest told s t e same g =
       stops = refl;
     }
 
-settles_then : (id : ℕ) (xs ys a b c : List ℕ) (s t u : Session) → Settles id xs a b s t → Settles id ys b c t u → Settles id (xs ++ ys) a c s u
-settles_then id xs ys a b c s t u x y =
+commits_then : (id : ℕ) (xs ys a b c : List ℕ) (s t u : Session) → Commits id xs a b s t → Commits id ys b c t u → Commits id (xs ++ ys) a c s u
+commits_then id xs ys a b c s t u x y =
     let es = x.events in
     let fs = y.events in record {
       events = es ++ fs;
@@ -324,7 +324,7 @@ pub record Going (id at left taken : ℕ) (counts payload waits : List ℕ) (s t
   pub fits : left ≤ length (payload_in counts (drop at waits))
   pub within : at ≤ length waits
   pub positive : 0 < missing
-  pub done : Settles id went waits (drop at waits) s t
+  pub done : Commits id went waits (drop at waits) s t
   pub row : InRow id missing said counts (drop at waits)
   pub passes : PassesBehind id missing said t
   pub others : (other : ℕ) → nat_eq id other ≡ false → GainsNone other s t
@@ -342,7 +342,7 @@ going_starts id missing said taken counts waits s row passes positive some fits 
   fits = fits;
   within = omega arith;
   positive = positive;
-  done = settles_none id waits s;
+  done = commits_none id waits s;
   row = row;
   passes = passes;
   others = λ other ne. gains_none other s;
@@ -367,7 +367,7 @@ going_at r id at left taken i items payload waits s t is x inside =
 going_piece : (id at left taken n count : ℕ) (ns payload waits : List ℕ) (s t : Session) → (x : Going id at left taken (n ∷ ns) payload waits s t) → count ≡ min left n → Waits x.missing n left count ns (drop at waits)
 going_piece id at left taken n count ns payload waits s t x least = piece_waits id x.missing x.said n left count ns (drop at waits) x.row x.positive x.some x.fits least
 
--- the header behind it waits
+-- the header after it waits
 pub going_header : (id at left taken n count : ℕ) (ns payload waits : List ℕ) (s t : Session) → Going id at left taken (n ∷ ns) payload waits s t → count ≡ min left n → count < left → at + count + 12 ≤ length waits
 going_header id at left taken n count ns payload waits s t x least less =
     let more = (going_piece id at left taken n count ns payload waits s t x least).more less in
@@ -381,22 +381,22 @@ going_header id at left taken n count ns payload waits s t x least less =
 
 -- what is passed on is the front of what is left
 went_on : (id at left taken n count : ℕ) (ns payload waits : List ℕ) (s t u : Session) → (x : Going id at left taken (n ∷ ns) payload waits s t) → count ≡ min left n → Passes id (take (at + count - at) (drop at waits)) t u →
-    Settles id (x.went ++ take count (payload_in (n ∷ ns) (drop at waits))) waits (drop (at + count) waits) s u
+    Commits id (x.went ++ take count (payload_in (n ∷ ns) (drop at waits))) waits (drop (at + count) waits) s u
 went_on id at left taken n count ns payload waits s t u x least p =
     let k : at + count - at ≡ count = omega arith in
     let front = (going_piece id at left taken n count ns payload waits s t x least).front in
     let more : List ℕ = take count (payload_in (n ∷ ns) (drop at waits)) in
     let y : Passes id more t u = subst (λ (v : List ℕ). Passes id v t u) (ap (λ (m : ℕ). take m (drop at waits)) k ∙ front) p in
-    settles_then id x.went more waits (drop at waits) (drop (at + count) waits) s t u x.done
-    (settles_pass id more (drop at waits) (drop (at + count) waits) t u (sym (take-append-drop count (drop at waits)) ∙ ap (λ (v : List ℕ). v ++ drop count (drop at waits)) front ∙ ap (λ (v : List ℕ). more ++ v) (drop-drop count at waits)) y)
+    commits_then id x.went more waits (drop at waits) (drop (at + count) waits) s t u x.done
+    (commits_pass id more (drop at waits) (drop (at + count) waits) t u (sym (take-append-drop count (drop at waits)) ∙ ap (λ (v : List ℕ). v ++ drop count (drop at waits)) front ∙ ap (λ (v : List ℕ). more ++ v) (drop-drop count at waits)) y)
 
 -- all that is to be passed on was
 pub going_ends : (id at left taken n count : ℕ) (ns payload waits : List ℕ) (s t u : Session) → (x : Going id at left taken (n ∷ ns) payload waits s t) → count ≡ min left n → left - count ≡ 0 →
-    Passes id (take (at + count - at) (drop at waits)) t u → Settles id (take taken payload) waits (drop (at + count) waits) s u
+    Passes id (take (at + count - at) (drop at waits)) t u → Commits id (take taken payload) waits (drop (at + count) waits) s u
 going_ends id at left taken n count ns payload waits s t u x least over p =
     let all : length x.went + count ≡ taken = omega (arith, x.counted, least, over) in
     let rest : List ℕ = payload_in (n ∷ ns) (drop at waits) in
-    subst (λ (v : List ℕ). Settles id v waits (drop (at + count) waits) s u) (sym (take-append-add x.went rest count) ∙ ap (take (length x.went + count)) (sym x.split) ∙ ap (λ (m : ℕ). take m payload) all)
+    subst (λ (v : List ℕ). Commits id v waits (drop (at + count) waits) s u) (sym (take-append-add x.went rest count) ∙ ap (take (length x.went + count)) (sym x.split) ∙ ap (λ (m : ℕ). take m payload) all)
     (went_on id at left taken n count ns payload waits s t u x least p)
 
 next_piece : (id at left taken n count : ℕ) (ns payload waits : List ℕ) (s t u : Session) → (x : Going id at left taken (n ∷ ns) payload waits s t) → count ≡ min left n → Passes id (take count (drop at waits)) t u →
@@ -422,7 +422,7 @@ ends_status id at left taken n count ns payload waits s t u x least p =
     let y : Passes id (take count (drop at waits)) t u = subst (λ (m : ℕ). Passes id (take m (drop at waits)) t u) k p in
     (next_piece id at left taken n count ns payload waits s t u x least y).status ∙ x.status
 
--- a piece was passed on whole, and the header behind it fed
+-- a piece was passed on whole, and the header after it fed
 pub going_on : HeaderFollows → (id at left taken n count : ℕ) (ns payload waits : List ℕ) (told : Fed) (s t u v : Session) → (x : Going id at left taken (n ∷ ns) payload waits s t) → count ≡ min left n → count < left →
     Passes id (take (at + count - at) (drop at waits)) t u → Gives in_turn u (event.Feed (take (at + count + 12 - (at + count)) (drop (at + count) waits))) (reply.Fed told) v →
     Going id (at + count + 12) (left - count) taken ns payload waits s v
@@ -448,13 +448,13 @@ going_on law id at left taken n count ns payload waits told s t u v x least less
     let tail_is : payload_in ns (drop (n + 12) waiting) ≡ tail = ap (payload_in ns) rest in
     let taken_is : take count (payload_in (n ∷ ns) waiting) ≡ take n waiting = sym piece.front ∙ ap (λ (m : ℕ). take m waiting) more.0 in
     let went : List ℕ = x.went ++ take n waiting in
-    let now : Settles id went waits (drop (at + count) waits) s u =
-    subst (λ (w : List ℕ). Settles id (x.went ++ w) waits (drop (at + count) waits) s u) taken_is (went_on id at left taken n count ns payload waits s t u x least p) in
-    let fed_so : Settles id [] (drop (at + count) waits) (drop (at + count + 12) waits) u v =
-    settles_feed id header (drop (at + count) waits) (drop (at + count + 12) waits) told u v
+    let now : Commits id went waits (drop (at + count) waits) s u =
+    subst (λ (w : List ℕ). Commits id (x.went ++ w) waits (drop (at + count) waits) s u) taken_is (went_on id at left taken n count ns payload waits s t u x least p) in
+    let fed_so : Commits id [] (drop (at + count) waits) (drop (at + count + 12) waits) u v =
+    commits_feed id header (drop (at + count) waits) (drop (at + count + 12) waits) told u v
     (sym (take-append-drop 12 (drop (at + count) waits)) ∙ ap (λ (w : List ℕ). w ++ drop 12 (drop (at + count) waits)) (ap (λ (m : ℕ). take m (drop (at + count) waits)) (sym k2)) ∙ ap (λ (w : List ℕ). header ++ w) (drop-drop 12 (at + count) waits))
     behind.0 g in
-    let done = settles_then id went [] waits (drop (at + count) waits) (drop (at + count + 12) waits) s u v now fed_so in
+    let done = commits_then id went [] waits (drop (at + count) waits) (drop (at + count + 12) waits) s u v now fed_so in
     let long = going_header id at left taken n count ns payload waits s t x least less in
     let parts : length (payload_in (n ∷ ns) waiting) ≡ length (take n waiting) + length tail = length-append (take n waiting) (payload_in ns (drop (n + 12) waiting)) ∙ ap (λ (w : List ℕ). length (take n waiting) + length w) tail_is in
     let first : length (take n waiting) ≡ n = length-take-le n waiting x.row.1 in
@@ -468,7 +468,7 @@ going_on law id at left taken n count ns payload waits told s t u v x least less
       fits = omega (arith, x.fits, parts, first, more.0);
       within = omega (arith, long);
       positive = plain.some;
-      done = subst (λ (w : List ℕ). Settles id w waits (drop (at + count + 12) waits) s v) (append-nil went) done;
+      done = subst (λ (w : List ℕ). Commits id w waits (drop (at + count + 12) waits) s v) (append-nil went) done;
       row = subst (λ (w : List ℕ). InRow id next (x.said - next) ns w) rest ((h.1).3);
       passes = behind.1;
       others = λ other ne.
@@ -503,7 +503,7 @@ behind_fewer (n ∷ ns) w = by (zero_or (sum ns)) (behind_fewer ns (drop (n + 12
         let l = ap length (row_goes n ns w some) in
         let k = length-drop (n + 12) w in omega arith
 
--- its first frame stands before what waits behind it
+-- its first frame stands before what waits after it
 pub behind_first : (n : ℕ) (ns w : List ℕ) → n ≤ length w → n + length (behind_row (n ∷ ns) w) ≤ length w
 behind_first n ns w within = by (zero_or (sum ns))
   where

@@ -20,12 +20,12 @@ use Rattle.ymx_engine.specs.Joins.{Joins, DropsOut}
 use Rattle.ymx_engine.specs.Lives.{IsIdle, Life, Trades, opens_at}
 use Rattle.ymx_engine.specs.Moves.{Moves}
 use Rattle.ymx_engine.specs.Passes.{PassesOn, is_of_reading}
-use Rattle.ymx_engine.specs.declared.ways.Ways.{Ways}
+use Rattle.ymx_engine.specs.declared.directions.Directions.{Directions}
 use Rattle.ymx_engine.specs.Refusals.{OpensNone, OffersNone, GivesUp}
 use Rattle.ymx_engine.specs.Serves.{Exchanges}
 use Rattle.ymx_engine.specs.Tunnels.{Tunnel}
-use Rattle.ymx_engine.specs.Turns.{Line, Lines, line_of, look, Puts}
-use Rattle.ymx_engine.specs.Ways.{new_ways}
+use Rattle.ymx_engine.specs.Turns.{Connection, Connections, connection_of, look, Puts}
+use Rattle.ymx_engine.specs.Directions.{new_directions}
 use Rattle.ymx_engine.specs.Wires.{fed, emitted, is_of_read, is_of_flush, has_feed_end, FeedsFront, ReadsWire, FlushesWire, HandlesIn}
 use Rattle.ymx_engine.proofs.Advancing.{rest_of, fed_then, fronts_then, fronts_more}
 use Rattle.ymx_engine.proofs.Quiet.{quiet, IsQuiet}
@@ -36,7 +36,7 @@ use Rattle.ymx_engine.proofs.Trading.{life_quiet, life_then, life_trades, life_l
 
 -- the device of each stream is what it was
 abbrev pub SameSeen : Tunnel → Tunnel → Type 0
-SameSeen a b = (id : ℕ) → look id b.lines ≡ look id a.lines
+SameSeen a b = (id : ℕ) → look id b.connections ≡ look id a.connections
 
 or_swap_three : (a b c x y z : Bool) → (((a || b) || c) || ((x || y) || z)) ≡ (((a || x) || (b || y)) || (c || z))
 or_swap_three true b c x y z = refl
@@ -74,7 +74,7 @@ moves_same a = record {
   shuts = false;
   shut = or_same a.wire.shut;
   lost = refl;
-  lines = λ id. life_quiet id [] (look id a.lines) (refl, refl, refl, refl, refl, refl);
+  connections = λ id. life_quiet id [] (look id a.connections) (refl, refl, refl, refl, refl, refl);
 }
 
 -- and that is no event
@@ -82,7 +82,7 @@ pub moves_same_so : (a : Tunnel) → (m : Moves a a) × (m.events ≡ [])
 unfolding moves_same
 moves_same_so a = (moves_same a, refl)
 
--- one run behind another
+-- one run after another
 pub moves_then : (a b c : Tunnel) → Moves a b → Moves b c → Moves a c
 moves_then a b c x y =
     let es = x.events in
@@ -110,7 +110,7 @@ moves_then a b c x y =
       ended = y.ended ∙ ap (option_map (λ v. v || y.ends)) x.ended ∙ or_twice x.ends y.ends a.wire.ended;
       shuts = x.shuts || y.shuts;
       shut = y.shut ∙ ap (option_map (λ v. v || y.shuts)) x.shut ∙ or_twice x.shuts y.shuts a.wire.shut;
-      lines = λ id. life_then id es fs (look id a.lines) (look id b.lines) (look id c.lines) (x.lines id) (y.lines id);
+      connections = λ id. life_then id es fs (look id a.connections) (look id b.connections) (look id c.connections) (x.connections id) (y.connections id);
     }
 
 -- and what happened, and what the wire gave and took, is that of both
@@ -119,8 +119,8 @@ unfolding moves_then
 moves_then_so a b c x y = (moves_then a b c x y, refl, refl, refl)
 
 -- lines that stay as they are
-still_lines : (a b : Tunnel) (es : List (Event × Reply)) → SameSeen a b → ((id : ℕ) → IsQuiet id es) → (id : ℕ) → Life id es (look id a.lines) (look id b.lines)
-still_lines a b es same q id = subst (λ (v : Option Seen). Life id es (look id a.lines) v) (sym (same id)) (life_quiet id es (look id a.lines) (q id))
+still_connections : (a b : Tunnel) (es : List (Event × Reply)) → SameSeen a b → ((id : ℕ) → IsQuiet id es) → (id : ℕ) → Life id es (look id a.connections) (look id b.connections)
+still_connections a b es same q id = subst (λ (v : Option Seen). Life id es (look id a.connections) v) (sym (same id)) (life_quiet id es (look id a.connections) (q id))
 
 -- the wire was read
 pub moves_read : (a b : Tunnel) (n : ℕ) → ReadsWire a.engine b.engine a.wire b.wire n → SameSeen a b → Moves a b
@@ -144,7 +144,7 @@ moves_read a b n x same = record {
   ended = x.ended ∙ or_same a.wire.ended;
   shuts = false;
   shut = x.shut ∙ or_same a.wire.shut;
-  lines = still_lines a b x.events same (λ id. quiet is_of_read (λ c. refl) id x.events x.own);
+  connections = still_connections a b x.events same (λ id. quiet is_of_read (λ c. refl) id x.events x.own);
 }
 
 -- and what came is what the wire gave, and just that happened
@@ -183,7 +183,7 @@ moves_flushed a b n x same =
       ended = x.ended ∙ or_same a.wire.ended;
       shuts = false;
       shut = x.shut ∙ or_same a.wire.shut;
-      lines = still_lines a b x.events same (λ id. quiet is_of_flush (λ c. refl) id x.events x.own);
+      connections = still_connections a b x.events same (λ id. quiet is_of_flush (λ c. refl) id x.events x.own);
     }
 
 -- and just that happened and went
@@ -200,20 +200,20 @@ not_eq_ids : (id other : ℕ) → nat_eq id other ≡ false → (other == id) �
 not_eq_ids id other h = grind arith
 
 -- this line moves, and the others stay
-served_line : (id other : ℕ) (a b : Lines) (d e : Seen) (es : List (Event × Reply)) (test : Bool) → nat_eq id other ≡ test → look id a ≡ Some d → look other b ≡ cond test (Some e) (look other a) →
+served_connection : (id other : ℕ) (a b : Connections) (d e : Seen) (es : List (Event × Reply)) (test : Bool) → nat_eq id other ≡ test → look id a ≡ Some d → look other b ≡ cond test (Some e) (look other a) →
     Life id es (Some d) (Some e) → ((other == id) ≡ false → IsQuiet other es) → Life other es (look other a) (look other b)
-served_line id other a b d e es true t at now moved own =
+served_connection id other a b d e es true t at now moved own =
     let same : other ≡ id = eq_ids id other t in
     let there : look other a ≡ Some d = ap (λ (n : ℕ). look n a) same ∙ at in
     let at_other : Life other es (Some d) (Some e) = subst (λ (n : ℕ). Life n es (Some d) (Some e)) (sym same) moved in
     subst (λ (v : Option Seen). Life other es (look other a) v) (sym now) (subst (λ (v : Option Seen). Life other es v (Some e)) (sym there) at_other)
-served_line id other a b d e es false t at now moved own =
+served_connection id other a b d e es false t at now moved own =
     subst (λ (v : Option Seen). Life other es (look other a) v) (sym now) (life_quiet other es (look other a) (own (not_eq_ids id other t)))
 
 -- nothing was fed, what was emitted waits, and the wire was left alone
 moves_moved : (a b : Tunnel) (es : List (Event × Reply)) → Happen es a.engine.session b.engine.session → FeedsNone es → has_feed_end es ≡ false → has_open_with es ≡ false →
-    a.engine.outgoing ++ emitted es ≡ b.engine.outgoing → b.engine.incoming ≡ a.engine.incoming → b.wire ≡ a.wire → ((id : ℕ) → Life id es (look id a.lines) (look id b.lines)) → Moves a b
-moves_moved a b es h feeds heard plain to_wire incoming wire lines = record {
+    a.engine.outgoing ++ emitted es ≡ b.engine.outgoing → b.engine.incoming ≡ a.engine.incoming → b.wire ≡ a.wire → ((id : ℕ) → Life id es (look id a.connections) (look id b.connections)) → Moves a b
+moves_moved a b es h feeds heard plain to_wire incoming wire connections = record {
   events = es;
   happen = h;
   plain = plain;
@@ -233,31 +233,31 @@ moves_moved a b es h feeds heard plain to_wire incoming wire lines = record {
   ended = ap (λ (s : Seen). s.ended) wire ∙ or_same a.wire.ended;
   shuts = false;
   shut = ap (λ (s : Seen). s.shut) wire ∙ or_same a.wire.shut;
-  lines = lines;
+  connections = connections;
 }
 
 -- calls alone happened, and the wire was left alone
-pub moves_called : (a b : Tunnel) (es : List (Event × Reply)) → Happen es a.engine.session b.engine.session → LeavesWire es → KeepsWire a.engine b.engine → b.wire ≡ a.wire → ((id : ℕ) → Life id es (look id a.lines) (look id b.lines)) → Moves a b
-moves_called a b es h leaves keeps wire lines =
-    moves_moved a b es h leaves.0 leaves.2 leaves.3 (ap (λ (v : List ℕ). a.engine.outgoing ++ v) leaves.1 ∙ append-nil a.engine.outgoing ∙ sym keeps.outgoing) keeps.incoming wire lines
+pub moves_called : (a b : Tunnel) (es : List (Event × Reply)) → Happen es a.engine.session b.engine.session → LeavesWire es → KeepsWire a.engine b.engine → b.wire ≡ a.wire → ((id : ℕ) → Life id es (look id a.connections) (look id b.connections)) → Moves a b
+moves_called a b es h leaves keeps wire connections =
+    moves_moved a b es h leaves.0 leaves.2 leaves.3 (ap (λ (v : List ℕ). a.engine.outgoing ++ v) leaves.1 ∙ append-nil a.engine.outgoing ∙ sym keeps.outgoing) keeps.incoming wire connections
 
 -- a stream and its own device had a turn
-pub moves_served : (a b : Tunnel) (id : ℕ) (d e : Seen) → Exchanges id a.engine.session b.engine.session a.engine.outgoing b.engine.outgoing d e → b.engine.incoming ≡ a.engine.incoming → b.wire ≡ a.wire → look id a.lines ≡ Some d →
-    ((other : ℕ) → look other b.lines ≡ cond (nat_eq id other) (Some e) (look other a.lines)) → Moves a b
+pub moves_served : (a b : Tunnel) (id : ℕ) (d e : Seen) → Exchanges id a.engine.session b.engine.session a.engine.outgoing b.engine.outgoing d e → b.engine.incoming ≡ a.engine.incoming → b.wire ≡ a.wire → look id a.connections ≡ Some d →
+    ((other : ℕ) → look other b.connections ≡ cond (nat_eq id other) (Some e) (look other a.connections)) → Moves a b
 moves_served a b id d e x incoming wire at now =
     let calm : IsCalm x.events = turn_calm id x.events x.own in
     moves_moved a b x.events x.happen calm.0 calm.1 calm.2 x.to_wire incoming wire
-    (λ other. served_line id other a.lines b.lines d e x.events (nat_eq id other) refl at (now other) (life_trades id x.events d e x.trades) (others_quiet_turned id other x.events x.own))
+    (λ other. served_connection id other a.connections b.connections d e x.events (nat_eq id other) refl at (now other) (life_trades id x.events d e x.trades) (others_quiet_turned id other x.events x.own))
 
 -- and just these events happened in it
-pub served_run : (a b : Tunnel) (id : ℕ) (d e : Seen) → (x : Exchanges id a.engine.session b.engine.session a.engine.outgoing b.engine.outgoing d e) → b.engine.incoming ≡ a.engine.incoming → b.wire ≡ a.wire → look id a.lines ≡ Some d →
-    ((other : ℕ) → look other b.lines ≡ cond (nat_eq id other) (Some e) (look other a.lines)) → (r : Moves a b) × (x.events ≡ r.events)
+pub served_run : (a b : Tunnel) (id : ℕ) (d e : Seen) → (x : Exchanges id a.engine.session b.engine.session a.engine.outgoing b.engine.outgoing d e) → b.engine.incoming ≡ a.engine.incoming → b.wire ≡ a.wire → look id a.connections ≡ Some d →
+    ((other : ℕ) → look other b.connections ≡ cond (nat_eq id other) (Some e) (look other a.connections)) → (r : Moves a b) × (x.events ≡ r.events)
 unfolding moves_served moves_moved
 served_run a b id d e x incoming wire at now = (moves_served a b id d e x incoming wire at now, refl)
 
 -- payload was passed to a stream's own device
-pub moves_passed : (a b : Tunnel) (id : ℕ) (d e : Seen) (n : ℕ) (v w : Ways) → PassesOn id a.engine b.engine d e n v w → b.wire ≡ a.wire → look id a.lines ≡ Some d →
-    ((other : ℕ) → look other b.lines ≡ cond (nat_eq id other) (Some e) (look other a.lines)) → Moves a b
+pub moves_passed : (a b : Tunnel) (id : ℕ) (d e : Seen) (n : ℕ) (v w : Directions) → PassesOn id a.engine b.engine d e n v w → b.wire ≡ a.wire → look id a.connections ≡ Some d →
+    ((other : ℕ) → look other b.connections ≡ cond (nat_eq id other) (Some e) (look other a.connections)) → Moves a b
 moves_passed a b id d e n v w x wire at now =
     let none : PassEmits x.events = pass_emits id x.events x.own in
     record {
@@ -280,35 +280,35 @@ moves_passed a b id d e n v w x wire at now =
       ended = ap (λ (s : Seen). s.ended) wire ∙ or_same a.wire.ended;
       shuts = false;
       shut = ap (λ (s : Seen). s.shut) wire ∙ or_same a.wire.shut;
-      lines = λ other. served_line id other a.lines b.lines d e x.events (nat_eq id other) refl at (now other) (life_trades id x.events d e (trades_passed id n a.engine b.engine d e v w x)) (others_quiet_passed id other x.events x.own);
+      connections = λ other. served_connection id other a.connections b.connections d e x.events (nat_eq id other) refl at (now other) (life_trades id x.events d e (trades_passed id n a.engine b.engine d e v w x)) (others_quiet_passed id other x.events x.own);
     }
 
 -- and nothing else happened
-pub moves_passed_so : (a b : Tunnel) (id : ℕ) (d e : Seen) (n : ℕ) (v w : Ways) (x : PassesOn id a.engine b.engine d e n v w) → b.wire ≡ a.wire → look id a.lines ≡ Some d →
-    ((other : ℕ) → look other b.lines ≡ cond (nat_eq id other) (Some e) (look other a.lines)) → (m : Moves a b) × (list_all (λ e. is_of_reading e.0) m.events ≡ true) × (m.events ≡ x.events)
+pub moves_passed_so : (a b : Tunnel) (id : ℕ) (d e : Seen) (n : ℕ) (v w : Directions) (x : PassesOn id a.engine b.engine d e n v w) → b.wire ≡ a.wire → look id a.connections ≡ Some d →
+    ((other : ℕ) → look other b.connections ≡ cond (nat_eq id other) (Some e) (look other a.connections)) → (m : Moves a b) × (list_all (λ e. is_of_reading e.0) m.events ≡ true) × (m.events ≡ x.events)
 unfolding moves_passed
 moves_passed_so a b id d e n v w x wire at now = (moves_passed a b id d e n v w x wire at now, passes_reading id x.events x.own, refl)
 
 -- one call that moves no byte happened, and the device of a stream joined or left
-changed_line : (id other : ℕ) (a b : Lines) (to : Option Seen) (es : List (Event × Reply)) (test : Bool) → nat_eq id other ≡ test → look other b ≡ cond test to (look other a) →
+changed_connection : (id other : ℕ) (a b : Connections) (to : Option Seen) (es : List (Event × Reply)) (test : Bool) → nat_eq id other ≡ test → look other b ≡ cond test to (look other a) →
     Life id es (look id a) to → IsQuiet other es → Life other es (look other a) (look other b)
-changed_line id other a b to es true t now life q =
+changed_connection id other a b to es true t now life q =
     subst (λ (v : Option Seen). Life other es (look other a) v) (sym now) (subst (λ (n : ℕ). Life n es (look n a) to) (sym (eq_ids id other t)) life)
-changed_line id other a b to es false t now life q = subst (λ (v : Option Seen). Life other es (look other a) v) (sym now) (life_quiet other es (look other a) q)
+changed_connection id other a b to es false t now life q = subst (λ (v : Option Seen). Life other es (look other a) v) (sym now) (life_quiet other es (look other a) q)
 
 -- a device left, and its stream was forgotten
 pub moves_forgot : (a b : Tunnel) (id : ℕ) (told : Reply) → Gives in_turn a.engine.session (event.Call (call.Forget id)) told b.engine.session → KeepsWire a.engine b.engine → b.wire ≡ a.wire →
-    ((other : ℕ) → look other b.lines ≡ cond (nat_eq id other) None (look other a.lines)) → Moves a b
+    ((other : ℕ) → look other b.connections ≡ cond (nat_eq id other) None (look other a.connections)) → Moves a b
 moves_forgot a b id told g keeps wire now =
     let es : List (Event × Reply) = (event.Call (call.Forget id), told) ∷ [] in
     moves_called a b es (b.engine.session, g, refl) ((refl, λ w. (tt, tt)), refl, refl, refl) keeps wire
-    (λ other. changed_line id other a.lines b.lines None es (nat_eq id other) refl (now other) (life_leaves id told (look id a.lines)) (refl, refl, refl, refl, refl, refl))
+    (λ other. changed_connection id other a.connections b.connections None es (nat_eq id other) refl (now other) (life_leaves id told (look id a.connections)) (refl, refl, refl, refl, refl, refl))
 
--- what is seen of the devices where a connection was put in, or let go of
-pub puts_look : (id other : ℕ) (what : Option Line) (a b : Lines) → Puts id what a b → look other b ≡ cond (nat_eq id other) (option_map (λ (l : Line). l.seen) what) (look other a)
-puts_look id other what a b puts = ap (option_map (λ (l : Line). l.seen)) (puts other) ∙ by (nat_eq id other)
+-- what is seen of the devices where a connection was put in, or dropped
+pub puts_look : (id other : ℕ) (what : Option Connection) (a b : Connections) → Puts id what a b → look other b ≡ cond (nat_eq id other) (option_map (λ (l : Connection). l.seen) what) (look other a)
+puts_look id other what a b puts = ap (option_map (λ (l : Connection). l.seen)) (puts other) ∙ by (nat_eq id other)
   where
-    by : (t : Bool) → option_map (λ (l : Line). l.seen) (cond t what (line_of other a)) ≡ cond t (option_map (λ (l : Line). l.seen) what) (look other a)
+    by : (t : Bool) → option_map (λ (l : Connection). l.seen) (cond t what (connection_of other a)) ≡ cond t (option_map (λ (l : Connection). l.seen) what) (look other a)
     by true = refl
     by false = refl
 
@@ -317,13 +317,13 @@ moves_joined : (a b c : Tunnel) (id : ℕ) (d : Seen) (k : Event × Reply) → o
     Gives in_turn a.engine.session k.0 k.1 b.engine.session → KeepsWire a.engine b.engine → b.wire ≡ a.wire → SameSeen a b → Joins id d b c → Moves a c
 moves_joined a b c id d k opens quiet leaves g keeps wire same j =
     let es : List (Event × Reply) = k ∷ [] in
-    let none : look id a.lines ≡ None = sym (same id) ∙ ap (option_map (λ (l : Line). l.seen)) j.free in
-    let life : Life id es (look id a.lines) (Some d) = subst (λ (v : Option Seen). Life id es v (Some d)) (sym none) (life_joins id k d opens (quiet id)) in
+    let none : look id a.connections ≡ None = sym (same id) ∙ ap (option_map (λ (l : Connection). l.seen)) j.free in
+    let life : Life id es (look id a.connections) (Some d) = subst (λ (v : Option Seen). Life id es v (Some d)) (sym none) (life_joins id k d opens (quiet id)) in
     let g2 : Gives in_turn a.engine.session k.0 k.1 c.engine.session = subst (λ (v : Engine). Gives in_turn a.engine.session k.0 k.1 v.session) (sym j.engine) g in
     let keeps2 : KeepsWire a.engine c.engine = subst (λ (v : Engine). KeepsWire a.engine v) (sym j.engine) keeps in
     moves_called a c es (c.engine.session, g2, refl) leaves keeps2 (j.wire ∙ wire)
-    (λ other. changed_line id other a.lines c.lines (Some d) es (nat_eq id other) refl
-    (puts_look id other (Some (record { seen = d; ways = new_ways })) b.lines c.lines j.lines.lines ∙ ap (λ (v : Option Seen). cond (nat_eq id other) (Some d) v) (same other)) life (quiet other))
+    (λ other. changed_connection id other a.connections c.connections (Some d) es (nat_eq id other) refl
+    (puts_look id other (Some (record { seen = d; directions = new_directions })) b.connections c.connections j.connections.connections ∙ ap (λ (v : Option Seen). cond (nat_eq id other) (Some d) v) (same other)) life (quiet other))
 
 pub moves_opened : (a b c : Tunnel) (id : ℕ) (d : Seen) → Gives in_turn a.engine.session (event.Call call.Open) (reply.Opened id) b.engine.session → KeepsWire a.engine b.engine → b.wire ≡ a.wire → SameSeen a b → Joins id d b c → Moves a c
 moves_opened a b c id d g keeps wire same j =
@@ -335,20 +335,20 @@ moves_accepted a b c id d g keeps wire same j =
 
 -- calls that are quiet on every stream, but may reset and forget one that has no device
 pub moves_idle : (a b : Tunnel) (es : List (Event × Reply)) → Happen es a.engine.session b.engine.session → LeavesWire es → KeepsWire a.engine b.engine → b.wire ≡ a.wire → SameSeen a b →
-    ((id : ℕ) → Life id es (look id a.lines) (look id a.lines)) → Moves a b
+    ((id : ℕ) → Life id es (look id a.connections) (look id a.connections)) → Moves a b
 moves_idle a b es h leaves keeps wire same life =
-    moves_called a b es h leaves keeps wire (λ id. subst (λ (v : Option Seen). Life id es (look id a.lines) v) (sym (same id)) (life id))
+    moves_called a b es h leaves keeps wire (λ id. subst (λ (v : Option Seen). Life id es (look id a.connections) v) (sym (same id)) (life id))
 
 -- where a stream has no device no byte of it moves, and another one is left alone
-given_up_life : (id other : ℕ) (lines : Lines) (es : List (Event × Reply)) (test : Bool) → nat_eq id other ≡ test → look id lines ≡ None → IsIdle other es → ((other == id) ≡ false → IsQuiet other es) → Life other es (look other lines) (look other lines)
-given_up_life id other lines es true t none idle q =
-    let there : look other lines ≡ None = ap (λ (n : ℕ). look n lines) (eq_ids id other t) ∙ none in
+given_up_life : (id other : ℕ) (connections : Connections) (es : List (Event × Reply)) (test : Bool) → nat_eq id other ≡ test → look id connections ≡ None → IsIdle other es → ((other == id) ≡ false → IsQuiet other es) → Life other es (look other connections) (look other connections)
+given_up_life id other connections es true t none idle q =
+    let there : look other connections ≡ None = ap (λ (n : ℕ). look n connections) (eq_ids id other t) ∙ none in
     subst (λ (v : Option Seen). Life other es v v) (sym there) (life_idle other es idle)
-given_up_life id other lines es false t none idle q = life_quiet other es (look other lines) (q (not_eq_ids id other t))
+given_up_life id other connections es false t none idle q = life_quiet other es (look other connections) (q (not_eq_ids id other t))
 
 -- one call was made that moves no byte of a stream, and no device joins or leaves
 pub moves_alone : (a b : Tunnel) (k : Event × Reply) → ((id : ℕ) → IsQuiet id (k ∷ [])) → LeavesWire (k ∷ []) → Gives in_turn a.engine.session k.0 k.1 b.engine.session → KeepsWire a.engine b.engine → b.wire ≡ a.wire → SameSeen a b → Moves a b
-moves_alone a b k quiet leaves g keeps wire same = moves_idle a b (k ∷ []) (b.engine.session, g, refl) leaves keeps wire same (λ id. life_quiet id (k ∷ []) (look id a.lines) (quiet id))
+moves_alone a b k quiet leaves g keeps wire same = moves_idle a b (k ∷ []) (b.engine.session, g, refl) leaves keeps wire same (λ id. life_quiet id (k ∷ []) (look id a.connections) (quiet id))
 
 pub moves_opened_alone : (a b : Tunnel) (told : Reply) → Gives in_turn a.engine.session (event.Call call.Open) told b.engine.session → KeepsWire a.engine b.engine → b.wire ≡ a.wire → SameSeen a b → Moves a b
 moves_opened_alone a b told g keeps wire same = moves_alone a b (event.Call call.Open, told) (λ id. (refl, refl, refl, refl, refl, refl)) ((refl, λ w. (tt, tt)), refl, refl, refl) g keeps wire same
@@ -358,7 +358,7 @@ moves_accepted_alone a b told g keeps wire same = moves_alone a b (event.Call ca
 
 -- the session is as it was
 pub moves_still : (a b : Tunnel) → b.engine.session ≡ a.engine.session → KeepsWire a.engine b.engine → b.wire ≡ a.wire → SameSeen a b → Moves a b
-moves_still a b still keeps wire same = moves_idle a b [] still ((refl, λ w. tt), refl, refl, refl) keeps wire same (λ id. life_quiet id [] (look id a.lines) (refl, refl, refl, refl, refl, refl))
+moves_still a b still keeps wire same = moves_idle a b [] still ((refl, λ w. tt), refl, refl, refl) keeps wire same (λ id. life_quiet id [] (look id a.connections) (refl, refl, refl, refl, refl, refl))
 
 -- no stream was opened, or none was offered
 pub moves_opens_none : (a b : Tunnel) (fault : CallFault) → OpensNone fault a.engine.session b.engine.session → KeepsWire a.engine b.engine → b.wire ≡ a.wire → SameSeen a b → Moves a b
@@ -378,11 +378,11 @@ moves_given_up : (a b c : Tunnel) (id : ℕ) (k : Event × Reply) → Gives in_t
     ((other : ℕ) → (other == id) ≡ false → IsQuiet other (k ∷ given_up_by id b.engine.session c.engine.session j.up)) → Moves a c
 moves_given_up a b c id k g keeps wire same j leaves idle quiet =
     let up = j.up in
-    let none : look id a.lines ≡ None = sym (same id) ∙ ap (option_map (λ (l : Line). l.seen)) j.free in
+    let none : look id a.connections ≡ None = sym (same id) ∙ ap (option_map (λ (l : Connection). l.seen)) j.free in
     let es : List (Event × Reply) = k ∷ given_up_by id b.engine.session c.engine.session up in
     let kept : KeepsWire a.engine c.engine = record { outgoing = j.keeps.outgoing ∙ keeps.outgoing; incoming = j.keeps.incoming ∙ keeps.incoming } in
-    moves_idle a c es (b.engine.session, g, (up.between, up.reset, (c.engine.session, up.forgotten, refl))) leaves kept (j.wire ∙ wire) (λ other. ap (look other) j.lines ∙ same other)
-    (λ other. given_up_life id other a.lines es (nat_eq id other) refl none (idle other) (quiet other))
+    moves_idle a c es (b.engine.session, g, (up.between, up.reset, (c.engine.session, up.forgotten, refl))) leaves kept (j.wire ∙ wire) (λ other. ap (look other) j.connections ∙ same other)
+    (λ other. given_up_life id other a.connections es (nat_eq id other) refl none (idle other) (quiet other))
 
 -- another stream is reset and forgotten
 off : (id other : ℕ) → (other == id) ≡ false → ((id == other) || false) ≡ false
@@ -416,12 +416,12 @@ trades_noted id ready d e x = record {
 }
 
 -- an event said something of a line's device
-pub moves_noted : (a b : Tunnel) (id : ℕ) (ready : Readiness) (d e : Seen) → b.engine ≡ a.engine → b.wire ≡ a.wire → IsNoted ready d e → look id a.lines ≡ Some d →
-    ((other : ℕ) → look other b.lines ≡ cond (nat_eq id other) (Some e) (look other a.lines)) → Moves a b
+pub moves_noted : (a b : Tunnel) (id : ℕ) (ready : Readiness) (d e : Seen) → b.engine ≡ a.engine → b.wire ≡ a.wire → IsNoted ready d e → look id a.connections ≡ Some d →
+    ((other : ℕ) → look other b.connections ≡ cond (nat_eq id other) (Some e) (look other a.connections)) → Moves a b
 moves_noted a b id ready d e engine wire x at now =
     moves_called a b [] (ap (λ (v : Engine). v.session) engine) ((refl, λ w. tt), refl, refl, refl)
     (record { outgoing = ap (λ (v : Engine). v.outgoing) engine; incoming = ap (λ (v : Engine). v.incoming) engine }) wire
-    (λ other. served_line id other a.lines b.lines d e [] (nat_eq id other) refl at (now other) (life_trades id [] d e (trades_noted id ready d e x)) (λ ne. (refl, refl, refl, refl, refl, refl)))
+    (λ other. served_connection id other a.connections b.connections d e [] (nat_eq id other) refl at (now other) (life_trades id [] d e (trades_noted id ready d e x)) (λ ne. (refl, refl, refl, refl, refl, refl)))
 
 -- the wire moved no byte, and was ended or shut both ways, as these say
 moves_closed : (a b : Tunnel) (ends : Bool) → b.engine ≡ a.engine → b.wire.left ≡ a.wire.left → b.wire.had ≡ a.wire.had → b.wire.over ≡ a.wire.over → b.wire.failed ≡ a.wire.failed →
@@ -446,7 +446,7 @@ moves_closed a b ends engine left had over failed ended shut same = record {
   shuts = false;
   shut = shut ∙ or_same a.wire.shut;
   lost = refl;
-  lines = still_lines a b [] same (λ id. (refl, refl, refl, refl, refl, refl));
+  connections = still_connections a b [] same (λ id. (refl, refl, refl, refl, refl, refl));
 }
 
 -- an event said something of the wire
@@ -479,7 +479,7 @@ moves_shut a b x w same = record {
   shuts = true;
   shut = w.shut ∙ or_true a.wire.shut;
   lost = x.heard;
-  lines = still_lines a b x.events same (λ id. quiet is_of_read (λ c. refl) id x.events x.own);
+  connections = still_connections a b x.events same (λ id. quiet is_of_read (λ c. refl) id x.events x.own);
 }
 
 -- a ping was asked, its answer collected, or a go away said

@@ -23,7 +23,7 @@ use Rattle.ymx_engine.proofs.Exchanging.{happen_then, taken_then, given_then, en
 
 -- ---- what is emitted waits
 
--- more is emitted behind what waits
+-- more is emitted after what waits
 pub puts_then : (out mid new : List ℕ) (es fs : List (Event × Reply)) → out ++ emitted es ≡ mid → mid ++ emitted fs ≡ new → out ++ emitted (es ++ fs) ≡ new
 puts_then out mid new es fs x y =
     ap (λ (v : List ℕ). out ++ v) (emitted_then es fs) ∙ sym (append_assoc out (emitted es) (emitted fs)) ∙ ap (λ (v : List ℕ). v ++ emitted fs) x ∙ y

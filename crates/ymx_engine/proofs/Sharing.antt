@@ -4,7 +4,7 @@ use Rattle.std.specs.Prelude.{Contains}
 use Rattle.std.proofs.lemmas.Bool.Decides.{nat_tests}
 use Rattle.ymx_engine.specs.Devices.{one_frame, one_turn}
 use Rattle.ymx_engine.specs.Tunnels.{Tunnel}
-use Rattle.ymx_engine.specs.Turns.{Lines, IsFirst, takes_busy}
+use Rattle.ymx_engine.specs.Turns.{Connections, IsFirst, takes_busy}
 use Rattle.ymx_engine.specs.Work.{ServesFirst, takes_more}
 
 is_some : (count : ℕ) → 0 < count → (count == 0) ≡ false
@@ -29,12 +29,12 @@ or_behind : (first other : ℕ) (rest : List ℕ) → Contains (first ∷ rest) 
 or_behind first other rest (zero, less, e) = inl (sym e)
 or_behind first other rest (suc k, less, e) = inr (k, omega (arith, less), e)
 
-waits_on : (busy : Bool) (id other : ℕ) (old new : Lines) → IsFirst busy id old new → Contains old.fresh other → (other ≡ id) ⊎ Contains new.fresh other
+waits_on : (busy : Bool) (id other : ℕ) (old new : Connections) → IsFirst busy id old new → Contains old.fresh other → (other ≡ id) ⊎ Contains new.fresh other
 waits_on true id other old new x waits = inr (subst (λ (v : List ℕ). Contains v other) (sym x.1) waits)
 waits_on false id other old new x waits = or_behind id other new.fresh (subst (λ (v : List ℕ). Contains v other) x.0 waits)
 
-pub among : (id gave : ℕ) (a b : Tunnel) → ServesFirst id gave a b → (other : ℕ) → Contains a.lines.fresh other → (other ≡ id) ⊎ (gave ≤ one_frame)
-among id gave a b x other waits = by (waits_on (takes_busy a.lines) id other a.lines x.taken x.first.first waits)
+pub among : (id gave : ℕ) (a b : Tunnel) → ServesFirst id gave a b → (other : ℕ) → Contains a.connections.fresh other → (other ≡ id) ⊎ (gave ≤ one_frame)
+among id gave a b x other waits = by (waits_on (takes_busy a.connections) id other a.connections x.taken x.first.first waits)
   where
     by : ((other ≡ id) ⊎ Contains x.taken.fresh other) → (other ≡ id) ⊎ (gave ≤ one_frame)
     by (inl same) = inl same

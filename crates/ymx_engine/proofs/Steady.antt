@@ -14,10 +14,10 @@ use Rattle.ymx_model.specs.declared.types.Response.{Response}
 use Rattle.ymx_model.specs.session.Records.{End, end_finish, end_reset}
 use Rattle.ymx_model.specs.session.FramesDue.{next_kind}
 use Rattle.ymx_model.specs.session.Tables.{remove_record}
-use Rattle.ymx_model.specs.session.Sessions.{Session, is_lost, is_running, is_broken, is_spent, on_stream, settle, nothing_outgoing}
+use Rattle.ymx_model.specs.session.Sessions.{Session, is_lost, is_running, is_broken, is_spent, on_stream, reap, nothing_outgoing}
 use Rattle.ymx_model.specs.session.Calls.{outcome, write_outcome, read_outcome, finish_outcome, reset_outcome}
-use Rattle.ymx_model.specs.session.Emissions.{Choice, begin, begin_answer, begin_stream, begin_kind, begins, alarm_frame, go_away_frame, ping_frame, moves_on, settles, Ready, Flows, in_turn}
-use Rattle.ymx_model.specs.session.Emissions.Choice.{TheAlarm, TheGoAway, TheAnswer, ThePing, AStream}
+use Rattle.ymx_model.specs.session.Emissions.{Choice, begin, begin_answer, begin_stream, begin_kind, begins, error_frame, go_away_frame, ping_frame, moves_on, reaps, Ready, Flows, in_turn}
+use Rattle.ymx_model.specs.session.Emissions.Choice.{TheErrorDue, TheGoAway, TheAnswer, ThePing, AStream}
 use Rattle.ymx_model.specs.session.GoAway.{away_due, begin_away}
 use Rattle.ymx_model.specs.session.Pings.{has_asked, begin_ping}
 use Rattle.ymx_model.specs.session.Events.{Event}
@@ -32,8 +32,8 @@ use Rattle.ymx_engine.specs.Serves.{is_of_turn}
 abbrev pub SameStatus : Session → Session → Type 0
 SameStatus s t = t.status ≡ s.status
 
-pub settled_status : (id : ℕ) (s : Session) → SameStatus s (settle id s)
-settled_status id s = split (SameStatus s) (is_spent s.table.window s.outgoing id (look id s.table.entries)) (record s { table = remove_record id s.table }) s (λ t. refl) (λ f. refl)
+pub reaped_status : (id : ℕ) (s : Session) → SameStatus s (reap id s)
+reaped_status id s = split (SameStatus s) (is_spent s.table.window s.outgoing id (look id s.table.entries)) (record s { table = remove_record id s.table }) s (λ t. refl) (λ f. refl)
 
 -- ---- calls on a stream
 
@@ -76,7 +76,7 @@ answer_status [] s t b = cc
 answer_status (r ∷ more) s t b = subst (SameStatus s) (one_some _ t b) refl
 
 begin_status : (c : Choice) (s t : Session) → begin c s ≡ Some t → SameStatus s t
-begin_status TheAlarm s t b = subst (SameStatus s) (sym (some_if (s.alarm && is_broken s.status) (begins alarm_frame (record s { alarm = false })) t b).1) refl
+begin_status TheErrorDue s t b = subst (SameStatus s) (sym (some_if (s.error_due && is_broken s.status) (begins error_frame (record s { error_due = false })) t b).1) refl
 begin_status TheGoAway s t b = subst (SameStatus s) (sym (some_if (is_running s.status && away_due s.away.here) (begins go_away_frame (record s { away = begin_away s.away })) t b).1) refl
 begin_status TheAnswer s t b = answer_status s.answers s t (if_some (is_running s.status) (begin_answer s.answers s) t b).1
 begin_status (ThePing n) s t b = subst (SameStatus s) (sym (some_if (is_running s.status && has_asked n s.pings.pending) (begins (ping_frame n) (record s { pings = begin_ping n s.pings })) t b).1) refl
@@ -86,14 +86,14 @@ ready_status : (may : Choice → Session → Bool) (s t : Session) → Ready may
 ready_status may s t (inl h) = subst (SameStatus s) (sym h.1) refl
 ready_status may s t (inr (e, (c, ok, b))) = begin_status c s t b
 
-settles_status : (of : Option ℕ) (s : Session) → SameStatus s (settles of s)
-settles_status None s = refl
-settles_status (Some id) s = settled_status id s
+reaps_status : (of : Option ℕ) (s : Session) → SameStatus s (reaps of s)
+reaps_status None s = refl
+reaps_status (Some id) s = reaped_status id s
 
 moves_status : (n : ℕ) (s : Session) → SameStatus s (moves_on n s)
 moves_status n s =
-    split (SameStatus s) (nat_lt n (length s.outgoing.bytes)) _ (settles s.outgoing.of (record s { outgoing = nothing_outgoing }))
-    (λ t. refl) (λ f. settles_status s.outgoing.of (record s { outgoing = nothing_outgoing }))
+    split (SameStatus s) (nat_lt n (length s.outgoing.bytes)) _ (reaps s.outgoing.of (record s { outgoing = nothing_outgoing }))
+    (λ t. refl) (λ f. reaps_status s.outgoing.of (record s { outgoing = nothing_outgoing }))
 
 flows_status : (may : Choice → Session → Bool) (bytes : List ℕ) (s t : Session) → Flows may bytes s t → SameStatus s t
 flows_status may [] s t e = ap (λ (x : Session). x.status) e

@@ -1,4 +1,4 @@
--- That of the bytes which are fed at once none stands behind a header that takes the last place.
+-- That of the bytes which are fed at once none stands after a header that takes the last place.
 use Rattle.std.proofs.Common.{◌≡◌, ◌⊎◌, inl, inr, ℕ, ◌+◌, ◌-◌, ◌*◌, ◌<◌, ◌≤◌, ◌==◌, ◌||◌, ◌&&◌, List, [], ◌∷◌, ◌++◌, length, length-append, take, drop, max, min, not, Bool, true, false, Option, None, Some, refl, sym, ap, ◌∙◌, subst, arith, if◌then◌else◌, nat_lt}
 use Rattle.std.proofs.lemmas.Bool.Decides.{nat_tests}
 use Rattle.std.proofs.lemmas.Grind.{common_steps}
@@ -23,7 +23,7 @@ use Rattle.ymx_model.specs.session.GoAway.{receive_away}
 use Rattle.ymx_model.specs.session.Histories.{Gives}
 use Rattle.ymx_model.specs.session.Pings.{receive_answer}
 use Rattle.ymx_model.specs.session.Records.{End, receive_rst, receive_piece}
-use Rattle.ymx_model.specs.session.Sessions.{Session, Incoming, breaks, is_deaf, is_own, is_running, on_stream, is_spent, settle}
+use Rattle.ymx_model.specs.session.Sessions.{Session, Incoming, breaks, is_deaf, is_own, is_running, on_stream, is_spent, reap}
 use Rattle.ymx_model.specs.session.Sessions.Incoming.{Head, Payload}
 use Rattle.ymx_model.specs.session.Tables.{insert_record, remove_record}
 use Rattle.ymx_session.specs.Opens.{records_left}
@@ -42,25 +42,25 @@ Opens most s = (length s.table.entries ≤ most) × ((places : ℕ) → 12 * pla
 start : (places : ℕ) → 12 * places ≤ limit_at (Head []) places
 start places = omega arith
 
-within : (id missing : ℕ) (fin stray : Bool) (places : ℕ) → 12 * places ≤ limit_at (Payload id missing fin stray) places
-within id missing fin stray places = omega arith
+within : (id missing : ℕ) (fin discarded : Bool) (places : ℕ) → 12 * places ≤ limit_at (Payload id missing fin discarded) places
+within id missing fin discarded places = omega arith
 
-opens_expects : (most : ℕ) (h : Header) (stray : Bool) (s : Session) → Opens most s → Opens most (expects h stray s)
-opens_expects most h stray s o = split (Opens most) (payload h == 0) s (record s { incoming = Payload h.id (payload h) (has_fin h) stray }) (λ e. o) (λ e. (o.0, within h.id (payload h) (has_fin h) stray))
+opens_expects : (most : ℕ) (h : Header) (discarded : Bool) (s : Session) → Opens most s → Opens most (expects h discarded s)
+opens_expects most h discarded s o = split (Opens most) (payload h == 0) s (record s { incoming = Payload h.id (payload h) (has_fin h) discarded }) (λ e. o) (λ e. (o.0, within h.id (payload h) (has_fin h) discarded))
 
 opens_change : (most id : ℕ) (f : End → End) (s : Session) → Opens most s → Opens most (on_stream id f s)
 opens_change most id f s o = let same = length-change id f s.table.entries in let few = o.0 in (omega (arith, same, few), o.1)
 
-opens_settled : (most id : ℕ) (s : Session) → Opens most s → Opens most (settle id s)
-opens_settled most id s o =
+opens_reaped : (most id : ℕ) (s : Session) → Opens most s → Opens most (reap id s)
+opens_reaped most id s o =
     split (Opens most) (is_spent s.table.window s.outgoing id (look id s.table.entries)) (record s { table = remove_record id s.table }) s
     (λ e. let fewer = length-without id s.table.entries in let few = o.0 in (omega (arith, fewer, few), o.1)) (λ e. o)
 
 opens_reset : (most id : ℕ) (e : End) (s : Session) → Opens most s → Opens most (reset_comes id e s)
 opens_reset most id e s o =
-    split (Opens most) (is_offered e.phase) (record s { table = remove_record id s.table; offered = drop_id id s.offered }) (settle id (on_stream id receive_rst s))
+    split (Opens most) (is_offered e.phase) (record s { table = remove_record id s.table; offered = drop_id id s.offered }) (reap id (on_stream id receive_rst s))
     (λ x. let fewer = length-without id s.table.entries in let few = o.0 in (omega (arith, fewer, few), o.1))
-    (λ x. opens_settled most id (on_stream id receive_rst s) (opens_change most id receive_rst s o))
+    (λ x. opens_reaped most id (on_stream id receive_rst s) (opens_change most id receive_rst s o))
 
 opens_meets : (most : ℕ) (h : Header) (e : End) (s : Session) → Opens most s → Opens most (meets h e s)
 opens_meets most h e s o =
@@ -113,7 +113,7 @@ opens_head most no_memory h s o =
 
 -- ---- a byte
 
--- One byte less may be fed at once behind it. Behind one that isn't the last of these no frame lacks a place.
+-- One byte less may be fed at once after it. After one that isn't the last of these no frame lacks a place.
 record Falls (s t : Session) : Type 0 where
   pub less : feed_limit s ≤ feed_limit t + 1
   pub last : 1 < feed_limit s → is_full_between t ≡ false
@@ -149,30 +149,30 @@ falls_begun b seen s e =
     let longer = length-append seen (b ∷ []) in
     record { less = omega (arith, limit, longer); last = λ many. is_inside (record s { incoming = Head (seen ++ b ∷ []) }) (within_header seen b) }
 
-falls_on : (id missing : ℕ) (fin stray : Bool) (s t : Session) → s.incoming ≡ Payload id missing fin stray → t.incoming ≡ Payload id (missing - 1) fin stray → length t.table.entries ≡ length s.table.entries → Falls s t
-falls_on id missing fin stray s t e f same =
+falls_on : (id missing : ℕ) (fin discarded : Bool) (s t : Session) → s.incoming ≡ Payload id missing fin discarded → t.incoming ≡ Payload id (missing - 1) fin discarded → length t.table.entries ≡ length s.table.entries → Falls s t
+falls_on id missing fin discarded s t e f same =
     let limit : limit_at s.incoming (records_left s) ≡ missing + 12 * records_left s = ap (λ (i : Incoming). limit_at i (records_left s)) e in
     let next : limit_at t.incoming (records_left t) ≡ missing - 1 + 12 * records_left t = ap (λ (i : Incoming). limit_at i (records_left t)) f in
     record { less = omega (arith, limit, next, same); last = λ many. is_inside t (ap is_between f) }
 
-falls_end : (id missing : ℕ) (fin stray : Bool) (s t : Session) → s.incoming ≡ Payload id missing fin stray → missing ≤ 1 → t.incoming ≡ Head [] → length t.table.entries ≡ length s.table.entries → Falls s t
-falls_end id missing fin stray s t e one f same =
+falls_end : (id missing : ℕ) (fin discarded : Bool) (s t : Session) → s.incoming ≡ Payload id missing fin discarded → missing ≤ 1 → t.incoming ≡ Head [] → length t.table.entries ≡ length s.table.entries → Falls s t
+falls_end id missing fin discarded s t e one f same =
     let limit : limit_at s.incoming (records_left s) ≡ missing + 12 * records_left s = ap (λ (i : Incoming). limit_at i (records_left s)) e in
     let next : limit_at t.incoming (records_left t) ≡ 12 * max 1 (records_left t) - 0 = ap (λ (i : Incoming). limit_at i (records_left t)) f in
     record { less = omega (arith, limit, next, same, one); last = λ many. has_place t (omega (arith, limit, same, one, many)) }
 
 -- which of the two a piece of a payload leaves
-piece_left : (b id missing : ℕ) (fin stray : Bool) (s : Session) → (piece_comes (b ∷ []) id missing fin stray s).incoming ≡ if nat_lt 1 missing then Payload id (missing - 1) fin stray else Head []
+piece_left : (b id missing : ℕ) (fin discarded : Bool) (s : Session) → (piece_comes (b ∷ []) id missing fin discarded s).incoming ≡ if nat_lt 1 missing then Payload id (missing - 1) fin discarded else Head []
 piece_left b id missing fin true s = refl
 piece_left b id missing fin false s = refl
 
-piece_records : (b id missing : ℕ) (fin stray : Bool) (s : Session) → length (piece_comes (b ∷ []) id missing fin stray s).table.entries ≡ length s.table.entries
+piece_records : (b id missing : ℕ) (fin discarded : Bool) (s : Session) → length (piece_comes (b ∷ []) id missing fin discarded s).table.entries ≡ length s.table.entries
 piece_records b id missing fin true s = refl
 piece_records b id missing fin false s = length-change id (receive_piece (fin && not (nat_lt 1 missing)) (b ∷ [])) s.table.entries
 
-falls_piece : (more : Bool) (id missing : ℕ) (fin stray : Bool) (s t : Session) → nat_lt 1 missing ≡ more → s.incoming ≡ Payload id missing fin stray → t.incoming ≡ (if more then Payload id (missing - 1) fin stray else Head []) → length t.table.entries ≡ length s.table.entries → Falls s t
-falls_piece true id missing fin stray s t h e f same = falls_on id missing fin stray s t e f same
-falls_piece false id missing fin stray s t h e f same = falls_end id missing fin stray s t e (not_lt 1 missing h) f same
+falls_piece : (more : Bool) (id missing : ℕ) (fin discarded : Bool) (s t : Session) → nat_lt 1 missing ≡ more → s.incoming ≡ Payload id missing fin discarded → t.incoming ≡ (if more then Payload id (missing - 1) fin discarded else Head []) → length t.table.entries ≡ length s.table.entries → Falls s t
+falls_piece true id missing fin discarded s t h e f same = falls_on id missing fin discarded s t e f same
+falls_piece false id missing fin discarded s t h e f same = falls_end id missing fin discarded s t e (not_lt 1 missing h) f same
 
 byte_in_falls : (no_memory : Bool) (b : ℕ) (s : Session) (i : Incoming) → s.incoming ≡ i → Falls s (byte_in no_memory b s i)
 byte_in_falls no_memory b s (Head seen) e =
@@ -180,8 +180,8 @@ byte_in_falls no_memory b s (Head seen) e =
     (λ x. falls_whole seen s (head_comes no_memory (header_of (seen ++ b ∷ [])) (record s { incoming = Head [] })) e (agrees (length seen) 11 x)
     (opens_head (length s.table.entries) no_memory (header_of (seen ++ b ∷ [])) (record s { incoming = Head [] }) (omega arith, start)))
     (λ x. falls_begun b seen s e)
-byte_in_falls no_memory b s (Payload id missing fin stray) e =
-    falls_piece (nat_lt 1 missing) id missing fin stray s (piece_comes (b ∷ []) id missing fin stray s) refl e (piece_left b id missing fin stray s) (piece_records b id missing fin stray s)
+byte_in_falls no_memory b s (Payload id missing fin discarded) e =
+    falls_piece (nat_lt 1 missing) id missing fin discarded s (piece_comes (b ∷ []) id missing fin discarded s) refl e (piece_left b id missing fin discarded s) (piece_records b id missing fin discarded s)
 
 deaf_stops : (status : Status) → is_deaf status ≡ true → is_running status ≡ false
 deaf_stops Running e = cc
@@ -225,7 +225,7 @@ feeds_placed e f told s waits x rest few same left = record {
 -- no more than lacks of a payload
 rest_fits : (i : Incoming) (places most count : ℕ) → count ≤ min most (max (payload_left i) 1) → count ≤ max 1 (limit_at i places)
 rest_fits (Head begun) places most count few = omega arith
-rest_fits (Payload id missing fin stray) places most count few = omega arith
+rest_fits (Payload id missing fin discarded) places most count few = omega arith
 
 pub payload_fits : (s : Session) (left lack most count taken : ℕ) → left ≡ payload_left s.incoming → lack ≡ max left 1 → count ≡ min most lack → taken ≤ count → taken ≤ feed_limit s
 payload_fits s left lack most count taken e f g few = rest_fits s.incoming (records_left s) most taken (omega arith)

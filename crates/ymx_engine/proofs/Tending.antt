@@ -30,7 +30,7 @@ use Rattle.ymx_session.specs.Passing.{FeedsSome}
 use Rattle.ymx_session.specs.Streams.{room_of}
 use Rattle.ymx_session.specs.Touched.{Noted, is_noted, NotesChanges}
 use Rattle.ymx_engine.specs.declared.device.Readiness.{Readiness}
-use Rattle.ymx_engine.specs.declared.ways.Ways.{Ways}
+use Rattle.ymx_engine.specs.declared.directions.Directions.{Directions}
 use Rattle.ymx_engine.specs.Devices.{Seen}
 use Rattle.ymx_engine.specs.Joins.{Joins, DropsOut}
 use Rattle.ymx_engine.specs.Refusals.{GivesUp}
@@ -38,8 +38,8 @@ use Rattle.ymx_engine.specs.Served.{IsServed, Serving, ServingBut, GainsNone}
 use Rattle.ymx_engine.specs.Serves.{is_of_turn, is_silent, is_stopped, Turn}
 use Rattle.ymx_engine.specs.Steps.{TakesPart}
 use Rattle.ymx_engine.specs.Tunnels.{Tunnel}
-use Rattle.ymx_engine.specs.Turns.{Line, Lines, line_of, Awaits, Attended, SameLines, LeavesQueues, Puts, KeepsLines, KeepsOthers, TakesTurn, IsFirst, takes_busy, Notes}
-use Rattle.ymx_engine.specs.Ways.{is_open, may_push, may_pull}
+use Rattle.ymx_engine.specs.Turns.{Connection, Connections, connection_of, Awaits, Attended, SameConnections, LeavesQueues, Puts, KeepsConnections, KeepsOthers, TakesTurn, IsFirst, takes_busy, Notes}
+use Rattle.ymx_engine.specs.Directions.{is_open, may_push, may_pull}
 use Rattle.ymx_engine.proofs.Coming.{exchanges_calm}
 use Rattle.ymx_engine.proofs.Ending.{none_there, offered_there}
 use Rattle.ymx_engine.proofs.Forgetting.{fed_goes}
@@ -47,8 +47,8 @@ use Rattle.ymx_engine.proofs.Gaining.{NoneGain, gains_then, gains_none, gains_st
 use Rattle.ymx_engine.proofs.Entries.{eq_ids, is_some_at}
 use Rattle.ymx_engine.proofs.Marking.{popped}
 use Rattle.ymx_engine.proofs.Turning.{left_waits}
-use Rattle.ymx_engine.proofs.Queueing.{keeps_same, keeps_then, await_on, attended_on, attended_held, line_put_at, line_put_other, extends_added, others_put}
-use Rattle.ymx_engine.proofs.Steady.{steady_all, turn_steady, settled_status, called_status, reset_stays}
+use Rattle.ymx_engine.proofs.Queueing.{keeps_same, keeps_then, await_on, attended_on, attended_held, connection_put_at, connection_put_other, extends_added, others_put}
+use Rattle.ymx_engine.proofs.Steady.{steady_all, turn_steady, reaped_status, called_status, reset_stays}
 
 -- the session keeps its limits, no stream gained anything, and it runs on if it ran
 pub record Calms (s t : Session) : Type 0 where
@@ -76,30 +76,30 @@ but_same id s t e w = calms_but id s t (calms_same s t e w)
 
 -- ---- what stays served
 
-served_at : (id : ℕ) (a b : Tunnel) → GainsNone id a.engine.session b.engine.session → (is_running b.engine.session.status ≡ false → is_running a.engine.session.status ≡ false) → line_of id b.lines ≡ line_of id a.lines →
-    (IsSome (line_of id a.lines) → Awaits id a.lines → Awaits id b.lines) → (IsSome (line_of id a.lines) → Contains a.lines.held id → Attended id b.lines) → IsServed id a → IsServed id b
+served_at : (id : ℕ) (a b : Tunnel) → GainsNone id a.engine.session b.engine.session → (is_running b.engine.session.status ≡ false → is_running a.engine.session.status ≡ false) → connection_of id b.connections ≡ connection_of id a.connections →
+    (IsSome (connection_of id a.connections) → Awaits id a.connections → Awaits id b.connections) → (IsSome (connection_of id a.connections) → Contains a.connections.held id → Attended id b.connections) → IsServed id a → IsServed id b
 served_at id a b came runs same on holds before = record {
   gets = λ l there may some. let was = sym same ∙ there in on (is_some_at was) (before.gets l was may (came.bytes some));
-  gives = λ l there may some. let was = sym same ∙ there in attended_on id a.lines b.lines (on (is_some_at was)) (holds (is_some_at was)) (before.gives l was may (came.room some));
+  gives = λ l there may some. let was = sym same ∙ there in attended_on id a.connections b.connections (on (is_some_at was)) (holds (is_some_at was)) (before.gives l was may (came.room some));
   hears = λ l there over opened. let was = sym same ∙ there in on (is_some_at was) (before.hears l was (runs over) opened);
   ends = λ l there may silent. let was = sym same ∙ there in on (is_some_at was) (before.ends l was may (came.silence silent));
   stops = λ l there opened stopped. let was = sym same ∙ there in on (is_some_at was) (before.stops l was opened (came.stop stopped));
 }
 
-pub serving_kept : (a b : Tunnel) → (IsWithin a.engine.session → Calms a.engine.session b.engine.session) → KeepsLines a.lines b.lines → Serving a → Serving b
+pub serving_kept : (a b : Tunnel) → (IsWithin a.engine.session → Calms a.engine.session b.engine.session) → KeepsConnections a.connections b.connections → Serving a → Serving b
 serving_kept a b calm keeps h =
     let q = calm h.within in
-    record { within = q.within; each = λ id. served_at id a b (q.came id) q.runs (keeps.lines id) (keeps.awaits id) (keeps.holds id) (h.each id) }
+    record { within = q.within; each = λ id. served_at id a b (q.came id) q.runs (keeps.connections id) (keeps.awaits id) (keeps.holds id) (h.each id) }
 
 -- where the session stays
-pub serving_lines : (a b : Tunnel) → b.engine.session ≡ a.engine.session → KeepsLines a.lines b.lines → Serving a → Serving b
-serving_lines a b e keeps = serving_kept a b (calms_same a.engine.session b.engine.session e) keeps
+pub serving_connections : (a b : Tunnel) → b.engine.session ≡ a.engine.session → KeepsConnections a.connections b.connections → Serving a → Serving b
+serving_connections a b e keeps = serving_kept a b (calms_same a.engine.session b.engine.session e) keeps
 
 -- where the connections stay
-pub serving_session : (a b : Tunnel) → (IsWithin a.engine.session → Calms a.engine.session b.engine.session) → b.lines ≡ a.lines → Serving a → Serving b
-serving_session a b calm same = serving_kept a b calm (subst (KeepsLines a.lines) (sym same) (keeps_same a.lines))
+pub serving_session : (a b : Tunnel) → (IsWithin a.engine.session → Calms a.engine.session b.engine.session) → b.connections ≡ a.connections → Serving a → Serving b
+serving_session a b calm same = serving_kept a b calm (subst (KeepsConnections a.connections) (sym same) (keeps_same a.connections))
 
-pub serving_alike : (a b : Tunnel) → b.engine.session ≡ a.engine.session → b.lines ≡ a.lines → Serving a → Serving b
+pub serving_alike : (a b : Tunnel) → b.engine.session ≡ a.engine.session → b.connections ≡ a.connections → Serving a → Serving b
 serving_alike a b e same = serving_session a b (calms_same a.engine.session b.engine.session e) same
 
 pub serving_from : (a b c : Tunnel) → a ≡ b → (Serving a → Serving c) → Serving b → Serving c
@@ -112,7 +112,7 @@ pub but_of : (id : ℕ) (a : Tunnel) → Serving a → ServingBut id a
 but_of id a h = record { within = h.within; each = λ other ne. h.each other }
 
 -- where all have a turn
-pub serving_all : (b : Tunnel) → IsWithin b.engine.session → ((id : ℕ) → IsSome (line_of id b.lines) → Awaits id b.lines) → Serving b
+pub serving_all : (b : Tunnel) → IsWithin b.engine.session → ((id : ℕ) → IsSome (connection_of id b.connections) → Awaits id b.connections) → Serving b
 serving_all b w all = record {
   within = w;
   each = λ id. record {
@@ -125,20 +125,20 @@ serving_all b w all = record {
 }
 
 -- a connection that waits for its turn
-pub served_waits : (id : ℕ) (b : Tunnel) → Awaits id b.lines → IsServed id b
+pub served_waits : (id : ℕ) (b : Tunnel) → Awaits id b.connections → IsServed id b
 served_waits id b waits = record { gets = λ l there may some. waits; gives = λ l there may some. inl waits; hears = λ l there over opened. waits; ends = λ l there may silent. waits; stops = λ l there opened stopped. waits }
 
 -- one that is served with the others
-pub serving_with : (id : ℕ) (a b : Tunnel) → (IsWithin a.engine.session → CalmsBut id a.engine.session b.engine.session) → KeepsOthers id a.lines b.lines → (IsWithin a.engine.session → IsServed id b) → ServingBut id a → Serving b
+pub serving_with : (id : ℕ) (a b : Tunnel) → (IsWithin a.engine.session → CalmsBut id a.engine.session b.engine.session) → KeepsOthers id a.connections b.connections → (IsWithin a.engine.session → IsServed id b) → ServingBut id a → Serving b
 serving_with id a b calm others own h =
     let q = calm h.within in record { within = q.within; each = λ other. by q other (nat_eq id other) refl }
   where
     by : CalmsBut id a.engine.session b.engine.session → (other : ℕ) (t : Bool) → nat_eq id other ≡ t → IsServed other b
     by q other true t = subst (λ (n : ℕ). IsServed n b) (sym (eq_ids id other t)) (own h.within)
-    by q other false t = served_at other a b (q.came other t) q.runs (others.lines other t) (others.awaits other t) (others.holds other t) (h.each other t)
+    by q other false t = served_at other a b (q.came other t) q.runs (others.connections other t) (others.awaits other t) (others.holds other t) (h.each other t)
 
 -- one that isn't there waits for nothing
-pub served_none : (id : ℕ) (b : Tunnel) → line_of id b.lines ≡ None → IsServed id b
+pub served_none : (id : ℕ) (b : Tunnel) → connection_of id b.connections ≡ None → IsServed id b
 served_none id b none = record {
   gets = λ l there may some. let no : None ≡ Some l = sym none ∙ there in absurd cc;
   gives = λ l there may some. let no : None ≡ Some l = sym none ∙ there in absurd cc;
@@ -147,7 +147,7 @@ served_none id b none = record {
   stops = λ l there opened stopped. let no : None ≡ Some l = sym none ∙ there in absurd cc;
 }
 
-pub serving_unserved : (id : ℕ) (a b : Tunnel) → b ≡ a → line_of id a.lines ≡ None → ServingBut id a → Serving b
+pub serving_unserved : (id : ℕ) (a b : Tunnel) → b ≡ a → connection_of id a.connections ≡ None → ServingBut id a → Serving b
 serving_unserved id a b e none h = subst Serving (sym e) (record { within = h.within; each = λ other. by other (nat_eq id other) refl })
   where
     by : (other : ℕ) (t : Bool) → nat_eq id other ≡ t → IsServed other a
@@ -167,9 +167,9 @@ both_run (Broken f) b h k = cc
 both_run Closed b h k = cc
 
 -- Those whom a feed touched were called, and of the others no bytes came; where the session is over then, all were called.
-pub serving_fed : (n : Noted) (input : List ℕ) (f : Fed) (a b : Tunnel) (t : Session) (q : Lines) → FeedsSome a.engine.session input f t → NotesChanges a.engine.session t n → KeepsLines a.lines q →
-    ((id : ℕ) → is_noted id n ≡ true → IsSome (line_of id a.lines) → Awaits id q) → b.engine.session ≡ t → KeepsLines q b.lines →
-    (is_running b.engine.session.status ≡ false → (id : ℕ) → IsSome (line_of id b.lines) → Awaits id b.lines) → Serving a → Serving b
+pub serving_fed : (n : Noted) (input : List ℕ) (f : Fed) (a b : Tunnel) (t : Session) (q : Connections) → FeedsSome a.engine.session input f t → NotesChanges a.engine.session t n → KeepsConnections a.connections q →
+    ((id : ℕ) → is_noted id n ≡ true → IsSome (connection_of id a.connections) → Awaits id q) → b.engine.session ≡ t → KeepsConnections q b.connections →
+    (is_running b.engine.session.status ≡ false → (id : ℕ) → IsSome (connection_of id b.connections) → Awaits id b.connections) → Serving a → Serving b
 serving_fed n input f a b t q x notes keeps all same later over h = by (is_running b.engine.session.status) refl
   where
     within : IsWithin b.engine.session
@@ -179,10 +179,10 @@ serving_fed n input f a b t q x notes keeps all same later over h = by (is_runni
     runs_no_more true p q = let no : true ≡ false = q in cc
     runs_no_more false p q = let no : false ≡ true = p in cc
 
-    called : (id : ℕ) → is_noted id n ≡ true → (l : Line) → line_of id b.lines ≡ Some l → Awaits id b.lines
+    called : (id : ℕ) → is_noted id n ≡ true → (l : Connection) → connection_of id b.connections ≡ Some l → Awaits id b.connections
     called id is l there =
-        let was : line_of id q ≡ Some l = sym (later.lines id) ∙ there in
-        let first : line_of id a.lines ≡ Some l = sym (keeps.lines id) ∙ was in
+        let was : connection_of id q ≡ Some l = sym (later.connections id) ∙ there in
+        let first : connection_of id a.connections ≡ Some l = sym (keeps.connections id) ∙ was in
         later.awaits id (is_some_at was) (all id is (is_some_at first))
 
     each : is_running b.engine.session.status ≡ true → (id : ℕ) (noted : Bool) → is_noted id n ≡ noted → IsServed id b
@@ -191,8 +191,8 @@ serving_fed n input f a b t q x notes keeps all same later over h = by (is_runni
         let goes = ap (λ (v : Session). is_running v.status) (sym same) ∙ runs in
         let status : t.status ≡ a.engine.session.status = both_run t.status a.engine.session.status goes ((fed_goes (take x.count input) f a.engine.session t x.feeds).1 goes) in
         let came : GainsNone id a.engine.session t = gains_same id a.engine.session t status (notes.streams id is) in
-        let both = keeps_then a.lines q b.lines keeps later in
-        served_at id a b (subst (GainsNone id a.engine.session) (sym same) came) (λ stops. absurd (runs_no_more (is_running b.engine.session.status) runs stops)) (both.lines id) (both.awaits id) (both.holds id) (h.each id)
+        let both = keeps_then a.connections q b.connections keeps later in
+        served_at id a b (subst (GainsNone id a.engine.session) (sym same) came) (λ stops. absurd (runs_no_more (is_running b.engine.session.status) runs stops)) (both.connections id) (both.awaits id) (both.holds id) (h.each id)
 
     by : (r : Bool) → is_running b.engine.session.status ≡ r → Serving b
     by true r = record { within = within; each = λ id. each r id (is_noted id n) refl }
@@ -218,7 +218,7 @@ differ : (id other : ℕ) → nat_eq id other ≡ false → other ≢ id
 differ id other ne = grind (arith, nat_tests)
 
 forget_status : (id : ℕ) (s : Session) → (outcome (call.Forget id) s).next.status ≡ s.status
-forget_status id s = forget-stays (λ (t : Session). t.status ≡ s.status) id s (record { now = refl; changed = λ f. refl; gone = λ f. settled_status id (on_stream id f s) })
+forget_status id s = forget-stays (λ (t : Session). t.status ≡ s.status) id s (record { now = refl; changed = λ f. refl; gone = λ f. reaped_status id (on_stream id f s) })
 
 others_calm : (id : ℕ) (s t : Session) → t.status ≡ s.status → ((j : ℕ) → j ≢ id → look_up j t.table.entries ≡ look_up j s.table.entries) → IsWithin t → CalmsBut id s t
 others_calm id s t status same w = record {
@@ -252,14 +252,14 @@ given_up_calm id s t x w =
     but_then id s x.between t r (forgotten_calm id x.told_forget x.between t x.forgotten r.within)
 
 -- its connection is there no more
-pub serving_gone : (id : ℕ) (a b : Tunnel) → (IsWithin a.engine.session → CalmsBut id a.engine.session b.engine.session) → Puts id None a.lines b.lines → LeavesQueues id a.lines b.lines → ServingBut id a → Serving b
+pub serving_gone : (id : ℕ) (a b : Tunnel) → (IsWithin a.engine.session → CalmsBut id a.engine.session b.engine.session) → Puts id None a.connections b.connections → LeavesQueues id a.connections b.connections → ServingBut id a → Serving b
 serving_gone id a b calm puts q h =
     let w = calm h.within in record { within = w.within; each = λ other. by w other (nat_eq id other) refl }
   where
     by : CalmsBut id a.engine.session b.engine.session → (other : ℕ) (t : Bool) → nat_eq id other ≡ t → IsServed other b
-    by w other true t = subst (λ (n : ℕ). IsServed n b) (sym (eq_ids id other t)) (served_none id b (line_put_at id None a.lines b.lines puts))
+    by w other true t = subst (λ (n : ℕ). IsServed n b) (sym (eq_ids id other t)) (served_none id b (connection_put_at id None a.connections b.connections puts))
     by w other false t =
-        served_at other a b (w.came other t) w.runs (line_put_other id other None a.lines b.lines puts t) (λ some. await_on other a.lines b.lines (left_waits id other a.lines b.lines t q) (λ m. q.missed ∙ m)) (λ some c. attended_held a.lines b.lines q.held other c) (h.each other t)
+        served_at other a b (w.came other t) w.runs (connection_put_other id other None a.connections b.connections puts t) (λ some. await_on other a.connections b.connections (left_waits id other a.connections b.connections t q) (λ m. q.missed ∙ m)) (λ some c. attended_held a.connections b.connections q.held other c) (h.each other t)
 
 -- a stream that has no connection was given up
 pub serving_dropped : (id : ℕ) (a b : Tunnel) → DropsOut id a b → ServingBut id a → Serving b
@@ -267,12 +267,12 @@ serving_dropped id a b x h =
     let q = given_up_calm id a.engine.session b.engine.session x.up h.within in
     record { within = q.within; each = λ other. by q other (nat_eq id other) refl }
   where
-    still : (other : ℕ) → Awaits other a.lines → Awaits other b.lines
-    still other w = subst (Awaits other) (sym x.lines) w
+    still : (other : ℕ) → Awaits other a.connections → Awaits other b.connections
+    still other w = subst (Awaits other) (sym x.connections) w
 
     by : CalmsBut id a.engine.session b.engine.session → (other : ℕ) (t : Bool) → nat_eq id other ≡ t → IsServed other b
-    by q other true t = subst (λ (n : ℕ). IsServed n b) (sym (eq_ids id other t)) (served_none id b (ap (line_of id) x.lines ∙ x.free))
-    by q other false t = served_at other a b (q.came other t) q.runs (ap (line_of other) x.lines) (λ some. still other) (λ some w. attended_held a.lines b.lines (ap (λ (l : Lines). l.held) x.lines) other w) (h.each other t)
+    by q other true t = subst (λ (n : ℕ). IsServed n b) (sym (eq_ids id other t)) (served_none id b (ap (connection_of id) x.connections ∙ x.free))
+    by q other false t = served_at other a b (q.came other t) q.runs (ap (connection_of other) x.connections) (λ some. still other) (λ some w. attended_held a.connections b.connections (ap (λ (l : Connections). l.held) x.connections) other w) (h.each other t)
 
 -- an open gives the next own id
 opened_id : (id : ℕ) (s : Session) → reply.Opened id ≡ (open_stream s).reply → id ≡ s.next
@@ -350,19 +350,19 @@ accepted_fresh id s t (HasOutcome answer state) w = offered_there id s (sym (w.o
 accepted_fresh id s t (NoMemory needs answer state) w = cc
 
 -- the others are served where one stream changed
-pub serving_but : (id : ℕ) (a b : Tunnel) → (IsWithin a.engine.session → CalmsBut id a.engine.session b.engine.session) → KeepsLines a.lines b.lines → Serving a → ServingBut id b
+pub serving_but : (id : ℕ) (a b : Tunnel) → (IsWithin a.engine.session → CalmsBut id a.engine.session b.engine.session) → KeepsConnections a.connections b.connections → Serving a → ServingBut id b
 serving_but id a b calm keeps h =
     let q = calm h.within in
-    record { within = q.within; each = λ other ne. served_at other a b (q.came other ne) q.runs (keeps.lines other) (keeps.awaits other) (keeps.holds other) (h.each other) }
+    record { within = q.within; each = λ other ne. served_at other a b (q.came other ne) q.runs (keeps.connections other) (keeps.awaits other) (keeps.holds other) (h.each other) }
 
 -- a device joined it, and waits for a turn
 pub serving_joined : (id : ℕ) (seen : Seen) (a b : Tunnel) → Joins id seen a b → ServingBut id a → Serving b
 serving_joined id seen a b x =
-    serving_with id a b (λ w. but_same id a.engine.session b.engine.session (ap (λ e. e.session) x.engine) w) (others_put id _ a.lines b.lines x.lines.lines (extends_added id a.lines b.lines x.lines.turn) x.lines.turn.missed
-    (λ other h. subst (λ (v : List ℕ). Contains v other) (sym x.lines.turn.held) h)) (λ w. served_waits id b (inl x.lines.waits))
+    serving_with id a b (λ w. but_same id a.engine.session b.engine.session (ap (λ e. e.session) x.engine) w) (others_put id _ a.connections b.connections x.connections.connections (extends_added id a.connections b.connections x.connections.turn) x.connections.turn.missed
+    (λ other h. subst (λ (v : List ℕ). Contains v other) (sym x.connections.turn.held) h)) (λ w. served_waits id b (inl x.connections.waits))
 
 -- it has one already, which is what it was
-pub serving_there : (id : ℕ) (a b : Tunnel) → (IsWithin a.engine.session → CalmsBut id a.engine.session b.engine.session) → KeepsLines a.lines b.lines → IsServed id b → Serving a → Serving b
+pub serving_there : (id : ℕ) (a b : Tunnel) → (IsWithin a.engine.session → CalmsBut id a.engine.session b.engine.session) → KeepsConnections a.connections b.connections → IsServed id b → Serving a → Serving b
 serving_there id a b calm keeps own h =
     let q = serving_but id a b calm keeps h in record { within = q.within; each = λ other. by q other (nat_eq id other) refl }
   where
@@ -372,50 +372,50 @@ serving_there id a b calm keeps own h =
 
 -- ---- whose turn it is
 
-awaits_popped : (busy : Bool) (id other : ℕ) (a b : Lines) → IsFirst busy id a b → b.missed ≡ a.missed → nat_eq id other ≡ false → Awaits other a → Awaits other b
+awaits_popped : (busy : Bool) (id other : ℕ) (a b : Connections) → IsFirst busy id a b → b.missed ≡ a.missed → nat_eq id other ≡ false → Awaits other a → Awaits other b
 awaits_popped true id other a b f m ne (inl (inl x)) = inl (inl (subst (λ (v : List ℕ). Contains v other) (sym f.1) x))
 awaits_popped true id other a b f m ne (inl (inr x)) = inl (inr (popped a.busy b.busy id other f.0 ne x))
 awaits_popped false id other a b f m ne (inl (inl x)) = inl (inl (popped a.fresh b.fresh id other f.0 ne x))
 awaits_popped false id other a b f m ne (inl (inr x)) = inl (inr (subst (λ (v : List ℕ). Contains v other) (sym f.1) x))
 awaits_popped busy id other a b f m ne (inr x) = inr (m ∙ x)
 
-pub serving_turn : (id : ℕ) (a b : Tunnel) → b.engine ≡ a.engine → SameLines a.lines b.lines → TakesTurn id a.lines b.lines → b.lines.missed ≡ a.lines.missed → b.lines.held ≡ a.lines.held → Serving a → ServingBut id b
+pub serving_turn : (id : ℕ) (a b : Tunnel) → b.engine ≡ a.engine → SameConnections a.connections b.connections → TakesTurn id a.connections b.connections → b.connections.missed ≡ a.connections.missed → b.connections.held ≡ a.connections.held → Serving a → ServingBut id b
 serving_turn id a b e same takes m held h =
     let q = calms_same a.engine.session b.engine.session (ap (λ v. v.session) e) h.within in
-    record { within = q.within; each = λ other ne. served_at other a b (q.came other) q.runs (same other) (λ some. awaits_popped (takes_busy a.lines) id other a.lines b.lines takes.first m ne) (λ some. attended_held a.lines b.lines held other) (h.each other) }
+    record { within = q.within; each = λ other ne. served_at other a b (q.came other) q.runs (same other) (λ some. awaits_popped (takes_busy a.connections) id other a.connections b.connections takes.first m ne) (λ some. attended_held a.connections b.connections held other) (h.each other) }
 
 -- ---- a turn
 
-pub turn_calm : (id most : ℕ) (s t : Session) (out out_new : List ℕ) (before after : Seen) (was now : Ways) (more : Bool) (gave : ℕ) → Turn id most s t out out_new before after was now more gave → IsWithin s → CalmsBut id s t
+pub turn_calm : (id most : ℕ) (s t : Session) (out out_new : List ℕ) (before after : Seen) (was now : Directions) (more : Bool) (gave : ℕ) → Turn id most s t out out_new before after was now more gave → IsWithin s → CalmsBut id s t
 turn_calm id most s t out out_new before after was now more gave x w =
     let calm = exchanges_calm id s t out out_new before after x.moved w in
     record { within = calm.within; came = turn_gains id x.moved.events s t x.moved.happen x.moved.own w; runs = same_runs s t (steady_all (is_of_turn id) (turn_steady id) x.moved.events s t x.moved.happen x.moved.own) }
 
-part_served : (id most : ℕ) (was : Line) (a b : Tunnel) (gave : ℕ) → TakesPart id most was a.engine.session b.engine.session a.engine.outgoing b.engine.outgoing a.lines b.lines gave → IsWithin a.engine.session → IsServed id b
+part_served : (id most : ℕ) (was : Connection) (a b : Tunnel) (gave : ℕ) → TakesPart id most was a.engine.session b.engine.session a.engine.outgoing b.engine.outgoing a.connections b.connections gave → IsWithin a.engine.session → IsServed id b
 part_served id most was a b gave x w = record {
-  gets = λ l there may some. x.again (x.turn.stays w (subst (λ (v : Line). may_push v.ways v.seen.marks ≡ true) (is_now l there) may) some);
-  gives = λ l there may some. by (most == 0) refl (subst (λ (v : Line). may_pull v.ways v.seen.marks ≡ true) (is_now l there) may) some;
-  hears = λ l there over opened. x.again (x.turn.hears over (subst (λ (v : Line). is_open v.ways.to_peer ≡ true) (is_now l there) opened));
-  ends = λ l there may silent. x.again (x.turn.ends_on (subst (λ (v : Line). may_push v.ways v.seen.marks ≡ true) (is_now l there) may) silent);
-  stops = λ l there opened stopped. x.again (x.turn.stops_on (subst (λ (v : Line). is_open v.ways.to_peer ≡ true) (is_now l there) opened) stopped);
+  gets = λ l there may some. x.again (x.turn.stays w (subst (λ (v : Connection). may_push v.directions v.seen.marks ≡ true) (is_now l there) may) some);
+  gives = λ l there may some. by (most == 0) refl (subst (λ (v : Connection). may_pull v.directions v.seen.marks ≡ true) (is_now l there) may) some;
+  hears = λ l there over opened. x.again (x.turn.hears over (subst (λ (v : Connection). is_open v.directions.to_peer ≡ true) (is_now l there) opened));
+  ends = λ l there may silent. x.again (x.turn.ends_on (subst (λ (v : Connection). may_push v.directions v.seen.marks ≡ true) (is_now l there) may) silent);
+  stops = λ l there opened stopped. x.again (x.turn.stops_on (subst (λ (v : Connection). is_open v.directions.to_peer ≡ true) (is_now l there) opened) stopped);
 }
   where
-    is_now : (l : Line) → line_of id b.lines ≡ Some l → l ≡ x.now
-    is_now l there = let e : Some l ≡ Some x.now = sym there ∙ line_put_at id (Some x.now) a.lines b.lines x.lines in cc
+    is_now : (l : Connection) → connection_of id b.connections ≡ Some l → l ≡ x.now
+    is_now l there = let e : Some l ≡ Some x.now = sym there ∙ connection_put_at id (Some x.now) a.connections b.connections x.connections in cc
 
-    by : (none : Bool) → (most == 0) ≡ none → may_pull x.now.ways x.now.seen.marks ≡ true → 0 < room_of id b.engine.session → Attended id b.lines
+    by : (none : Bool) → (most == 0) ≡ none → may_pull x.now.directions x.now.seen.marks ≡ true → 0 < room_of id b.engine.session → Attended id b.connections
     by true e may some = x.put_off (grind (arith, nat_tests)) may
     by false e may some = inl (x.again (x.turn.asks_on (grind (arith, nat_tests)) may some))
 
-pub serving_part : (id most : ℕ) (was : Line) (a b : Tunnel) (gave : ℕ) → TakesPart id most was a.engine.session b.engine.session a.engine.outgoing b.engine.outgoing a.lines b.lines gave → KeepsOthers id a.lines b.lines → ServingBut id a → Serving b
+pub serving_part : (id most : ℕ) (was : Connection) (a b : Tunnel) (gave : ℕ) → TakesPart id most was a.engine.session b.engine.session a.engine.outgoing b.engine.outgoing a.connections b.connections gave → KeepsOthers id a.connections b.connections → ServingBut id a → Serving b
 serving_part id most was a b gave x others =
-    serving_with id a b (turn_calm id most a.engine.session b.engine.session a.engine.outgoing b.engine.outgoing was.seen x.now.seen was.ways x.now.ways x.more gave x.turn) others (λ w. part_served id most was a b gave x w)
+    serving_with id a b (turn_calm id most a.engine.session b.engine.session a.engine.outgoing b.engine.outgoing was.seen x.now.seen was.directions x.now.directions x.more gave x.turn) others (λ w. part_served id most was a b gave x w)
 
 -- ---- what an event said of a device
 
-pub serving_noted : (id : ℕ) (ready : Readiness) (was : Line) (a b : Tunnel) → b.engine ≡ a.engine → Notes id ready was a.lines b.lines → Serving a → Serving b
+pub serving_noted : (id : ℕ) (ready : Readiness) (was : Connection) (a b : Tunnel) → b.engine ≡ a.engine → Notes id ready was a.connections b.connections → Serving a → Serving b
 serving_noted id ready was a b e x h =
-    serving_with id a b (λ w. but_same id a.engine.session b.engine.session (ap (λ v. v.session) e) w) (others_put id _ a.lines b.lines x.lines (extends_added id a.lines b.lines x.turn) x.turn.missed
+    serving_with id a b (λ w. but_same id a.engine.session b.engine.session (ap (λ v. v.session) e) w) (others_put id _ a.connections b.connections x.connections (extends_added id a.connections b.connections x.turn) x.turn.missed
     (λ other h. subst (λ (v : List ℕ). Contains v other) (sym x.turn.held) h)) (λ w. served_waits id b x.awaits) (but_of id a h)
 
 -- ---- pings

@@ -13,7 +13,7 @@ use Rattle.ymx_engine.specs.Events.{taken, given, has_end, has_finish, has_reset
 use Rattle.ymx_engine.specs.Exchanges.{has_bytes}
 use Rattle.ymx_engine.specs.Engines.{Engine}
 use Rattle.ymx_engine.specs.Passes.{PassesOn}
-use Rattle.ymx_engine.specs.declared.ways.Ways.{Ways}
+use Rattle.ymx_engine.specs.declared.directions.Directions.{Directions}
 use Rattle.ymx_engine.proofs.Quiet.{IsQuiet}
 use Rattle.ymx_engine.proofs.Exchanging.{taken_then, given_then, end_then, finish_then, reset_then, stop_then, lacks_then, or_none, or_second, or_cases, or_same, or_twice, same_consumes, whole_before, whole_after}
 use Rattle.ymx_engine.proofs.Listing.{takes_none}
@@ -86,7 +86,7 @@ trades_then id es fs a b c x y = record {
 }
 
 -- payload that is passed on
-pub trades_passed : (id n : ℕ) (a b : Engine) (d e : Seen) (v w : Ways) → (x : PassesOn id a b d e n v w) → Trades id x.events d e
+pub trades_passed : (id n : ℕ) (a b : Engine) (d e : Seen) (v w : Directions) → (x : PassesOn id a b d e n v w) → Trades id x.events d e
 trades_passed id n a b d e v w x =
     let none = takes_none id x.events x.own in
     record {
@@ -114,7 +114,7 @@ idle_then id es fs x y = (
   end_then id es fs ∙ ap (λ (v : Bool). v || has_end id fs) x.3 ∙ y.3,
 )
 
--- changes with more before the first, and what happens behind the last
+-- changes with more before the first, and what happens after the last
 seam : List (Event × Reply) → List Change → List Change
 seam es [] = []
 seam es (d ∷ ds) = record { since = es ++ d.since; seen = d.seen } ∷ ds
@@ -157,7 +157,7 @@ lives_then id [] es ds rest (Some a) p q x y = trades_on id es ds rest a x.0 q x
 lives_then id (c ∷ cs) es ds rest None p q x y = (x.0, x.1, lives_then id cs es ds rest (Some c.seen) p q x.2 y)
 lives_then id (c ∷ cs) es ds rest (Some a) p q x y = (x.0, x.1, lives_then id cs es ds rest None p q x.2 y)
 
--- one life behind another
+-- one life after another
 pub life_then : (id : ℕ) (es fs : List (Event × Reply)) (o p q : Option Seen) → Life id es o p → Life id fs p q → Life id (es ++ fs) o q
 life_then id es fs o p q x y = record {
   changes = x.changes ++ seam x.rest y.changes;

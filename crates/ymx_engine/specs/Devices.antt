@@ -57,21 +57,21 @@ is_push_failure _ = false
 
 -- ---- marks
 
--- A device that filled the room may have more, and so may one whose end is near; behind 'not now', an end or a failure none does.
+-- A device that filled the room may have more, and so may one whose end is near; after 'not now', an end or a failure none does.
 abbrev pub may_have_more : Pulled → (room : ℕ) → (closing : Bool) → Bool
 may_have_more (pulled.Gave n) room closing = nat_le room n || closing
 may_have_more _ room closing = false
 
--- A device that took all that it was offered may take more; behind 'not now' and a failure none does.
+-- A device that took all that it was offered may take more; after 'not now' and a failure none does.
 abbrev pub may_take_more : Pushed → (offered : ℕ) → Bool
 may_take_more (pushed.Took n) offered = nat_le offered n
 may_take_more _ offered = false
 
--- the marks behind a call for so many bytes
+-- the marks after a call for so many bytes
 abbrev pub after_pull : Pulled → (room : ℕ) → Marks → Marks
 after_pull result room m = record m { may_pull = m.may_pull && may_have_more result room m.is_closing }
 
--- the marks behind a call with so many bytes
+-- the marks after a call with so many bytes
 abbrev pub after_push : Pushed → (offered : ℕ) → Marks → Marks
 after_push result offered m = record m { may_push = m.may_push && may_take_more result offered }
 

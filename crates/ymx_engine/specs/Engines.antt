@@ -30,7 +30,7 @@ is_flushed e = not (has_bytes e.outgoing) && not (is_ready e.session)
 abbrev pub IsFlushed : Engine → Type 0
 IsFlushed e = (e.outgoing ≡ []) × (is_ready e.session ≡ false)
 
--- How many of the bytes that came stand behind the last whole frame: those of a header that isn't whole, and those that the session has
+-- How many of the bytes that came stand after the last whole frame: those of a header that isn't whole, and those that the session has
 -- not taken. None is said while the payload of a frame is under way.
 abbrev pub unframed : Engine → Option ℕ
 unframed e = option_map (λ n. n + length e.incoming) (header_begun e.session.incoming)

@@ -106,12 +106,12 @@ abbrev pub has_stop : ℕ → List (Event × Reply) → Bool
 has_stop id [] = false
 has_stop id (e ∷ es) = stops_at id e.0 e.1 || has_stop id es
 
--- the session refused for want of memory
+-- the session refused for lack of memory
 abbrev pub is_memory_refusal : Reply → Bool
 is_memory_refusal (reply.Refused (OutOfMemory lacked)) = true
 is_memory_refusal _ = false
 
--- a write of the stream was refused for want of memory
+-- a write of the stream was refused for lack of memory
 abbrev pub lacks_memory_at : ℕ → Event → Reply → Bool
 lacks_memory_at id (event.Call (call.Write other bytes)) told = (other == id) && is_memory_refusal told
 lacks_memory_at id _ told = false

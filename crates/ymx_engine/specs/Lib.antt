@@ -1,6 +1,6 @@
 pub mod Events
 pub mod Devices
-pub mod Ways
+pub mod Directions
 pub mod Exchanges
 pub mod Engines
 pub mod Turns

@@ -10,7 +10,7 @@ use Rattle.ymx_engine.specs.Devices.{Seen}
 use Rattle.ymx_engine.specs.Events.{taken, given, has_end, has_finish, has_reset, has_stop, lacks_memory}
 use Rattle.ymx_engine.specs.Exchanges.{has_bytes}
 
--- What a device gave, in pieces: what the stream took of each, and what was lost behind it.
+-- What a device gave, in pieces: what the stream took of each, and what was lost after it.
 abbrev pub all_of : List (List ℕ × List ℕ) → List ℕ
 all_of [] = []
 all_of (p ∷ ps) = (p.0 ++ p.1) ++ all_of ps
@@ -25,7 +25,7 @@ loses (p ∷ ps) = has_bytes p.1 || loses ps
 
 -- The device gave these pieces, in order, and took what the stream gave. The stream was finished exactly if the device said
 -- that no more come, and this was all then. The device was ended exactly if the stream's end was read. The stream was reset
--- exactly if the device failed or bytes were lost, which happens only where a write of them was refused for want of memory.
+-- exactly if the device failed or bytes were lost, which happens only where a write of them was refused for lack of memory.
 -- The device was shut exactly if the stream was reset, or refused a read or a write.
 pub record Trades (id : ℕ) (events : List (Event × Reply)) (a b : Seen) : Type 0 where
   pub pieces : List (List ℕ × List ℕ)

@@ -32,4 +32,4 @@ pub record Moves (old new : Tunnel) : Type 0 where
   pub shuts : Bool
   pub shut : new.wire.shut ≡ option_map (λ b. b || shuts) old.wire.shut
   pub lost : has_feed_end events ≡ (said_end || fails || shuts)
-  pub lines : (id : ℕ) → Life id events (look id old.lines) (look id new.lines)
+  pub connections : (id : ℕ) → Life id events (look id old.connections) (look id new.connections)

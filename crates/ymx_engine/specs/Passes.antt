@@ -10,12 +10,12 @@ use Rattle.ymx_model.specs.session.Sessions.{Session}
 use Rattle.ymx_session.specs.declared.passing.Passing.{Passing}
 use Rattle.ymx_session.specs.Passing.{passing, IsPlainHeader, PassesBehind}
 use Rattle.ymx_engine.specs.declared.row.Row.{Row}
-use Rattle.ymx_engine.specs.declared.ways.Ways.{Ways}
+use Rattle.ymx_engine.specs.declared.directions.Directions.{Directions}
 use Rattle.ymx_engine.specs.Devices.{Seen}
 use Rattle.ymx_engine.specs.Events.{Happen, given, has_end, has_reset, has_stop}
 use Rattle.ymx_engine.specs.Engines.{Engine}
 use Rattle.ymx_engine.specs.Exchanges.{has_bytes}
-use Rattle.ymx_engine.specs.Ways.{ways_after, may_push}
+use Rattle.ymx_engine.specs.Directions.{directions_after, may_push}
 use Rattle.ymx_engine.specs.Wires.{fed, rejections, FeedsFront}
 
 -- the first so many of the bytes that wait are payload of this stream, and may be passed on
@@ -44,9 +44,9 @@ is_of_reading _ = false
 -- Nothing happened but feeds of what waited, and reads and a reset of this stream. Each feed offers the front of what
 -- waits; the session took a beginning, and the rest waits. The device took just what the stream gave, in order, and gave
 -- nothing. It was ended exactly if the stream's end was read, and the stream was reset exactly if the device failed. The
--- device was shut exactly if the stream was reset, or refused a read. No feed lacked memory. Nothing went to the wire. The ways
+-- device was shut exactly if the stream was reset, or refused a read. No feed lacked memory. Nothing went to the wire. The directions
 -- of the connection follow that, and no mark of the device went on, unless it was shut.
-pub record PassesOn (id : ℕ) (old new : Engine) (before after : Seen) (calls : ℕ) (was now : Ways) : Type 0 where
+pub record PassesOn (id : ℕ) (old new : Engine) (before after : Seen) (calls : ℕ) (was now : Directions) : Type 0 where
   pub events : List (Event × Reply)
   pub happen : Happen events old.session new.session
   pub own : list_all (λ e. is_of_pass id e.0) events ≡ true
@@ -63,16 +63,16 @@ pub record PassesOn (id : ℕ) (old new : Engine) (before after : Seen) (calls :
   pub ended : after.ended ≡ option_map (λ b. b || has_end id events) before.ended
   pub shut : after.shut ≡ option_map (λ b. b || has_stop id events) before.shut
   pub few : after.calls ≤ before.calls + calls
-  pub ways : now ≡ ways_after id events was
+  pub directions : now ≡ directions_after id events was
   pub pull_on : after.marks.may_pull ≡ true → (before.marks.may_pull ≡ true) ⊎ (has_stop id events ≡ true)
   pub push_on : after.marks.may_push ≡ true → (before.marks.may_push ≡ true) ⊎ (has_stop id events ≡ true)
 
 -- ---- a part of it
 
 -- Of these bytes the first `count` came, payload of this stream and headers between; the payload was read at once, and the
--- device took just that: some, or it may take none now. Or the device failed, and the stream was reset. The ways of the
+-- device took just that: some, or it may take none now. Or the device failed, and the stream was reset. The directions of the
 -- connection follow that, no feed lacked memory, and no mark of the device went on, unless it was shut.
-pub record OffersOnce (id : ℕ) (bytes : List ℕ) (count : ℕ) (s t : Session) (before after : Seen) (was now : Ways) : Type 0 where
+pub record OffersOnce (id : ℕ) (bytes : List ℕ) (count : ℕ) (s t : Session) (before after : Seen) (was now : Directions) : Type 0 where
   pub events : List (Event × Reply)
   pub happen : Happen events s t
   pub own : list_all (λ e. is_of_pass id e.0) events ≡ true
@@ -89,7 +89,7 @@ pub record OffersOnce (id : ℕ) (bytes : List ℕ) (count : ℕ) (s t : Session
   pub ended : after.ended ≡ option_map (λ b. b || has_end id events) before.ended
   pub shut : after.shut ≡ option_map (λ b. b || has_stop id events) before.shut
   pub few : after.calls ≤ before.calls + 2
-  pub ways : now ≡ ways_after id events was
+  pub directions : now ≡ directions_after id events was
   pub delivers : (has_bytes (given id events) ≡ true) ⊎ (may_push now after.marks ≡ false)
   pub pull_on : after.marks.may_pull ≡ true → (before.marks.may_pull ≡ true) ⊎ (has_stop id events ≡ true)
   pub push_on : after.marks.may_push ≡ true → (before.marks.may_push ≡ true) ⊎ (has_stop id events ≡ true)
@@ -114,20 +114,20 @@ abbrev pub payload_of : Row → List ℕ → List ℕ
 payload_of r waits = payload_in (counts_of r) waits
 
 -- So many bytes of each frame wait in a row. Of the first `missing` bytes are missing, and at most these wait. Where bytes of
--- a further frame do, all do, and behind them its header, of the same stream and without flags; and so on. The headers say
+-- a further frame do, all do, and after them its header, of the same stream and without flags; and so on. The headers say
 -- `said` bytes of payload at most.
 abbrev pub InRow : (id missing said : ℕ) → List ℕ → (waits : List ℕ) → Type 0
 InRow id missing said [] waits = ⊤
 InRow id missing said (n ∷ ns) waits = (n ≤ missing) × (n ≤ length waits)
     × (0 < sum ns → (n ≡ missing) × ((next : ℕ) × IsPlainHeader id next (take 12 (drop n waits)) × (next ≤ said) × InRow id next (said - next) ns (drop (n + 12) waits)))
 
--- what waits behind so many bytes of each frame of a row
+-- what waits after so many bytes of each frame of a row
 unfoldable pub behind_row : List ℕ → List ℕ → List ℕ
 behind_row [] waits = waits
 behind_row (n ∷ ns) waits = if sum ns == 0 then drop n waits else behind_row ns (drop (n + 12) waits)
 
 -- What waits begins with this payload of one stream in a row, all of its first frame that waits. All of it may be passed on.
--- Something else waits behind it, where it is whole.
+-- Something else waits after it, where it is whole.
 pub record IsRow (row : Row) (waits : List ℕ) (s : Session) : Type 0 where
   pub missing : ℕ
   pub said : ℕ
@@ -136,7 +136,7 @@ pub record IsRow (row : Row) (waits : List ℕ) (s : Session) : Type 0 where
   pub passes : PassesBehind row.id missing said s
   pub whole : row.is_whole ≡ true → 0 < length (behind_row (counts_of row) waits)
 
--- Behind a row whose headers say `ahead` bytes stands one frame more: its header, and so many bytes of its payload, all that
+-- After a row whose headers say `ahead` bytes stands one frame more: its header, and so many bytes of its payload, all that
 -- wait.
 pub record Follows (id missing ahead count : ℕ) (waits behind : List ℕ) (next : ℕ) (s : Session) : Type 0 where
   pub said : ℕ
@@ -153,7 +153,7 @@ MayFollow id missing ended ahead waits count behind next ends s =
 
 -- Nothing happened but feeds of the front of what waited, none of which lacked memory, and reads of this stream, which gave just
 -- these bytes. What was fed waits no more.
-pub record Settles (id : ℕ) (bytes waits rest : List ℕ) (s t : Session) : Type 0 where
+pub record Commits (id : ℕ) (bytes waits rest : List ℕ) (s t : Session) : Type 0 where
   pub events : List (Event × Reply)
   pub happen : Happen events s t
   pub own : list_all (λ e. is_of_pass id e.0) events ≡ true

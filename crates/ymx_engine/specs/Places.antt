@@ -27,7 +27,7 @@ lacks_place e = (records_left e.session == 0) && option_map_or (λ n. n == 0) (h
 
 -- It waits: a connection that has ended may make place for it, and one still has its turn that waited for it before.
 abbrev pub is_put_off : Tunnel → Bool
-is_put_off t = lacks_place t.engine && nat_lt 0 (turns_left t.lines)
+is_put_off t = lacks_place t.engine && nat_lt 0 (turns_left t.connections)
 
 -- All that the wire gave was fed; or the session takes no byte now; or the next frame waits for a place.
 abbrev pub IsFedOrWaits : Tunnel → Type 0
@@ -37,7 +37,7 @@ IsFedOrWaits t = IsFedOrStuck t.engine ⊎ (is_put_off t ≡ true)
 -- rest of it, and a header for each place. At least one.
 abbrev pub limit_at : Incoming → (places : ℕ) → ℕ
 limit_at (Head begun) places = 12 * max 1 places - length begun
-limit_at (Payload id missing fin stray) places = missing + 12 * places
+limit_at (Payload id missing fin discarded) places = missing + 12 * places
 
 abbrev pub feed_limit : Session → ℕ
 feed_limit s = max 1 (limit_at s.incoming (records_left s))
@@ -46,12 +46,12 @@ feed_limit s = max 1 (limit_at s.incoming (records_left s))
 abbrev pub is_full_between : Session → Bool
 is_full_between s = is_running s.status && is_between s.incoming && (records_left s == 0)
 
--- All these bytes come, one behind the other. One behind which the session is full between two frames is the last of them.
+-- All these bytes come, one after the other. One after which the session is full between two frames is the last of them.
 abbrev pub StopsWhereFull : List ℕ → Session → Session → Type 0
 StopsWhereFull [] s t = t ≡ s
 StopsWhereFull (b ∷ bs) s t = (no_memory : Bool) × (is_full_between (byte_comes no_memory b s) ≡ true → bs ≡ []) × StopsWhereFull bs (byte_comes no_memory b s) t
 
--- Of what waited a beginning came, and where the session was full behind a frame, it was the last. So whether the next one waits for a
+-- Of what waited a beginning came, and where the session was full after a frame, it was the last. So whether the next one waits for a
 -- place is asked before it comes.
 pub record FeedsToFull (old new : Engine) : Type 0 where
   pub count : ℕ

@@ -24,7 +24,7 @@ pub record IsForgotten (id : ℕ) (s t : Session) : Type 0 where
   pub told : Reply
   pub forgotten : Gives in_turn s (event.Call (call.Forget id)) told t
 
--- No stream was opened, and the session is as it was: it refused for this fault; or the fault is want of memory to keep
+-- No stream was opened, and the session is as it was: it refused for this fault; or the fault is lack of memory to keep
 -- the connection.
 abbrev pub OpensNone : CallFault → Session → Session → Type 0
 OpensNone fault s t = (t ≡ s) × (Gives in_turn s (event.Call call.Open) (reply.Refused fault) t ⊎ (fault ≡ OutOfMemory evidence))

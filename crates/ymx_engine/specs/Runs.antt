@@ -3,8 +3,8 @@ use Rattle.std.specs.Prelude.{ℕ, ◌≡◌, ◌⊎◌, is_some, true, Some}
 use Rattle.ymx_engine.specs.Engines.{IsFlushed}
 use Rattle.ymx_engine.specs.Moves.{Moves}
 use Rattle.ymx_engine.specs.Tunnels.{Tunnel, HasFailed}
-use Rattle.ymx_engine.specs.Turns.{Line, line_of, look}
-use Rattle.ymx_engine.specs.Ways.{is_over}
+use Rattle.ymx_engine.specs.Turns.{Connection, connection_of, look}
+use Rattle.ymx_engine.specs.Directions.{is_over}
 use Rattle.ymx_engine.specs.Work.{Attends}
 
 -- It moved what `Moves` says; nobody who can be served was forgotten; and nobody who waited for a turn fell back.
@@ -18,7 +18,7 @@ IsOver t = HasFailed t.wire ⊎ IsFlushed t.engine
 
 -- no device joined a stream or left it, and the wire was neither ended nor shut
 pub record Stays (old new : Tunnel) : Type 0 where
-  pub joined : (id : ℕ) → is_some (look id new.lines) ≡ is_some (look id old.lines)
+  pub joined : (id : ℕ) → is_some (look id new.connections) ≡ is_some (look id old.connections)
   pub ended : new.wire.ended ≡ old.wire.ended
   pub shut : new.wire.shut ≡ old.wire.shut
 
@@ -26,5 +26,5 @@ pub record Stays (old new : Tunnel) : Type 0 where
 pub record Rests (old new : Tunnel) : Type 0 where
   pub wire_pull : new.wire.marks.may_pull ≡ true → old.wire.marks.may_pull ≡ true
   pub wire_push : new.wire.marks.may_push ≡ true → old.wire.marks.may_push ≡ true
-  pub pull : (id : ℕ) (l : Line) → line_of id new.lines ≡ Some l → l.seen.marks.may_pull ≡ true → (is_over l.ways ≡ true) ⊎ ((was : Line) × (line_of id old.lines ≡ Some was) × (was.seen.marks.may_pull ≡ true))
-  pub push : (id : ℕ) (l : Line) → line_of id new.lines ≡ Some l → l.seen.marks.may_push ≡ true → (is_over l.ways ≡ true) ⊎ ((was : Line) × (line_of id old.lines ≡ Some was) × (was.seen.marks.may_push ≡ true))
+  pub pull : (id : ℕ) (l : Connection) → connection_of id new.connections ≡ Some l → l.seen.marks.may_pull ≡ true → (is_over l.directions ≡ true) ⊎ ((was : Connection) × (connection_of id old.connections ≡ Some was) × (was.seen.marks.may_pull ≡ true))
+  pub push : (id : ℕ) (l : Connection) → connection_of id new.connections ≡ Some l → l.seen.marks.may_push ≡ true → (is_over l.directions ≡ true) ⊎ ((was : Connection) × (connection_of id old.connections ≡ Some was) × (was.seen.marks.may_push ≡ true))

@@ -10,12 +10,12 @@ use Rattle.ymx_model.specs.session.Sessions.{is_running}
 use Rattle.ymx_model.specs.session.Calls.{read_from, write_to}
 use Rattle.ymx_law_session.specs.Limits.{IsWithin}
 use Rattle.ymx_session.specs.Streams.{waiting, room_of}
-use Rattle.ymx_engine.specs.declared.ways.Ways.{Ways}
+use Rattle.ymx_engine.specs.declared.directions.Directions.{Directions}
 use Rattle.ymx_engine.specs.Devices.{Seen, Marks, one_read}
 use Rattle.ymx_engine.specs.Events.{Happen, is_on, taken, given, has_end, has_finish, has_reset, is_stop, has_stop}
 use Rattle.ymx_engine.specs.Exchanges.{has_bytes}
 use Rattle.ymx_engine.specs.Lives.{Trades, all_of}
-use Rattle.ymx_engine.specs.Ways.{is_open, ways_after, may_push, may_pull}
+use Rattle.ymx_engine.specs.Directions.{is_open, directions_after, may_push, may_pull}
 use Rattle.ymx_engine.specs.Wires.{emitted}
 
 -- a write, a read or an end of this stream, or an emission
@@ -32,7 +32,7 @@ is_emission (event.Feed bytes) = false
 is_emission event.FeedEnd = false
 is_emission (event.Emit room) = true
 
--- Between s and t nothing happened but these events of one stream, and emissions, which wait behind what waited for the
+-- Between s and t nothing happened but these events of one stream, and emissions, which wait after what waited for the
 -- wire. The stream and its device moved what `Trades` says.
 pub record Exchanges (id : ℕ) (s t : Session) (out out_new : List ℕ) (before after : Seen) : Type 0 where
   pub events : List (Event × Reply)
@@ -56,22 +56,22 @@ abbrev pub is_stopped : ℕ → Session → Bool
 is_stopped id s = is_stop (write_to id [] s).reply
 
 -- A device that may have more still, on whose stream there is room for more, gave so much at least, unless its end is near.
-abbrev pub GivesWhole : (gave least room : ℕ) → Ways → Marks → Type 0
+abbrev pub GivesWhole : (gave least room : ℕ) → Directions → Marks → Type 0
 GivesWhole gave least room now m = may_pull now m ≡ true → m.is_closing ≡ false → 0 < room → least ≤ gave
 
 -- One turn of a connection, in which it gives so many bytes at most, and isn't read where that is none. Nothing happened but what
--- `Exchanges` says, in at most eight calls of the device, and its ways follow that. Where bytes waited that the device might
+-- `Exchanges` says, in at most eight calls of the device, and its directions follow that. Where bytes waited that the device might
 -- take, it took all, or may take none now. Where it might have bytes and was to be read, it gave some, or may have none now, or
 -- the stream takes none; and where it may have more still, and the stream takes more, it gave as much as it might or a whole read,
 -- unless its end is near. No mark went on, unless the device was shut. It has more to do at least where bytes wait still that the device may
 -- take, or no more come; where it may have bytes that the stream takes, and was to be read; where the stream takes none any more,
--- though it was not finished here, and where the session is over, while its way to the peer is open. It has more to do only where
--- the device took bytes and may take more, gave bytes and may have more, or where the session is over and its way to the peer
+-- though it was not finished here, and where the session is over, while its direction to the peer is open. It has more to do only where
+-- the device took bytes and may take more, gave bytes and may have more, or where the session is over and its direction to the peer
 -- open: a turn in which no byte moved is the last in a session that runs.
-pub record Turn (id most : ℕ) (s t : Session) (out out_new : List ℕ) (before after : Seen) (was now : Ways) (more : Bool) (gave : ℕ) : Type 0 where
+pub record Turn (id most : ℕ) (s t : Session) (out out_new : List ℕ) (before after : Seen) (was now : Directions) (more : Bool) (gave : ℕ) : Type 0 where
   pub moved : Exchanges id s t out out_new before after
   pub few : after.calls ≤ before.calls + 8
-  pub ways : now ≡ ways_after id moved.events was
+  pub directions : now ≡ directions_after id moved.events was
   pub gives : gave ≡ length (all_of moved.trades.pieces)
   pub within : gave ≤ most
   pub delivers : may_push was before.marks ≡ true → (length (waiting id s) ≤ length (given id moved.events)) ⊎ (may_push now after.marks ≡ false)
@@ -88,22 +88,22 @@ pub record Turn (id most : ℕ) (s t : Session) (out out_new : List ℕ) (before
 
 -- ---- a part of it
 
--- Nothing happened but what `Exchanges` says, in at most so many calls of the device, which gave so many bytes; and the ways
+-- Nothing happened but what `Exchanges` says, in at most so many calls of the device, which gave so many bytes; and the directions
 -- follow that. No mark went on, unless the device was shut.
-pub record Part (id : ℕ) (s t : Session) (out out_new : List ℕ) (before after : Seen) (was now : Ways) (calls gave : ℕ) : Type 0 where
+pub record Part (id : ℕ) (s t : Session) (out out_new : List ℕ) (before after : Seen) (was now : Directions) (calls gave : ℕ) : Type 0 where
   pub moved : Exchanges id s t out out_new before after
   pub few : after.calls ≤ before.calls + calls
-  pub ways : now ≡ ways_after id moved.events was
+  pub directions : now ≡ directions_after id moved.events was
   pub gives : gave ≡ length (all_of moved.trades.pieces)
   pub pull_on : after.marks.may_pull ≡ true → (before.marks.may_pull ≡ true) ⊎ (has_stop id moved.events ≡ true)
   pub push_on : after.marks.may_push ≡ true → (before.marks.may_push ≡ true) ⊎ (has_stop id moved.events ≡ true)
 
 -- A part in which the device gave nothing. Where bytes waited that the device might take, it took all, or may take none now.
-pub record Delivers (id : ℕ) (s t : Session) (out out_new : List ℕ) (before after : Seen) (was now : Ways) (calls : ℕ) : Type 0 where
+pub record Delivers (id : ℕ) (s t : Session) (out out_new : List ℕ) (before after : Seen) (was now : Directions) (calls : ℕ) : Type 0 where
   pub part : Part id s t out out_new before after was now calls 0
   pub delivers : may_push was before.marks ≡ true → (length (waiting id s) ≤ length (given id part.moved.events)) ⊎ (may_push now after.marks ≡ false)
 
--- Nothing happened but writes and reads of this stream, which took and gave just these bytes, and emissions, which wait behind what
+-- Nothing happened but writes and reads of this stream, which took and gave just these bytes, and emissions, which wait after what
 -- waited.
 pub record TakesAndGives (id : ℕ) (took gave : List ℕ) (s t : Session) (out out_new : List ℕ) : Type 0 where
   pub events : List (Event × Reply)
@@ -117,7 +117,7 @@ pub record TakesAndGives (id : ℕ) (took gave : List ℕ) (s t : Session) (out 
   pub stops : has_stop id events ≡ false
   pub to_wire : out ++ emitted events ≡ out_new
 
--- what is due may have been emitted, and waits behind what waited
+-- what is due may have been emitted, and waits after what waited
 pub record PutsDue (s t : Session) (out out_new : List ℕ) : Type 0 where
   pub events : List (Event × Reply)
   pub happen : Happen events s t
@@ -126,10 +126,10 @@ pub record PutsDue (s t : Session) (out out_new : List ℕ) : Type 0 where
 
 -- ---- what a device hears
 
--- the way to it is not open, or its stream says that more may come
-abbrev pub HearsEnd : ℕ → Session → Ways → Type 0
+-- the direction to it is not open, or its stream says that more may come
+abbrev pub HearsEnd : ℕ → Session → Directions → Type 0
 HearsEnd id s now = (is_open now.from_peer ≡ false) ⊎ ((read_from id 1 s).reply ≡ reply.ReadWait)
 
--- where the way from it is open, its stream takes bytes still, or was finished here
-abbrev pub HearsStop : ℕ → Session → Ways → Type 0
+-- where the direction from it is open, its stream takes bytes still, or was finished here
+abbrev pub HearsStop : ℕ → Session → Directions → Type 0
 HearsStop id s now = is_open now.to_peer ≡ true → is_stopped id s ≡ false

@@ -9,8 +9,8 @@ use Rattle.ymx_engine.specs.Runs.{Runs}
 use Rattle.ymx_engine.specs.Served.{Serving}
 use Rattle.ymx_engine.specs.Serves.{Turn}
 use Rattle.ymx_engine.specs.Tunnels.{Tunnel}
-use Rattle.ymx_engine.specs.Turns.{Line, Lines, line_of, Puts, Extends, AddsTurn, KeepsLines, SameTurns, WaitsAlone, StaysMissed, StaysOrAdds, Awaits, Attended}
-use Rattle.ymx_engine.specs.Ways.{is_over, may_pull}
+use Rattle.ymx_engine.specs.Turns.{Connection, Connections, connection_of, Puts, Extends, AddsTurn, KeepsConnections, SameTurns, WaitsAlone, StaysMissed, StaysOrAdds, Awaits, Attended}
+use Rattle.ymx_engine.specs.Directions.{is_over, may_pull}
 use Rattle.ymx_engine.specs.Wires.{count_on, rejections}
 use Rattle.ymx_engine.specs.Work.{Writes}
 
@@ -18,38 +18,38 @@ use Rattle.ymx_engine.specs.Work.{Writes}
 
 -- The connection of this stream had a turn. It waits for a further one exactly where it has more to move, or is held back where it
 -- was not to be read and may have bytes. Nobody else is touched.
-pub record TakesPart (id most : ℕ) (was : Line) (s t : Session) (out out_new : List ℕ) (old new : Lines) (gave : ℕ) : Type 0 where
-  pub now : Line
-  pub lines : Puts id (Some now) old new
+pub record TakesPart (id most : ℕ) (was : Connection) (s t : Session) (out out_new : List ℕ) (old new : Connections) (gave : ℕ) : Type 0 where
+  pub now : Connection
+  pub connections : Puts id (Some now) old new
   pub more : Bool
-  pub turn : Turn id most s t out out_new was.seen now.seen was.ways now.ways more gave
+  pub turn : Turn id most s t out out_new was.seen now.seen was.directions now.directions more gave
   pub queues : Extends old new
   pub missed : StaysMissed old new
   pub held : StaysOrAdds id old.held new.held
   pub again : more ≡ true → Awaits id new
   pub rests : more ≡ false → SameTurns old new
   pub alone : WaitsAlone id old new
-  pub put_off : most ≡ 0 → may_pull now.ways now.seen.marks ≡ true → Attended id new
+  pub put_off : most ≡ 0 → may_pull now.directions now.seen.marks ≡ true → Attended id new
 
 -- Payload of this stream that waits was offered to its connection's device in one call.
-pub record OffersPart (id : ℕ) (was : Line) (waits : List ℕ) (s t : Session) (old new : Lines) (count : ℕ) : Type 0 where
-  pub now : Line
-  pub lines : Puts id (Some now) old new
-  pub offered : OffersOnce id waits count s t was.seen now.seen was.ways now.ways
+pub record OffersPart (id : ℕ) (was : Connection) (waits : List ℕ) (s t : Session) (old new : Connections) (count : ℕ) : Type 0 where
+  pub now : Connection
+  pub connections : Puts id (Some now) old new
+  pub offered : OffersOnce id waits count s t was.seen now.seen was.directions now.directions
 
 -- It was, if the connection was there and its device might take bytes, and the connection waits for a turn then; or nothing happened.
-abbrev pub PassesPart : (id : ℕ) → (waits : List ℕ) → (s t : Session) → (old new : Lines) → (count : ℕ) → Type 0
+abbrev pub PassesPart : (id : ℕ) → (waits : List ℕ) → (s t : Session) → (old new : Connections) → (count : ℕ) → Type 0
 PassesPart id waits s t old new count =
-    ((was : Line) × (line_of id old ≡ Some was) × OffersPart id was waits s t old new count × AddsTurn id old new × Awaits id new)
+    ((was : Connection) × (connection_of id old ≡ Some was) × OffersPart id was waits s t old new count × AddsTurn id old new × Awaits id new)
     ⊎ ((new ≡ old) × (t ≡ s) × (count ≡ 0))
 
 -- a connection that is over stays so
-abbrev pub StaysOver : Lines → Lines → Type 0
-StaysOver old new = (id : ℕ) (now : Line) → line_of id new ≡ Some now → (was : Line) × (line_of id old ≡ Some was) × (is_over was.ways ≡ true → is_over now.ways ≡ true)
+abbrev pub StaysOver : Connections → Connections → Type 0
+StaysOver old new = (id : ℕ) (now : Connection) → connection_of id new ≡ Some now → (was : Connection) × (connection_of id old ≡ Some was) × (is_over was.directions ≡ true → is_over now.directions ≡ true)
 
 -- ---- a tunnel's
 
--- It ran on, and nothing happened but feeds, and reads and resets of streams. As many more streams were rejected for want of
+-- It ran on, and nothing happened but feeds, and reads and resets of streams. As many more streams were rejected for lack of
 -- memory as the feeds say.
 pub record ReadsOn (old new : Tunnel) : Type 0 where
   pub runs : Runs old new
@@ -62,7 +62,7 @@ pub record Keeps (old new : Tunnel) : Type 0 where
   pub own : list_all (λ e. is_of_reading e.0) moves.events ≡ true
   pub wire : new.wire ≡ old.wire
   pub over : new.is_wire_over ≡ old.is_wire_over
-  pub lines : KeepsLines old.lines new.lines
+  pub connections : KeepsConnections old.connections new.connections
   pub serves : Serving old → Serving new
   pub memory : new.no_memory ≡ count_on old.no_memory (rejections moves.events)
 
@@ -70,7 +70,7 @@ pub record Keeps (old new : Tunnel) : Type 0 where
 pub record WritesOnce (goes_on : Bool) (old new : Tunnel) : Type 0 where
   pub writes : Writes old new
   pub going : goes_on ≡ true → (old.wire.marks.may_push ≡ true) × (new.wire.marks.may_push ≡ true) × (has_bytes writes.moves.sent ≡ true)
-  pub lines : KeepsLines old.lines new.lines
+  pub connections : KeepsConnections old.connections new.connections
   pub serves : Serving old → Serving new
   pub pull : new.wire.marks.may_pull ≡ old.wire.marks.may_pull
   pub push : new.wire.marks.may_push ≡ true → old.wire.marks.may_push ≡ true

@@ -78,7 +78,7 @@ abbrev pub FeedsFront : List ℕ → List (Event × Reply) → Type 0
 FeedsFront waits [] = ⊤
 FeedsFront waits (e ∷ es) = OffersFront waits e.0 × FeedsFront (drop (length (fed_at e.0 e.1)) waits) es
 
--- Nothing happened but these feeds, and that the session heard of an end. What the wire gave waits behind what waited
+-- Nothing happened but these feeds, and that the session heard of an end. What the wire gave waits after what waited
 -- before; each feed offers the front of what waits; the session took a beginning, and the rest waits. The session heard
 -- of an end exactly if the wire said that no more bytes come, or failed. Nothing went to the wire.
 pub record ReadsWire (old new : Engine) (before after : Seen) (calls : ℕ) : Type 0 where
@@ -105,7 +105,7 @@ abbrev pub ReadsWireSo : (said_end fails : Bool) → (old new : Engine) → (bef
 ReadsWireSo said_end fails old new before after calls =
     (moved : ReadsWire old new before after calls) × (moved.said_end ≡ said_end) × (moved.fails ≡ fails)
 
--- Nothing happened but these emissions, and that the session heard of an end. Each emission waits behind what waited
+-- Nothing happened but these emissions, and that the session heard of an end. Each emission waits after what waited
 -- before; of all this the wire took a beginning, and the rest waits. The session heard of an end exactly if the wire
 -- failed. Nothing came from the wire.
 pub record FlushesWire (old new : Engine) (before after : Seen) (calls : ℕ) : Type 0 where

@@ -13,8 +13,8 @@ use Rattle.ymx_engine.specs.Serves.{Turn}
 use Rattle.ymx_engine.specs.Tunnels.{Tunnel}
 use Rattle.ymx_engine.specs.Passes.{is_of_reading}
 use Rattle.ymx_engine.specs.Wires.{count_on, is_of_flush, rejections}
-use Rattle.ymx_engine.specs.Turns.{Line, Lines, line_of, is_idle, Extends, SameTurns, WaitsAlone, TakesTurn, IsBehind}
-use Rattle.ymx_engine.specs.Ways.{is_over}
+use Rattle.ymx_engine.specs.Turns.{Connection, Connections, connection_of, is_idle, Extends, SameTurns, WaitsAlone, TakesTurn, IsBehind}
+use Rattle.ymx_engine.specs.Directions.{is_over}
 
 -- bytes wait for the wire, or something is due
 abbrev pub has_to_send : Engine → Bool
@@ -32,11 +32,11 @@ may_read_wire t =
 
 -- bytes are to go to the wire, or a connection is held back until none are
 abbrev pub has_to_write : Tunnel → Bool
-has_to_write t = has_to_send t.engine || not (length t.lines.held == 0)
+has_to_write t = has_to_send t.engine || not (length t.connections.held == 0)
 
 -- a connection waits for a turn or missed one, the wire may be read, or it may take bytes and is to be written to
 abbrev pub has_work : Tunnel → Bool
-has_work t = not (is_idle t.lines) || t.lines.missed || may_read_wire t || t.wire.marks.may_push && has_to_write t
+has_work t = not (is_idle t.connections) || t.connections.missed || may_read_wire t || t.wire.marks.may_push && has_to_write t
 
 -- eight whole frames of 16,384 bytes, with their headers
 abbrev pub eight_frames : ℕ
@@ -48,7 +48,7 @@ takes_more t = t.is_wire_over || (length t.engine.outgoing == 0) || t.wire.marks
 
 -- How many bytes the connection that has its turn may give, while these wait: none where connections may not be read; one frame
 -- where the wire is slow, or one waits that moves little; and else two whole reads.
-abbrev pub share : (waits : Lines) → Tunnel → ℕ
+abbrev pub share : (waits : Connections) → Tunnel → ℕ
 share waits t = if takes_more t then (if length waits.fresh == 0 && not t.is_slow then one_turn else one_frame) else 0
 
 -- ---- one step
@@ -63,7 +63,7 @@ pub record WasOver (old new : Tunnel) : Type 0 where
 -- The wire was read, and nothing else happened: what it gave was fed, or went to the devices of its streams, of which one that failed
 -- had its stream reset. Where nothing waited to be fed and the wire might have bytes, some came, or it may have none now; and where it
 -- may have more still, a whole read came, unless its end is near. It is read no more only where it wasn't before, or where the session
--- was over. As many more streams were rejected for want of memory as the feeds say.
+-- was over. As many more streams were rejected for lack of memory as the feeds say.
 pub record Reads (old new : Tunnel) : Type 0 where
   pub moves : Moves old new
   pub own : list_all (λ e. is_of_reading e.0) moves.events ≡ true
@@ -79,26 +79,26 @@ pub record Writes (old new : Tunnel) : Type 0 where
   pub own : list_all (λ e. is_of_flush e.0) moves.events ≡ true
   pub offers : old.wire.marks.may_push ≡ true → has_to_send old.engine ≡ true → (has_bytes moves.sent ≡ true) ⊎ (new.wire.marks.may_push ≡ false)
   pub all : old.wire.marks.may_push ≡ true → (new.engine.outgoing ≡ []) ⊎ (new.wire.marks.may_push ≡ false)
-  pub releases : old.wire.marks.may_push ≡ true → new.engine.outgoing ≡ [] → new.lines.held ≡ []
+  pub releases : old.wire.marks.may_push ≡ true → new.engine.outgoing ≡ [] → new.connections.held ≡ []
 
--- What a connection does in its turn, if it is still there: it gives no more than its share. Behind those that waited it waits
+-- What a connection does in its turn, if it is still there: it gives no more than its share. After those that waited it waits
 -- for a further turn only where it has more to move, and nobody else does.
-pub record HasItsTurn (id gave : ℕ) (was : Line) (waits : Lines) (old new : Tunnel) : Type 0 where
-  pub now : Line
-  pub there : line_of id new.lines ≡ Some now
+pub record HasItsTurn (id gave : ℕ) (was : Connection) (waits : Connections) (old new : Tunnel) : Type 0 where
+  pub now : Connection
+  pub there : connection_of id new.connections ≡ Some now
   pub more : Bool
-  pub turn : Turn id (share waits old) old.engine.session new.engine.session old.engine.outgoing new.engine.outgoing was.seen now.seen was.ways now.ways more gave
-  pub rests : more ≡ false → SameTurns waits new.lines
-  pub alone : WaitsAlone id waits new.lines
+  pub turn : Turn id (share waits old) old.engine.session new.engine.session old.engine.outgoing new.engine.outgoing was.seen now.seen was.directions now.directions more gave
+  pub rests : more ≡ false → SameTurns waits new.connections
+  pub alone : WaitsAlone id waits new.connections
 
 -- The first of the queue whose turn it was is there, and had its turn, in which its device gave so many bytes: each other that
 -- waited has fewer before it now.
 pub record ServesFirst (id gave : ℕ) (old new : Tunnel) : Type 0 where
-  pub taken : Lines
-  pub first : TakesTurn id old.lines taken
-  pub waits : Extends taken new.lines
-  pub was : Line
-  pub there : line_of id old.lines ≡ Some was
+  pub taken : Connections
+  pub first : TakesTurn id old.connections taken
+  pub waits : Extends taken new.connections
+  pub was : Connection
+  pub there : connection_of id old.connections ≡ Some was
   pub served : HasItsTurn id gave was taken old new
 
 -- ---- many steps
@@ -112,19 +112,19 @@ pub record HadTurn (id : ℕ) (old new : Tunnel) : Type 0 where
   pub turn : ServesFirst id gave before after
   pub behind : Moves after new
 
--- between these two it was let go of, as nothing of it was left to move
+-- between these two it was dropped, as nothing of it was left to move
 pub record HasLeft (id : ℕ) (old new : Tunnel) : Type 0 where
   pub before : Tunnel
   pub after : Tunnel
   pub to : Moves old before
-  pub over : (l : Line) → line_of id before.lines ≡ Some l → (is_over l.ways ≡ true) ⊎ (is_running before.engine.session.status ≡ false)
+  pub over : (l : Connection) → connection_of id before.connections ≡ Some l → (is_over l.directions ≡ true) ⊎ (is_running before.engine.session.status ≡ false)
   pub left : Leaves id before after
   pub behind : Moves after new
 
 -- Each that waited for a turn has at least so many fewer before it now, unless it had its turn or left.
 abbrev pub ComesNearer : (steps : ℕ) → (old new : Tunnel) → Type 0
 ComesNearer steps old new =
-    (id n : ℕ) → IsBehind id n old.lines → HadTurn id old new ⊎ (HasLeft id old new ⊎ ((m : ℕ) × (m + steps ≤ n) × IsBehind id m new.lines))
+    (id n : ℕ) → IsBehind id n old.connections → HadTurn id old new ⊎ (HasLeft id old new ⊎ ((m : ℕ) × (m + steps ≤ n) × IsBehind id m new.connections))
 
 -- Nobody who can be served is forgotten; and nobody who waits for a turn falls back.
 pub record Attends (old new : Tunnel) : Type 0 where

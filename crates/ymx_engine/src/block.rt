@@ -77,12 +77,12 @@ impl Block {
         }
     }
 
-    /// How many bytes have room behind those that wait.
+    /// How many bytes have room after those that wait.
     pub(crate) fn room(&self) -> usize {
         self.memory.len() - self.end
     }
 
-    /// An emission of the session waits behind what waits.
+    /// An emission of the session waits after what waits.
     pub(crate) fn emit_behind(&mut self, session: &mut Session)
         ensures emitted { (room : ℕ) × (out : List ℕ) × Gives in_turn session.old (event.Emit room) (reply.Emitted out) session.new × (self.new ≡ self.old ++ out) }
         ensures some { is_ready session.old ≡ true → 0 < length self.new }
@@ -91,7 +91,7 @@ impl Block {
         self.end += count;
     }
 
-    /// These bytes are written to a stream, and the frame that carries them waits behind what waits, if nothing else is to
+    /// These bytes are written to a stream, and the frame that carries them waits after what waits, if nothing else is to
     /// go first. Whether it does.
     pub(crate) fn write_through(&mut self, session: &mut Session, id: u32, bytes: &[u8]) -> bool
         ensures went { result ≡ true → (size : ℕ) × (out : List ℕ) × WritesThrough id bytes.now size out session.old session.new × (self.new ≡ self.old ++ out) }

@@ -16,7 +16,7 @@ ghost use Rattle.ymx_engine.specs.Events.{took_count, bytes_of, is_read_end, is_
 use ymx_model::{CallFault, Got, Wrote};
 use ymx_session::Session;
 
-/// Writes bytes, one at least, for which there is credit. Whether the stream took them: it takes none for want of memory.
+/// Writes bytes, one at least, for which there is credit. Whether the stream took them: it takes none for lack of memory.
 pub(crate) fn write(session: &mut Session, id: u32, bytes: &[u8]) -> bool
     requires some { 0 < length bytes.now }
     requires fits { length bytes.now ≤ room_of id session.old }

@@ -11,14 +11,14 @@ ghost use Rattle.ymx_session.specs.Streams.{waiting, room_of};
 ghost use Rattle.ymx_engine.specs.Devices.{IsPushed, IsShut, one_read};
 ghost use Rattle.ymx_engine.specs.Served.{GainsNone};
 ghost use Rattle.ymx_engine.specs.Serves.{Turn, Part, Delivers, TakesAndGives, GivesWhole, HearsEnd, HearsStop, is_silent, is_stopped};
-ghost use Rattle.ymx_engine.specs.Ways.{is_open, may_push, may_pull, broken_off};
+ghost use Rattle.ymx_engine.specs.Directions.{is_open, may_push, may_pull, broken_off};
 
 use crate::block::Block;
 use crate::buffers::{BLOCK, FRAME};
 use crate::calls::{Unreadable, ask, finish, is_stopped, reset, take_out};
 use crate::device::{Device, Pulled, Pushed};
+use crate::directions::{Directions, Flow};
 use crate::sending::{put_due, send};
-use crate::ways::{Flow, Ways};
 use std::io::IoSlice;
 use ymx_model::Status;
 use ymx_session::Session;
@@ -46,74 +46,74 @@ impl TurnEnd {
 }
 
 /// One turn of a connection: at most one write to its device, and then at most two reads from it, of `most` bytes together at most.
-/// What is due and what it gives waits behind what waits for the wire. It makes at most 8 calls of the device.
+/// What is due and what it gives waits after what waits for the wire. It makes at most 8 calls of the device.
 pub(crate) fn serve<D: Device>(
     session: &mut Session,
     id: u32,
-    ways: &mut Ways,
+    directions: &mut Directions,
     device: &mut D,
     buffer: &mut [u8],
     outgoing: &mut Block,
     most: usize,
 ) -> TurnEnd
     requires room { one_read ≤ length buffer.old }
-    ensures turn { Turn id most session.old session.new outgoing.old outgoing.new (D.seen device.old) (D.seen device.new) ways.old ways.new result.more result.gave }
+    ensures turn { Turn id most session.old session.new outgoing.old outgoing.new (D.seen device.old) (D.seen device.new) directions.old directions.new result.more result.gave }
     // A device that may take bytes, of which none wait, hears where the stream has ended, or is no more.
-    ensures hears_end { may_push ways.old (D.seen device.old).marks ≡ true → waiting id session.old ≡ [] → HearsEnd id session.old ways.new }
+    ensures hears_end { may_push directions.old (D.seen device.old).marks ≡ true → waiting id session.old ≡ [] → HearsEnd id session.old directions.new }
     // One that may take none, as where its connection is still being made, hears where the stream takes none any more.
-    ensures tells { may_push ways.old (D.seen device.old).marks ≡ false → HearsStop id session.old ways.new }
+    ensures tells { may_push directions.old (D.seen device.old).marks ≡ false → HearsStop id session.old directions.new }
 {
-    let writes = deliver(session, id, ways, device, outgoing);
-    hear_stop(session, id, ways, device);
-    let read = collect(session, id, ways, device, buffer, outgoing, most);
+    let writes = deliver(session, id, directions, device, outgoing);
+    on_stop(session, id, directions, device);
+    let read = collect(session, id, directions, device, buffer, outgoing, most);
     TurnEnd {
-        more: writes && ways.may_push(device) || read.more || is_untold(session, ways),
+        more: writes && directions.may_push(device) || read.more || is_untold(session, directions),
         gave: read.gave,
     }
 }
 
-/// Whether the session is over, and the way to the peer still open.
-fn is_untold(session: &Session, ways: &Ways) -> bool
-    ensures { result ≡ (not (is_running session.now.status) && is_open ways.now.to_peer) }
+/// Whether the session is over, and the direction to the peer still open.
+fn is_untold(session: &Session, directions: &Directions) -> bool
+    ensures { result ≡ (not (is_running session.now.status) && is_open directions.now.to_peer) }
 {
-    !matches!(session.status(), Status::Running) && ways.to_peer.is_open()
+    !matches!(session.status(), Status::Running) && directions.to_peer.is_open()
 }
 
-/// Writes to the device once, where it may take bytes. Where none wait on the stream it is told why, if no more come. Whether more
+/// Writes to the device once, where it may take bytes. Where none wait on the stream it learns why, if no more come. Whether more
 /// may be written at once.
 fn deliver<D: Device>(
     session: &mut Session,
     id: u32,
-    ways: &mut Ways,
+    directions: &mut Directions,
     device: &mut D,
     outgoing: &mut Block,
 ) -> bool
-    ensures delivered { Delivers id session.old session.new outgoing.old outgoing.new (D.seen device.old) (D.seen device.new) ways.old ways.new 3 }
-    ensures goes_on { result ≡ true → may_push ways.new (D.seen device.new).marks ≡ true }
+    ensures delivered { Delivers id session.old session.new outgoing.old outgoing.new (D.seen device.old) (D.seen device.new) directions.old directions.new 3 }
+    ensures goes_on { result ≡ true → may_push directions.new (D.seen device.new).marks ≡ true }
     // More may be written only where some could be.
-    ensures some { result ≡ true → (may_push ways.old (D.seen device.old).marks ≡ true) × (0 < length (waiting id session.old)) }
-    ensures hears_end { may_push ways.old (D.seen device.old).marks ≡ true → waiting id session.old ≡ [] → HearsEnd id session.old ways.new }
-    ensures idle { may_push ways.old (D.seen device.old).marks ≡ false → (session.new ≡ session.old) × (ways.new ≡ ways.old) × (D.seen device.new ≡ D.seen device.old) }
-    ensures stays { may_push ways.new (D.seen device.new).marks ≡ true → 0 < length (waiting id session.new) → result ≡ true }
+    ensures some { result ≡ true → (may_push directions.old (D.seen device.old).marks ≡ true) × (0 < length (waiting id session.old)) }
+    ensures hears_end { may_push directions.old (D.seen device.old).marks ≡ true → waiting id session.old ≡ [] → HearsEnd id session.old directions.new }
+    ensures idle { may_push directions.old (D.seen device.old).marks ≡ false → (session.new ≡ session.old) × (directions.new ≡ directions.old) × (D.seen device.new ≡ D.seen device.old) }
+    ensures stays { may_push directions.new (D.seen device.new).marks ≡ true → 0 < length (waiting id session.new) → result ≡ true }
     // It was told where no more come, unless more is to be written.
-    ensures ends { may_push ways.new (D.seen device.new).marks ≡ true → is_silent id session.new ≡ true → result ≡ true }
+    ensures ends { may_push directions.new (D.seen device.new).marks ≡ true → is_silent id session.new ≡ true → result ≡ true }
     // One that may take bytes still has a stream that takes some, unless the session is over.
-    ensures takes { may_push ways.new (D.seen device.new).marks ≡ true → is_running session.new.status ≡ true → is_stopped id session.new ≡ false }
+    ensures takes { may_push directions.new (D.seen device.new).marks ≡ true → is_running session.new.status ≡ true → is_stopped id session.new ≡ false }
 {
-    if !ways.may_push(device) {
+    if !directions.may_push(device) {
         return false;
     }
     if session.unread_count(id) == 0 {
-        hear_silence(session, id, ways, device);
+        on_silence(session, id, directions, device);
         return false;
     }
-    if !push_once(session, id, ways, device, outgoing) {
+    if !push_once(session, id, directions, device, outgoing) {
         return false;
     }
     if session.unread_count(id) > 0 {
         return true;
     }
-    hear_silence(session, id, ways, device);
+    on_silence(session, id, directions, device);
     false
 }
 
@@ -121,24 +121,24 @@ fn deliver<D: Device>(
 fn push_once<D: Device>(
     session: &mut Session,
     id: u32,
-    ways: &mut Ways,
+    directions: &mut Directions,
     device: &mut D,
     outgoing: &mut Block,
 ) -> bool
     requires some { 0 < length (waiting id session.old) }
-    ensures delivered { Delivers id session.old session.new outgoing.old outgoing.new (D.seen device.old) (D.seen device.new) ways.old ways.new 2 }
-    ensures goes_on { result ≡ may_push ways.new (D.seen device.new).marks }
-    ensures takes { may_push ways.new (D.seen device.new).marks ≡ true → is_running session.new.status ≡ true → is_stopped id session.new ≡ false }
+    ensures delivered { Delivers id session.old session.new outgoing.old outgoing.new (D.seen device.old) (D.seen device.new) directions.old directions.new 2 }
+    ensures goes_on { result ≡ may_push directions.new (D.seen device.new).marks }
+    ensures takes { may_push directions.new (D.seen device.new).marks ≡ true → is_running session.new.status ≡ true → is_stopped id session.new ≡ false }
 {
     let (first, wrapped) = session.unread_slices(id);
     match push_all(device, first, wrapped) {
         Pushed::Took(count) => {
             take_out_announcing(session, id, count, outgoing);
-            ways.may_push(device)
+            directions.may_push(device)
         }
         Pushed::NotNow => false,
         Pushed::Failed => {
-            reset_and_shut(session, id, ways, device);
+            reset_and_shut(session, id, directions, device);
             false
         }
     }
@@ -178,21 +178,26 @@ fn push_all<D: Device>(device: &mut D, first: &[u8], wrapped: &[u8]) -> Pushed
 }
 
 /// Nothing waits to be written: the device is ended at the stream's end, and shut where the stream is no more.
-fn hear_silence<D: Device>(session: &mut Session, id: u32, ways: &mut Ways, device: &mut D)
+fn on_silence<D: Device>(
+    session: &mut Session,
+    id: u32,
+    directions: &mut Directions,
+    device: &mut D,
+)
     requires none { waiting id session.old ≡ [] }
-    requires open { is_open ways.old.from_peer ≡ true }
-    ensures part { Part id session.old session.new [] [] (D.seen device.old) (D.seen device.new) ways.old ways.new 1 0 }
-    ensures hears_end { HearsEnd id session.old ways.new }
+    requires open { is_open directions.old.from_peer ≡ true }
+    ensures part { Part id session.old session.new [] [] (D.seen device.old) (D.seen device.new) directions.old directions.new 1 0 }
+    ensures hears_end { HearsEnd id session.old directions.new }
     ensures none_came { GainsNone id session.old session.new }
 {
     match ask(session, id) {
         Unreadable::Wait => {}
         Unreadable::End => {
-            ways.from_peer = Flow::Ended;
+            directions.from_peer = Flow::Ended;
             device.end();
         }
         Unreadable::Stopped => {
-            ways.break_off();
+            directions.break_off();
             device.shut();
         }
     }
@@ -200,25 +205,30 @@ fn hear_silence<D: Device>(session: &mut Session, id: u32, ways: &mut Ways, devi
 
 /// No byte goes to the device now, though some of it may come: it is shut once its stream takes none any more. So is one whose
 /// connection is still being made, which may never be there.
-fn hear_stop<D: Device>(session: &mut Session, id: u32, ways: &mut Ways, device: &mut D)
-    ensures part { Part id session.old session.new [] [] (D.seen device.old) (D.seen device.new) ways.old ways.new 1 0 }
-    ensures tells { may_push ways.old (D.seen device.old).marks ≡ false → HearsStop id session.old ways.new }
+fn on_stop<D: Device>(session: &mut Session, id: u32, directions: &mut Directions, device: &mut D)
+    ensures part { Part id session.old session.new [] [] (D.seen device.old) (D.seen device.new) directions.old directions.new 1 0 }
+    ensures tells { may_push directions.old (D.seen device.old).marks ≡ false → HearsStop id session.old directions.new }
     ensures same { session.new ≡ session.old }
 {
-    if !ways.to_peer.is_open() || ways.may_push(device) {
+    if !directions.to_peer.is_open() || directions.may_push(device) {
         return;
     }
-    shut_if_stopped(session, id, ways, device);
+    shut_if_stopped(session, id, directions, device);
 }
 
 /// The device is shut where its stream takes no bytes any more, though it was not finished here.
-fn shut_if_stopped<D: Device>(session: &mut Session, id: u32, ways: &mut Ways, device: &mut D)
-    ensures part { Part id session.old session.new [] [] (D.seen device.old) (D.seen device.new) ways.old ways.new 1 0 }
-    ensures tells { HearsStop id session.old ways.new }
+fn shut_if_stopped<D: Device>(
+    session: &mut Session,
+    id: u32,
+    directions: &mut Directions,
+    device: &mut D,
+)
+    ensures part { Part id session.old session.new [] [] (D.seen device.old) (D.seen device.new) directions.old directions.new 1 0 }
+    ensures tells { HearsStop id session.old directions.new }
     ensures same { session.new ≡ session.old }
 {
     if is_stopped(session, id) {
-        ways.break_off();
+        directions.break_off();
         device.shut();
     }
 }
@@ -227,15 +237,15 @@ fn shut_if_stopped<D: Device>(session: &mut Session, id: u32, ways: &mut Ways, d
 pub(crate) fn reset_and_shut<D: Device>(
     session: &mut Session,
     id: u32,
-    ways: &mut Ways,
+    directions: &mut Directions,
     device: &mut D,
 )
     ensures reset { (told : Reply) × Gives in_turn session.old (event.Call (call.Reset id)) told session.new }
     ensures shut { IsShut (D.seen device.old) (D.seen device.new) }
-    ensures broken { ways.new ≡ broken_off ways.old }
+    ensures broken { directions.new ≡ broken_off directions.old }
 {
     reset(session, id);
-    ways.break_off();
+    directions.break_off();
     device.shut();
 }
 
@@ -243,38 +253,38 @@ pub(crate) fn reset_and_shut<D: Device>(
 fn collect<D: Device>(
     session: &mut Session,
     id: u32,
-    ways: &mut Ways,
+    directions: &mut Directions,
     device: &mut D,
     buffer: &mut [u8],
     outgoing: &mut Block,
     most: usize,
 ) -> TurnEnd
     requires room { one_read ≤ length buffer.old }
-    ensures part { Part id session.old session.new outgoing.old outgoing.new (D.seen device.old) (D.seen device.new) ways.old ways.new 4 result.gave }
+    ensures part { Part id session.old session.new outgoing.old outgoing.new (D.seen device.old) (D.seen device.new) directions.old directions.new 4 result.gave }
     ensures within { result.gave ≤ most }
-    ensures collects { 0 < most → may_pull ways.old (D.seen device.old).marks ≡ true → (0 < result.gave) ⊎ ((may_pull ways.new (D.seen device.new).marks ≡ false) ⊎ (room_of id session.new ≡ 0)) }
-    ensures fills { 0 < most → GivesWhole result.gave (min most one_read) (room_of id session.new) ways.new (D.seen device.new).marks }
-    ensures goes_on { result.more ≡ true → may_pull ways.new (D.seen device.new).marks ≡ true }
+    ensures collects { 0 < most → may_pull directions.old (D.seen device.old).marks ≡ true → (0 < result.gave) ⊎ ((may_pull directions.new (D.seen device.new).marks ≡ false) ⊎ (room_of id session.new ≡ 0)) }
+    ensures fills { 0 < most → GivesWhole result.gave (min most one_read) (room_of id session.new) directions.new (D.seen device.new).marks }
+    ensures goes_on { result.more ≡ true → may_pull directions.new (D.seen device.new).marks ≡ true }
     ensures gains { result.more ≡ true → 0 < result.gave }
-    ensures asks_on { 0 < most → may_pull ways.new (D.seen device.new).marks ≡ true → 0 < room_of id session.new → result.more ≡ true }
+    ensures asks_on { 0 < most → may_pull directions.new (D.seen device.new).marks ≡ true → 0 < room_of id session.new → result.more ≡ true }
     // The stream says no more of its end than it did, unless it was reset.
-    ensures ends { is_open ways.new.from_peer ≡ true → is_silent id session.new ≡ true → is_silent id session.old ≡ true }
-    ensures stops { is_open ways.new.to_peer ≡ true → is_stopped id session.new ≡ true → is_stopped id session.old ≡ true }
+    ensures ends { is_open directions.new.from_peer ≡ true → is_silent id session.new ≡ true → is_silent id session.old ≡ true }
+    ensures stops { is_open directions.new.to_peer ≡ true → is_stopped id session.new ≡ true → is_stopped id session.old ≡ true }
 {
-    if most == 0 || !ways.may_pull(device) {
+    if most == 0 || !directions.may_pull(device) {
         return TurnEnd::NOTHING;
     }
-    // what is due goes first, so that these bytes may go straight behind it
+    // what is due goes first, so that these bytes may go straight after it
     put_due(session, outgoing);
     let room = &mut buffer[..most.min(BLOCK)];
-    let first = fill(session, id, ways, device, room, outgoing);
+    let first = fill(session, id, directions, device, room, outgoing);
     let left = most - first.gave;
     if left == 0 || !first.more {
         return first;
     }
     put_due(session, outgoing);
     let room = &mut buffer[..left.min(BLOCK)];
-    let second = fill(session, id, ways, device, room, outgoing);
+    let second = fill(session, id, directions, device, room, outgoing);
     TurnEnd {
         more: second.more,
         gave: first.gave + second.gave,
@@ -286,39 +296,39 @@ fn collect<D: Device>(
 fn fill<D: Device>(
     session: &mut Session,
     id: u32,
-    ways: &mut Ways,
+    directions: &mut Directions,
     device: &mut D,
     buffer: &mut [u8],
     outgoing: &mut Block,
 ) -> TurnEnd
     requires room { length buffer.old ≤ one_read }
     requires some { 0 < length buffer.old }
-    requires open { is_open ways.old.to_peer ≡ true }
-    ensures part { Part id session.old session.new outgoing.old outgoing.new (D.seen device.old) (D.seen device.new) ways.old ways.new 2 result.gave }
+    requires open { is_open directions.old.to_peer ≡ true }
+    ensures part { Part id session.old session.new outgoing.old outgoing.new (D.seen device.old) (D.seen device.new) directions.old directions.new 2 result.gave }
     // It is given all the room, or as much as the stream takes.
-    ensures fills { GivesWhole result.gave (length buffer.old) (room_of id session.new) ways.new (D.seen device.new).marks }
+    ensures fills { GivesWhole result.gave (length buffer.old) (room_of id session.new) directions.new (D.seen device.new).marks }
     ensures within { result.gave ≤ length buffer.old }
-    ensures collects { (0 < result.gave) ⊎ ((may_pull ways.new (D.seen device.new).marks ≡ false) ⊎ (room_of id session.new ≡ 0)) }
+    ensures collects { (0 < result.gave) ⊎ ((may_pull directions.new (D.seen device.new).marks ≡ false) ⊎ (room_of id session.new ≡ 0)) }
     ensures goes_on { result.more ≡ true → 0 < result.gave }
-    ensures on { result.more ≡ true → may_pull ways.new (D.seen device.new).marks ≡ true }
-    ensures asks_on { may_pull ways.new (D.seen device.new).marks ≡ true → 0 < room_of id session.new → result.more ≡ true }
-    ensures ends { is_open ways.new.from_peer ≡ true → is_silent id session.new ≡ true → is_silent id session.old ≡ true }
-    ensures stops { is_open ways.new.to_peer ≡ true → is_stopped id session.new ≡ true → is_stopped id session.old ≡ true }
+    ensures on { result.more ≡ true → may_pull directions.new (D.seen device.new).marks ≡ true }
+    ensures asks_on { may_pull directions.new (D.seen device.new).marks ≡ true → 0 < room_of id session.new → result.more ≡ true }
+    ensures ends { is_open directions.new.from_peer ≡ true → is_silent id session.new ≡ true → is_silent id session.old ≡ true }
+    ensures stops { is_open directions.new.to_peer ≡ true → is_stopped id session.new ≡ true → is_stopped id session.old ≡ true }
 {
     let room = session.room(id).min(buffer.len());
     if room == 0 {
-        shut_if_stopped(session, id, ways, device);
+        shut_if_stopped(session, id, directions, device);
         return TurnEnd::NOTHING;
     }
     let bytes = &mut buffer[..room];
     match device.pull(bytes) {
         Pulled::Gave(count) => {
             if send(session, id, &bytes[..count], outgoing) {
-                let more = ways.may_pull(device);
+                let more = directions.may_pull(device);
                 return TurnEnd { more, gave: count };
             }
-            ways.lacked_memory = true;
-            reset_and_shut(session, id, ways, device);
+            directions.lacked_memory = true;
+            reset_and_shut(session, id, directions, device);
             return TurnEnd {
                 more: false,
                 gave: count,
@@ -327,9 +337,9 @@ fn fill<D: Device>(
         Pulled::NotNow => {}
         Pulled::Ended => {
             finish(session, id);
-            ways.to_peer = Flow::Ended;
+            directions.to_peer = Flow::Ended;
         }
-        Pulled::Failed => reset_and_shut(session, id, ways, device),
+        Pulled::Failed => reset_and_shut(session, id, directions, device),
     }
     TurnEnd::NOTHING
 }

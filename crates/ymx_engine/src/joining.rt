@@ -11,8 +11,8 @@ ghost use Rattle.ymx_engine.specs.Joins.{Told, Joins, IsJoined, IsOpened, IsAcce
 ghost use Rattle.ymx_engine.specs.Engines.{KeepsWire};
 ghost use Rattle.ymx_engine.specs.Refusals.{GivesUp, IsForgotten, OffersNone};
 ghost use Rattle.ymx_engine.specs.Runs.{Runs};
-ghost use Rattle.ymx_engine.specs.Turns.{Line as LineValue, line_of, look, SameLines};
-ghost use Rattle.ymx_engine.specs.Ways.{is_over};
+ghost use Rattle.ymx_engine.specs.Turns.{Connection as ConnectionValue, connection_of, look, SameConnections};
+ghost use Rattle.ymx_engine.specs.Directions.{is_over};
 
 use crate::device::Device;
 use crate::tunnel::Tunnel;
@@ -55,7 +55,7 @@ impl<D: Device + Drop, W: Device + Drop> Tunnel<D, W> {
         ensures wire { self.new.wire ≡ self.old.wire }
         ensures memory { self.new.no_memory ≡ self.old.no_memory }
     {
-        if let Err(refused) = self.lines.reserve() {
+        if let Err(refused) = self.connections.reserve() {
             return Err(NotJoined::BySession(CallFault::OutOfMemory(refused)));
         }
         match self.session.open() {
@@ -65,7 +65,7 @@ impl<D: Device + Drop, W: Device + Drop> Tunnel<D, W> {
     }
 
     /// Takes the offered stream that came first for this device, and returns its id. `None` where none waits, and where
-    /// the session refuses; then the device is let go. Where it can't be registered or kept, the stream is reset and
+    /// the session refuses; then the device is dropped. Where it can't be registered or kept, the stream is reset and
     /// forgotten, so that it doesn't wait on.
     pub fn accept<G: Registry<D>>(
         &mut self,
@@ -75,12 +75,12 @@ impl<D: Device + Drop, W: Device + Drop> Tunnel<D, W> {
         ensures runs { Runs self.old self.new }
         // The stream that was offered first was accepted, and the device joined it, of which the registry was told.
         ensures joined { IfOk result (λ offered. IfSome offered (λ id. IsJoined IsAccepted id (D.seen device) self.old self.new (G.told registry.old) (G.told registry.new))) }
-        ensures none { IfOk result (λ offered. IfNone offered (OffersNone self.old.engine.session self.new.engine.session × SameLines self.old.lines self.new.lines × (G.told registry.new ≡ G.told registry.old))) }
+        ensures none { IfOk result (λ offered. IfNone offered (OffersNone self.old.engine.session self.new.engine.session × SameConnections self.old.connections self.new.connections × (G.told registry.new ≡ G.told registry.old))) }
         ensures refused { IfErr result (λ why. IsNotAccepted why self.old self.new (G.told registry.old) (G.told registry.new)) }
         ensures wire { self.new.wire ≡ self.old.wire }
         ensures memory { self.new.no_memory ≡ self.old.no_memory }
     {
-        if let Err(refused) = self.lines.reserve() {
+        if let Err(refused) = self.connections.reserve() {
             self.reject();
             return Err(NotJoined::OutOfMemory(refused));
         }
@@ -94,7 +94,7 @@ impl<D: Device + Drop, W: Device + Drop> Tunnel<D, W> {
     /// was one. No memory is needed.
     pub fn reject(&mut self) -> bool
         ensures runs { Runs self.old self.new }
-        ensures lines { self.new.lines ≡ self.old.lines }
+        ensures connections { self.new.connections ≡ self.old.connections }
         ensures wire { self.new.wire ≡ self.old.wire }
         ensures over { self.new.is_wire_over ≡ self.old.is_wire_over }
         ensures memory { self.new.no_memory ≡ self.old.no_memory }
@@ -106,7 +106,7 @@ impl<D: Device + Drop, W: Device + Drop> Tunnel<D, W> {
             return false;
         };
         // no id is given twice, so this never is
-        if self.lines.contains(id) {
+        if self.connections.contains(id) {
             self.leave(id);
         } else {
             self.drop_stream(id);
@@ -117,14 +117,14 @@ impl<D: Device + Drop, W: Device + Drop> Tunnel<D, W> {
     /// Lets go of a connection's device, and forgets its stream. `None` where the stream has no device.
     pub fn forget(&mut self, id: u32) -> Option<D>
         // Nothing of it is left to move.
-        requires over { (l : LineValue) → line_of id self.old.lines ≡ Some l → (is_over l.ways ≡ true) ⊎ (is_running self.old.engine.session.status ≡ false) }
+        requires over { (l : ConnectionValue) → connection_of id self.old.connections ≡ Some l → (is_over l.directions ≡ true) ⊎ (is_running self.old.engine.session.status ≡ false) }
         ensures runs { Runs self.old self.new }
-        ensures given { option_map D.seen result ≡ look id self.old.lines }
+        ensures given { option_map D.seen result ≡ look id self.old.connections }
         ensures gone { Leaves id self.old self.new }
         ensures status { self.new.engine.session.status ≡ self.old.engine.session.status }
         ensures memory { self.new.no_memory ≡ self.old.no_memory }
     {
-        let device = self.lines.remove(id);
+        let device = self.connections.remove(id);
         let _ = self.session.forget(id);
         device
     }
@@ -136,8 +136,8 @@ impl<D: Device + Drop, W: Device + Drop> Tunnel<D, W> {
         device: D,
         registry: &mut G,
     ) -> Result<u32, NotJoined>
-        requires room { self.old.lines.has_room ≡ true }
-        requires place { self.old.lines.has_place ≡ true }
+        requires room { self.old.connections.has_room ≡ true }
+        requires place { self.old.connections.has_place ≡ true }
         ensures id { IfOk result (λ joined. joined ≡ id) }
         ensures joined { OnOk result (Joins id (D.seen device) self.old self.new) }
         ensures registered { OnOk result (Told id true (G.told registry.old) (G.told registry.new)) }
@@ -146,7 +146,7 @@ impl<D: Device + Drop, W: Device + Drop> Tunnel<D, W> {
         ensures memory { self.new.no_memory ≡ self.old.no_memory }
     {
         // no id is given twice, so this never is
-        if self.lines.contains(id) {
+        if self.connections.contains(id) {
             self.leave(id);
             return Err(NotJoined::Twice);
         }
@@ -155,7 +155,7 @@ impl<D: Device + Drop, W: Device + Drop> Tunnel<D, W> {
             self.drop_stream(id);
             return Err(NotJoined::Unregistered);
         }
-        self.lines.add(id, device);
+        self.connections.add(id, device);
         Ok(id)
     }
 

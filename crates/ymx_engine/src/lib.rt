@@ -7,10 +7,11 @@
 mod block;
 mod buffers;
 mod calls;
+mod connections;
 mod device;
+mod directions;
 mod exchange;
 mod joining;
-mod lines;
 mod passing;
 mod reading;
 mod row;
@@ -18,10 +19,9 @@ mod sending;
 mod standing;
 mod steps;
 mod tunnel;
-mod ways;
 mod writing;
 
 pub use device::{Device, Pulled, Pushed, Readiness};
+pub use directions::{Directions, Flow};
 pub use joining::{NotJoined, Registry};
 pub use tunnel::{Served, Tunnel};
-pub use ways::{Flow, Ways};

@@ -2,14 +2,14 @@
 
 ghost use Rattle.std.specs.Prelude.{ℕ, ◌≡◌, ◌+◌, ◌<◌, ◌≤◌, length, take, drop, nat_eq, false};
 ghost use Rattle.ymx_model.specs.session.Feeds.{is_stuck};
-ghost use Rattle.ymx_engine.specs.Passes.{IsRow, OffersOnce, Settles, behind_row, counts_of, payload_of};
+ghost use Rattle.ymx_engine.specs.Passes.{IsRow, OffersOnce, Commits, behind_row, counts_of, payload_of};
 ghost use Rattle.ymx_engine.specs.Served.{GainsNone};
 
 use crate::calls::pass;
 use crate::device::{Device, Pushed};
+use crate::directions::Directions;
 use crate::exchange::reset_and_shut;
 use crate::row::Row;
-use crate::ways::Ways;
 use ymx_session::{Session, payload_follows};
 
 /// Offers the row to its device in one call. How many of the bytes that wait came then: what the device took, which was read
@@ -17,13 +17,13 @@ use ymx_session::{Session, payload_follows};
 pub(crate) fn offer<D: Device>(
     session: &mut Session,
     row: Row,
-    ways: &mut Ways,
+    directions: &mut Directions,
     device: &mut D,
     waits: &[u8],
 ) -> usize
     requires row { IsRow row waits.now session.old }
     requires some { 0 < row.first }
-    ensures offered { OffersOnce row.id waits.now result session.old session.new (D.seen device.old) (D.seen device.new) ways.old ways.new }
+    ensures offered { OffersOnce row.id waits.now result session.old session.new (D.seen device.old) (D.seen device.new) directions.old directions.new }
     // What came lies in the row.
     ensures in_row { result + length (behind_row (counts_of row) waits.now) ≤ length waits.now }
     ensures goes_on { result ≡ 0 → is_stuck session.new ≡ false }
@@ -31,18 +31,18 @@ pub(crate) fn offer<D: Device>(
     ensures status { session.new.status ≡ session.old.status }
 {
     match row.push_to(waits, device) {
-        Pushed::Took(count) => settle(session, row, waits, count),
+        Pushed::Took(count) => commit(session, row, waits, count),
         Pushed::NotNow => 0,
         Pushed::Failed => {
-            reset_and_shut(session, row.id, ways, device);
+            reset_and_shut(session, row.id, directions, device);
             0
         }
     }
 }
 
-/// The device took the first `taken` bytes of a row: they come, and are read at once, each payload and then the header behind
+/// The device took the first `taken` bytes of a row: they come, and are read at once, each payload and then the header after
 /// it. How many of the bytes that wait came then.
-fn settle(session: &mut Session, row: Row, waits: &[u8], taken: usize) -> usize
+fn commit(session: &mut Session, row: Row, waits: &[u8], taken: usize) -> usize
     requires row { IsRow row waits.now session.old }
     requires first { 0 < row.first }
     requires some { 0 < taken }
@@ -50,7 +50,7 @@ fn settle(session: &mut Session, row: Row, waits: &[u8], taken: usize) -> usize
     ensures within { result ≤ length waits.now }
     ensures some { 0 < result }
     ensures in_row { result + length (behind_row (counts_of row) waits.now) ≤ length waits.now }
-    ensures settled { Settles row.id (take taken (payload_of row waits.now)) waits.now (drop result waits.now) session.old session.new }
+    ensures committed { Commits row.id (take taken (payload_of row waits.now)) waits.now (drop result waits.now) session.old session.new }
     ensures others { (other : ℕ) → nat_eq row.id other ≡ false → GainsNone other session.old session.new }
     ensures status { session.new.status ≡ session.old.status }
 {

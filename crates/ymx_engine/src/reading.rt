@@ -19,8 +19,8 @@ ghost use Rattle.ymx_engine.specs.InPlace.{OffersRow, PassesRow, PullsWire, Read
 ghost use Rattle.ymx_engine.specs.Runs.{Runs, Stays, Rests};
 ghost use Rattle.ymx_engine.specs.Served.{Serving};
 ghost use Rattle.ymx_engine.specs.Steps.{Keeps, ReadsOn, StaysOver};
-ghost use Rattle.ymx_engine.specs.Turns.{line_of, Awaits, IsDue, KeepsLines, Waits, turns_left};
-ghost use Rattle.ymx_engine.specs.Ways.{may_push};
+ghost use Rattle.ymx_engine.specs.Turns.{connection_of, Awaits, IsDue, KeepsConnections, Waits, turns_left};
+ghost use Rattle.ymx_engine.specs.Directions.{may_push};
 ghost use Rattle.ymx_engine.specs.Work.{Reads};
 
 use crate::device::{Device, Pulled};
@@ -34,12 +34,12 @@ impl<D: Device + Drop, W: Device + Drop> Tunnel<D, W> {
     /// of one frame wait, or a row of whole frames that fills a call, goes straight to the device that takes it. Once the wire
     /// has ended or failed the session is lost.
     ///
-    /// A frame that opens a stream waits where 1,024 streams are there, and with it all behind it, as long as a connection waits for
+    /// A frame that opens a stream waits where 1,024 streams are there, and with it all after it, as long as a connection waits for
     /// a turn in which it may make place: until each that waits for one as the frame comes has had it. So no stream is rejected for
     /// one that has ended before it.
     ///
     /// This call alone lacks memory, as `no_memory` tells: where a feed rejects
-    /// a stream of the peer's for want of it.
+    /// a stream of the peer's for lack of it.
     pub fn read_wire(&mut self, least: usize)
         ensures runs { Runs self.old self.new }
         ensures stays { Stays self.old self.new }
@@ -50,9 +50,9 @@ impl<D: Device + Drop, W: Device + Drop> Tunnel<D, W> {
         ensures fed { IsFedOrWaits self.new }
         // As long as the next frame waits for a place, nothing comes, and each connection is due that was to have its turn before it.
         ensures waits { is_put_off self.old ≡ true → (self.new.engine ≡ self.old.engine) × (self.new.wire ≡ self.old.wire) }
-        ensures due { is_put_off self.old ≡ true → (id : ℕ) → IsDue id self.old.lines → IsDue id self.new.lines }
+        ensures due { is_put_off self.old ≡ true → (id : ℕ) → IsDue id self.old.connections → IsDue id self.new.connections }
         // Where a frame comes to wait at this call, each connection that waits for a turn then has it before the frame comes.
-        ensures first { is_put_off self.old ≡ false → is_put_off self.new ≡ true → (id : ℕ) → Waits id self.new.lines → IsDue id self.new.lines }
+        ensures first { is_put_off self.old ≡ false → is_put_off self.new ≡ true → (id : ℕ) → Waits id self.new.connections → IsDue id self.new.connections }
         // Nothing happens but steps that feed no byte of a frame while it waits.
         ensures placed { ReadsInPlace self.old self.new }
     {
@@ -80,10 +80,10 @@ impl<D: Device + Drop, W: Device + Drop> Tunnel<D, W> {
             return;
         }
         match self.incoming.pull_from(&mut self.wire) {
-            Pulled::Gave(_) | Pulled::NotNow => self.lines.count_turns(None),
+            Pulled::Gave(_) | Pulled::NotNow => self.connections.count_turns(None),
             Pulled::Ended | Pulled::Failed => {
                 self.lose();
-                self.lines.count_turns(None);
+                self.connections.count_turns(None);
             }
         }
     }
@@ -93,7 +93,7 @@ impl<D: Device + Drop, W: Device + Drop> Tunnel<D, W> {
         ensures lost { is_running self.new.engine.session.status ≡ false }
         ensures over { self.new.is_wire_over ≡ true }
         ensures wire { self.new.wire ≡ self.old.wire }
-        ensures lines { KeepsLines self.old.lines self.new.lines }
+        ensures connections { KeepsConnections self.old.connections self.new.connections }
         ensures memory { self.new.no_memory ≡ self.old.no_memory }
         ensures event { Gives in_turn self.old.engine.session event.FeedEnd reply.Done self.new.engine.session }
         ensures bytes { KeepsWire self.old.engine self.new.engine }
@@ -101,7 +101,7 @@ impl<D: Device + Drop, W: Device + Drop> Tunnel<D, W> {
     {
         self.is_wire_over = true;
         self.session.feed_end();
-        self.lines.enqueue_all();
+        self.connections.enqueue_all();
     }
 
     /// Feeds what waits up to a row of payload that is worth a call of its device, which may take some. `None` where all that
@@ -117,10 +117,10 @@ impl<D: Device + Drop, W: Device + Drop> Tunnel<D, W> {
         ensures rest { IfNone result (IsFedOrWaits self.new) }
         ensures few { length self.new.engine.incoming ≤ length self.old.engine.incoming }
         ensures waits { is_put_off self.old ≡ true → (result ≡ None) × (self.new.engine ≡ self.old.engine) }
-        ensures due { is_put_off self.old ≡ true → (id : ℕ) → IsDue id self.old.lines → IsDue id self.new.lines }
+        ensures due { is_put_off self.old ≡ true → (id : ℕ) → IsDue id self.old.connections → IsDue id self.new.connections }
         // Where a frame comes to wait, each connection that waits for a turn then has it before the frame comes.
-        ensures first { (is_put_off self.old ≡ false) ⊎ (self.old.lines.turns_to_place ≡ None) → is_put_off self.new ≡ true → (id : ℕ) → Waits id self.new.lines → IsDue id self.new.lines }
-        ensures anew { IfSome result (λ row. self.new.lines.turns_to_place ≡ None) }
+        ensures first { (is_put_off self.old ≡ false) ⊎ (self.old.connections.turns_to_place ≡ None) → is_put_off self.new ≡ true → (id : ℕ) → Waits id self.new.connections → IsDue id self.new.connections }
+        ensures anew { IfSome result (λ row. self.new.connections.turns_to_place ≡ None) }
     {
         // each turn that goes on feeds a byte at least
         let turns = self.incoming.waiting().len().max(1);
@@ -145,11 +145,11 @@ impl<D: Device + Drop, W: Device + Drop> Tunnel<D, W> {
     /// Whether the device of this row may take bytes, and there are so many in its first frame, one at least, or the row fills a
     /// call.
     fn is_worth_a_call(&self, row: &Row, least: usize) -> bool
-        ensures { result ≡ (nat_lt 0 row.now.first && (nat_le least row.now.first || (nat_le 4096 (row_len row.now) && row.now.is_whole)) && option_map_or (λ l. may_push l.ways l.seen.marks) (line_of row.now.id self.now.lines) false) }
+        ensures { result ≡ (nat_lt 0 row.now.first && (nat_le least row.now.first || (nat_le 4096 (row_len row.now) && row.now.is_whole)) && option_map_or (λ l. may_push l.directions l.seen.marks) (connection_of row.now.id self.now.connections) false) }
     {
         row.count() > 0
             && (row.count() >= least || row.fills_a_call())
-            && self.lines.may_push(row.id)
+            && self.connections.may_push(row.id)
     }
 
     /// Whether the next frame waits for a place.
@@ -159,13 +159,13 @@ impl<D: Device + Drop, W: Device + Drop> Tunnel<D, W> {
         ensures keeps { Keeps self.old self.new }
         ensures engine { self.new.engine ≡ self.old.engine }
         // So many turns it waits, at most.
-        ensures counts { self.new.lines ≡ record self.old.lines { turns_to_place = if lacks_place self.old.engine then Some (turns_left self.old.lines) else None } }
+        ensures counts { self.new.connections ≡ record self.old.connections { turns_to_place = if lacks_place self.old.engine then Some (turns_left self.old.connections) else None } }
         // Who waits for a turn as the frame comes to wait has it before the frame comes, and so has who was to have it before.
-        ensures first { self.old.lines.turns_to_place ≡ None → (id : ℕ) → Waits id self.old.lines → IsDue id self.new.lines }
-        ensures due { (id : ℕ) → IsDue id self.old.lines → IsDue id self.new.lines }
+        ensures first { self.old.connections.turns_to_place ≡ None → (id : ℕ) → Waits id self.old.connections → IsDue id self.new.connections }
+        ensures due { (id : ℕ) → IsDue id self.old.connections → IsDue id self.new.connections }
     {
         let lacks_place = self.lacks_place();
-        self.lines.puts_off(lacks_place)
+        self.connections.puts_off(lacks_place)
     }
 
     /// Whether a frame comes next that may open a stream, and there is no place for one.
@@ -200,14 +200,14 @@ impl<D: Device + Drop, W: Device + Drop> Tunnel<D, W> {
         ensures few { length self.new.engine.incoming ≤ length self.old.engine.incoming }
         ensures placed { FeedsToFull self.old.engine self.new.engine }
         // The next frame has not waited yet.
-        ensures anew { self.new.lines.turns_to_place ≡ None }
+        ensures anew { self.new.connections.turns_to_place ≡ None }
     {
         let limit = self.feed_limit();
         let fed = self
             .incoming
             .feed_to_payload(&mut self.session, limit, &mut self.touched);
-        self.lines.hear_touched(&mut self.touched);
-        self.hear_fed(fed.no_memory.get());
+        self.connections.on_touched(&mut self.touched);
+        self.on_fed(fed.no_memory.get());
         if fed.taken < limit {
             return false;
         }
@@ -221,31 +221,31 @@ impl<D: Device + Drop, W: Device + Drop> Tunnel<D, W> {
         ensures few { length self.new.engine.incoming ≤ length self.old.engine.incoming }
         ensures most { length self.old.engine.incoming ≤ length self.new.engine.incoming + most }
         ensures placed { FeedsToFull self.old.engine self.new.engine }
-        ensures anew { self.new.lines.turns_to_place ≡ None }
+        ensures anew { self.new.connections.turns_to_place ≡ None }
     {
         let lack = (self.session.payload_left() as usize).max(1);
         let fed = self
             .incoming
             .feed_some(&mut self.session, most.min(lack), &mut self.touched);
-        self.lines.hear_touched(&mut self.touched);
-        self.hear_fed(fed.no_memory.get());
+        self.connections.on_touched(&mut self.touched);
+        self.on_fed(fed.no_memory.get());
     }
 
-    /// A feed was made, at which so many streams were rejected for want of memory. Those that missed a turn have one, and where the
+    /// A feed was made, at which so many streams were rejected for lack of memory. Those that missed a turn have one, and where the
     /// session runs no more all have.
-    fn hear_fed(&mut self, rejected: u32)
+    fn on_fed(&mut self, rejected: u32)
         ensures engine { self.new.engine ≡ self.old.engine }
         ensures wire { self.new.wire ≡ self.old.wire }
         ensures over { self.new.is_wire_over ≡ self.old.is_wire_over }
-        ensures lines { KeepsLines self.old.lines self.new.lines }
+        ensures connections { KeepsConnections self.old.connections self.new.connections }
         ensures memory { self.new.no_memory ≡ count_on self.old.no_memory rejected }
-        ensures all { is_running self.new.engine.session.status ≡ false → (id : ℕ) → IsSome (line_of id self.new.lines) → Awaits id self.new.lines }
-        ensures place { self.new.lines.turns_to_place ≡ self.old.lines.turns_to_place }
+        ensures all { is_running self.new.engine.session.status ≡ false → (id : ℕ) → IsSome (connection_of id self.new.connections) → Awaits id self.new.connections }
+        ensures place { self.new.connections.turns_to_place ≡ self.old.connections.turns_to_place }
     {
         self.no_memory = self.no_memory.saturating_add(rejected as u64);
-        self.lines.enqueue_missed();
+        self.connections.enqueue_missed();
         if self.session.status() != Status::Running {
-            self.lines.enqueue_all();
+            self.connections.enqueue_all();
         }
     }
 
@@ -260,8 +260,8 @@ impl<D: Device + Drop, W: Device + Drop> Tunnel<D, W> {
         ensures rests { Rests self.old self.new }
         ensures wire { self.new.wire ≡ self.old.wire }
         ensures over { self.new.is_wire_over ≡ self.old.is_wire_over }
-        ensures closed { StaysOver self.old.lines self.new.lines }
-        // Less of it waits behind the call.
+        ensures closed { StaysOver self.old.connections self.new.connections }
+        // Less of it waits after the call.
         ensures some { length self.new.engine.incoming < length self.old.engine.incoming }
         // What came lies in the row.
         ensures passed { PassesRow row self.old self.new }
@@ -273,7 +273,7 @@ impl<D: Device + Drop, W: Device + Drop> Tunnel<D, W> {
     }
 
     /// Offers a row to its connection's device, if it may take bytes. How many of the bytes that wait came then. The connection
-    /// has a turn then, as the end of the stream may have come with them, and a device that failed is let go of.
+    /// has a turn then, as the end of the stream may have come with them, and a device that failed is dropped.
     fn offer(&mut self, row: Row) -> usize
         requires row { IsRow row self.old.engine.incoming self.old.engine.session }
         requires some { 0 < row.first }
@@ -282,13 +282,13 @@ impl<D: Device + Drop, W: Device + Drop> Tunnel<D, W> {
         ensures rests { Rests self.old self.new }
         ensures wire { self.new.wire ≡ self.old.wire }
         ensures over { self.new.is_wire_over ≡ self.old.is_wire_over }
-        ensures closed { StaysOver self.old.lines self.new.lines }
+        ensures closed { StaysOver self.old.connections self.new.connections }
         ensures taken { length self.new.engine.incoming + result ≡ length self.old.engine.incoming }
         ensures passed { OffersRow row result self.old self.new }
         ensures goes_on { result ≡ 0 → is_stuck self.new.engine.session ≡ false }
     {
         let taken = self
-            .lines
+            .connections
             .offer(row, &mut self.session, self.incoming.waiting());
         self.incoming.drop_front(taken);
         taken

@@ -22,14 +22,14 @@ fn front(bytes: &[u8], count: usize) -> &[u8]
     &bytes[..count.min(bytes.len())]
 }
 
-/// What stands behind so many of these bytes.
+/// What stands after so many of these bytes.
 fn behind(bytes: &[u8], count: usize) -> &[u8]
     ensures { result.now ≡ drop count bytes.now }
 {
     &bytes[count.min(bytes.len())..]
 }
 
-/// Payload of one frame that waits: how many bytes of it, what waits behind it, how many bytes the headers before it say, and
+/// Payload of one frame that waits: how many bytes of it, what waits after it, how many bytes the headers before it say, and
 /// whether the row ended before it.
 #[derive(Drop)]
 struct Piece<'a> {
@@ -56,7 +56,7 @@ impl<'a> Piece<'a> {
         }
     }
 
-    /// How many bytes of payload the header says that waits behind it, where its frame stands in the row.
+    /// How many bytes of payload the header says that waits after it, where its frame stands in the row.
     fn following(&self, session: &Session) -> Option<u32>
         ensures goes_on { IfSome result (λ said. self.now.has_ended ≡ false) }
         ensures there { IfSome result (λ said. 12 ≤ length self.now.behind.now) }
@@ -105,7 +105,7 @@ pub(crate) struct Row {
     second: u32,
     third: u32,
     fourth: u32,
-    /// Something else waits behind it, so no more of the row comes.
+    /// Something else waits after it, so no more of the row comes.
     is_whole: bool,
 }
 
@@ -156,7 +156,7 @@ impl Row {
         self.first as usize
     }
 
-    /// Whether they are a whole row, behind which something else waits, and many enough for a call of the device. A row at
+    /// Whether they are a whole row, after which something else waits, and many enough for a call of the device. A row at
     /// the end of what the wire gave may go on in its next read, and one long write costs less than two short ones.
     pub(crate) fn fills_a_call(&self) -> bool
         ensures { result ≡ (nat_le 4096 (row_len self.now) && self.now.is_whole) }

@@ -17,7 +17,7 @@ use crate::calls::write;
 use ymx_header::DATA_LIMIT;
 use ymx_session::Session;
 
-/// What is due waits behind what waits for the wire, where nothing waits or there is room for eight whole frames.
+/// What is due waits after what waits for the wire, where nothing waits or there is room for eight whole frames.
 pub(crate) fn put_due(session: &mut Session, outgoing: &mut Block)
     ensures put { PutsDue session.old session.new outgoing.old outgoing.new }
     ensures due { is_ready session.old ≡ true → 0 < length outgoing.new }

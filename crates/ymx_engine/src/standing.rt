@@ -7,12 +7,12 @@ ghost use Rattle.ymx_session.specs.Opens.{opens_left};
 ghost use Rattle.ymx_engine.specs.Engines.{is_flushed, unframed};
 ghost use Rattle.ymx_engine.specs.Runs.{IsOver};
 ghost use Rattle.ymx_engine.specs.Served.{Serving, NoneWaits, NoneGives, NoneEnds, NoneStops, NoneHangs};
-ghost use Rattle.ymx_engine.specs.Turns.{Waits, HasTurnSoon, look, ways_of, is_over_at};
+ghost use Rattle.ymx_engine.specs.Turns.{Waits, HasTurnSoon, look, directions_of, is_over_at};
 ghost use Rattle.ymx_engine.specs.Work.{has_work, has_to_write, may_read_wire};
 
 use crate::device::Device;
+use crate::directions::Directions;
 use crate::tunnel::Tunnel;
-use crate::ways::Ways;
 use ymx_model::Status;
 
 impl<D: Device + Drop, W: Device + Drop> Tunnel<D, W> {
@@ -25,11 +25,11 @@ impl<D: Device + Drop, W: Device + Drop> Tunnel<D, W> {
         ensures rest { Serving self.now → result ≡ false → NoneWaits self.now }
         // Where the wire may take bytes too, no stream takes bytes that its device may have.
         ensures gives { Serving self.now → result ≡ false → self.now.wire.marks.may_push ≡ true → NoneGives self.now }
-        // In a session that is over no way to the peer is open then.
+        // In a session that is over no direction to the peer is open then.
         ensures hears { Serving self.now → result ≡ false → NoneHangs self.now }
         // So more may come on each stream whose device may take bytes now: where none may, the device was told.
         ensures ends { Serving self.now → result ≡ false → NoneEnds self.now }
-        // And each stream takes bytes, or was finished here, whose way to the peer is open, also while its connection is being made.
+        // And each stream takes bytes, or was finished here, whose direction to the peer is open, also while its connection is being made.
         ensures stops { Serving self.now → result ≡ false → NoneStops self.now }
     {
         self.may_move()
@@ -39,8 +39,8 @@ impl<D: Device + Drop, W: Device + Drop> Tunnel<D, W> {
     fn may_move(&self) -> bool
         ensures { result ≡ has_work self.now }
     {
-        !self.lines.is_idle()
-            || self.lines.has_missed()
+        !self.connections.is_idle()
+            || self.connections.has_missed()
             || self.may_read_wire()
             || (self.wire.may_push() && self.has_to_write())
     }
@@ -49,7 +49,7 @@ impl<D: Device + Drop, W: Device + Drop> Tunnel<D, W> {
     fn has_to_write(&self) -> bool
         ensures { result ≡ has_to_write self.now }
     {
-        self.session.due() || !self.outgoing.waiting().is_empty() || self.lines.has_held()
+        self.session.due() || !self.outgoing.waiting().is_empty() || self.connections.has_held()
     }
 
     /// Whether the wire may have bytes, or bytes of it may be fed now.
@@ -79,45 +79,45 @@ impl<D: Device + Drop, W: Device + Drop> Tunnel<D, W> {
     }
 
     /// Whether neither way of a connection is open, or the stream has none.
-    pub fn is_line_over(&self, id: u32) -> bool
-        ensures { result ≡ is_over_at id self.now.lines }
+    pub fn is_connection_over(&self, id: u32) -> bool
+        ensures { result ≡ is_over_at id self.now.connections }
     {
-        self.lines.is_over(id)
+        self.connections.is_over(id)
     }
 
-    /// How the ways of a connection stand. `None` where the stream has none.
-    pub fn ways(&self, id: u32) -> Option<Ways>
-        ensures { result ≡ ways_of id self.now.lines }
+    /// How the directions of a connection stand. `None` where the stream has none.
+    pub fn directions(&self, id: u32) -> Option<Directions>
+        ensures { result ≡ directions_of id self.now.connections }
     {
-        self.lines.ways(id)
+        self.connections.directions(id)
     }
 
     /// The device of a stream. `None` where it has none.
     pub fn device(&self, id: u32) -> Option<&D>
-        ensures { option_map (λ device. D.seen device.now) result ≡ look id self.now.lines }
+        ensures { option_map (λ device. D.seen device.now) result ≡ look id self.now.connections }
     {
-        self.lines.device(id)
+        self.connections.device(id)
     }
 
     /// The stream of the connection at this place. `None` where there are no more than so many.
     pub fn id_at(&self, place: usize) -> Option<u32>
-        ensures { result ≡ slice_get (keys_of self.now.lines.by_id) place }
+        ensures { result ≡ slice_get (keys_of self.now.connections.by_id) place }
     {
-        self.lines.id_at(place)
+        self.connections.id_at(place)
     }
 
     /// How many connections there are.
     pub fn len(&self) -> usize
-        ensures { result ≡ length self.now.lines.by_id }
+        ensures { result ≡ length self.now.connections.by_id }
     {
-        self.lines.len()
+        self.connections.len()
     }
 
     /// Whether there is no connection.
     pub fn is_empty(&self) -> bool
-        ensures { result ≡ (length self.now.lines.by_id == 0) }
+        ensures { result ≡ (length self.now.connections.by_id == 0) }
     {
-        self.lines.len() == 0
+        self.connections.len() == 0
     }
 
     /// The wire.
@@ -129,16 +129,16 @@ impl<D: Device + Drop, W: Device + Drop> Tunnel<D, W> {
 
     /// How many connections wait for a turn.
     pub fn queued_count(&self) -> usize
-        ensures count { result ≡ min (length self.now.lines.fresh + length self.now.lines.busy) usize.MAX }
+        ensures count { result ≡ min (length self.now.connections.fresh + length self.now.connections.busy) usize.MAX }
         // Each connection waits once at most.
-        ensures few { length self.now.lines.fresh + length self.now.lines.busy ≤ length self.now.lines.by_id }
-        // Whoever waits has its turn within twice as many calls of `serve_next` as there are connections: each leaves it fewer before it.
-        ensures soon { (id : ℕ) → Waits id self.now.lines → HasTurnSoon id self.now.lines }
+        ensures few { length self.now.connections.fresh + length self.now.connections.busy ≤ length self.now.connections.by_id }
+        // A connection that waits has its turn within twice as many calls of `serve_next` as there are connections: each leaves it fewer before it.
+        ensures soon { (id : ℕ) → Waits id self.now.connections → HasTurnSoon id self.now.connections }
     {
-        self.lines.queued_count()
+        self.connections.queued_count()
     }
 
-    /// How many streams of the peer's were rejected for want of memory, as the feeds of `read_wire` said. It stays at the
+    /// How many streams of the peer's were rejected for lack of memory, as the feeds of `read_wire` said. It stays at the
     /// greatest `u64`.
     pub fn no_memory(&self) -> u64
         ensures { result ≡ self.now.no_memory }
@@ -153,14 +153,14 @@ impl<D: Device + Drop, W: Device + Drop> Tunnel<D, W> {
         self.session.offered_count()
     }
 
-    /// How many streams may be opened now, one behind another. At 0 an opening is refused.
+    /// How many streams may be opened now, one after another. At 0 an opening is refused.
     pub fn opens_left(&self) -> usize
         ensures { result ≡ opens_left self.now.engine.session }
     {
         self.session.opens_left()
     }
 
-    /// How many of the bytes that the wire gave stand behind the last whole frame: those of a header that isn't whole, and
+    /// How many of the bytes that the wire gave stand after the last whole frame: those of a header that isn't whole, and
     /// those that the session hasn't taken. `None` while the payload of a frame is under way.
     pub fn unframed(&self) -> Option<usize>
         ensures { result ≡ unframed self.now.engine }

@@ -8,20 +8,20 @@ ghost use Rattle.ymx_engine.specs.Passes.{IsRow, behind_row, counts_of};
 ghost use Rattle.ymx_engine.specs.Served.{GainsNone};
 ghost use Rattle.ymx_engine.specs.Serves.{Turn};
 ghost use Rattle.ymx_engine.specs.Steps.{TakesPart, PassesPart, OffersPart};
-ghost use Rattle.ymx_engine.specs.Turns.{Line as LineValue, line_of, Puts, SameQueues};
-ghost use Rattle.ymx_engine.specs.Ways.{may_push, may_pull};
+ghost use Rattle.ymx_engine.specs.Turns.{Connection as ConnectionValue, connection_of, Puts, SameQueues};
+ghost use Rattle.ymx_engine.specs.Directions.{may_push, may_pull};
 
 use crate::block::Block;
+use crate::connections::Connections;
 use crate::device::Device;
 use crate::exchange::serve;
-use crate::lines::Lines;
 use crate::passing::offer;
 use crate::row::Row;
 use ymx_session::Session;
 
 /// What a turn of a connection came to.
 #[derive(Clone, Copy)]
-pub(crate) struct Part {
+pub(crate) struct Chunk {
     /// It has more to move at once.
     more: bool,
     /// Its device may have bytes.
@@ -30,7 +30,7 @@ pub(crate) struct Part {
     gave: usize,
 }
 
-impl Part {
+impl Chunk {
     /// Whether it waits until nothing waits for the wire: it was not to be read, and its device may have bytes.
     fn is_put_off(&self, most: usize) -> bool
         ensures { result ≡ ((most == 0) && self.now.may_give) }
@@ -39,7 +39,7 @@ impl Part {
     }
 }
 
-impl<D: Device + Drop> Lines<D> {
+impl<D: Device + Drop> Connections<D> {
     /// The connection of this stream has its turn, if it is there, and gives `most` bytes at most: with 0 it isn't read. It
     /// waits for a further turn where it has more to move, or until nothing waits for the wire where it was not to be read and
     /// may have bytes. How many bytes its device gave.
@@ -52,8 +52,8 @@ impl<D: Device + Drop> Lines<D> {
         most: usize,
     ) -> usize
         requires room { one_read ≤ length buffer.old }
-        ensures served { (was : LineValue) → line_of id self.old ≡ Some was → TakesPart id most was session.old session.new outgoing.old outgoing.new self.old self.new result }
-        ensures none { line_of id self.old ≡ None → (self.new ≡ self.old) × (session.new ≡ session.old) × (outgoing.new ≡ outgoing.old) × (result ≡ 0) }
+        ensures served { (was : ConnectionValue) → connection_of id self.old ≡ Some was → TakesPart id most was session.old session.new outgoing.old outgoing.new self.old self.new result }
+        ensures none { connection_of id self.old ≡ None → (self.new ≡ self.old) × (session.new ≡ session.old) × (outgoing.new ≡ outgoing.old) × (result ≡ 0) }
     {
         match self.take_part(id, session, buffer, outgoing, most) {
             Some(part) => {
@@ -72,10 +72,10 @@ impl<D: Device + Drop> Lines<D> {
         buffer: &mut [u8],
         outgoing: &mut Block,
         most: usize,
-    ) -> Option<Part>
+    ) -> Option<Chunk>
         requires room { one_read ≤ length buffer.old }
-        ensures some { IfSome result (λ part. (was : LineValue) × (line_of id self.old ≡ Some was) × (now : LineValue) × Puts id (Some now) self.old self.new × Turn id most session.old session.new outgoing.old outgoing.new was.seen now.seen was.ways now.ways part.more part.gave × (part.may_give ≡ may_pull now.ways now.seen.marks)) }
-        ensures none { IfNone result (line_of id self.old ≡ None) }
+        ensures some { IfSome result (λ part. (was : ConnectionValue) × (connection_of id self.old ≡ Some was) × (now : ConnectionValue) × Puts id (Some now) self.old self.new × Turn id most session.old session.new outgoing.old outgoing.new was.seen now.seen was.directions now.directions part.more part.gave × (part.may_give ≡ may_pull now.directions now.seen.marks)) }
+        ensures none { IfNone result (connection_of id self.old ≡ None) }
         ensures same { IfNone result (self.new ≡ self.old) }
         ensures idle { IfNone result ((session.new ≡ session.old) × (outgoing.new ≡ outgoing.old)) }
         ensures queues { SameQueues self.old self.new }
@@ -83,19 +83,19 @@ impl<D: Device + Drop> Lines<D> {
         let Some(found) = self.by_id.get_mut(&id) else {
             return None;
         };
-        let line = &mut found.line;
+        let connection = &mut found.connection;
         let turn = serve(
             session,
             id,
-            &mut line.ways,
-            &mut line.device,
+            &mut connection.directions,
+            &mut connection.device,
             buffer,
             outgoing,
             most,
         );
-        let may_give = line.ways.may_pull(&line.device);
+        let may_give = connection.directions.may_pull(&connection.device);
         found.is_busy = turn.moves_much(found.is_busy);
-        Some(Part {
+        Some(Chunk {
             more: turn.more,
             may_give,
             gave: turn.gave,
@@ -104,10 +104,13 @@ impl<D: Device + Drop> Lines<D> {
 
     /// Whether bytes may go to the device of this stream now.
     pub(crate) fn may_push(&self, id: u32) -> bool
-        ensures { result ≡ option_map_or (λ l. may_push l.ways l.seen.marks) (line_of id self.now) false }
+        ensures { result ≡ option_map_or (λ l. may_push l.directions l.seen.marks) (connection_of id self.now) false }
     {
         match self.by_id.get(&id) {
-            Some(found) => found.line.ways.may_push(&found.line.device),
+            Some(found) => found
+                .connection
+                .directions
+                .may_push(&found.connection.device),
             None => false,
         }
     }
@@ -136,10 +139,10 @@ impl<D: Device + Drop> Lines<D> {
     fn offer_row(&mut self, row: Row, session: &mut Session, waits: &[u8]) -> usize
         requires row { IsRow row waits.now session.old }
         requires some { 0 < row.first }
-        ensures offered { (was : LineValue) → line_of row.id self.old ≡ Some was → OffersPart row.id was waits.now session.old session.new self.old self.new result }
+        ensures offered { (was : ConnectionValue) → connection_of row.id self.old ≡ Some was → OffersPart row.id was waits.now session.old session.new self.old self.new result }
         ensures in_row { result + length (behind_row (counts_of row) waits.now) ≤ length waits.now }
         ensures place { self.new.turns_to_place ≡ self.old.turns_to_place }
-        ensures none { line_of row.id self.old ≡ None → (self.new ≡ self.old) × (session.new ≡ session.old) × (result ≡ 0) }
+        ensures none { connection_of row.id self.old ≡ None → (self.new ≡ self.old) × (session.new ≡ session.old) × (result ≡ 0) }
         ensures queues { SameQueues self.old self.new }
         ensures goes_on { result ≡ 0 → is_stuck session.new ≡ false }
         ensures others { (other : ℕ) → nat_eq row.id other ≡ false → GainsNone other session.old session.new }
@@ -148,7 +151,13 @@ impl<D: Device + Drop> Lines<D> {
         let Some(found) = self.by_id.get_mut(&row.id) else {
             return 0;
         };
-        let line = &mut found.line;
-        offer(session, row, &mut line.ways, &mut line.device, waits)
+        let connection = &mut found.connection;
+        offer(
+            session,
+            row,
+            &mut connection.directions,
+            &mut connection.device,
+            waits,
+        )
     }
 }

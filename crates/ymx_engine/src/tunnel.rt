@@ -13,13 +13,13 @@ ghost use Rattle.ymx_engine.specs.Devices.{IsNoted, IsEnded, IsShut, one_frame};
 ghost use Rattle.ymx_engine.specs.Engines.{KeepsWire};
 ghost use Rattle.ymx_engine.specs.Runs.{Runs, Stays, Rests};
 ghost use Rattle.ymx_engine.specs.Served.{Serving, ServingBut};
-ghost use Rattle.ymx_engine.specs.Turns.{Line as LineValue, line_of, IsIdle, Notes, KeepsLines, KeepsOthers};
+ghost use Rattle.ymx_engine.specs.Turns.{Connection as ConnectionValue, connection_of, IsIdle, Notes, KeepsConnections, KeepsOthers};
 ghost use Rattle.ymx_engine.specs.Work.{ServesFirst, HasItsTurn, share, takes_more};
 
 use crate::block::Block;
 use crate::buffers::{Buffers, FRAME, FRAMES, TURN};
+use crate::connections::Connections;
 use crate::device::{Device, Readiness};
-use crate::lines::Lines;
 use std::alloc::Global;
 use std::marker::Model;
 use ymx_memory::RefusedAllocation;
@@ -40,7 +40,7 @@ pub struct Served {
 /// It owns them: so no caller can lend one stream's device to another, or the wire to a stream. Each call says what it
 /// did as one fact, `Runs`, which holds over any number of calls.
 ///
-/// It is driven by readiness. What an event says is noted by `note_wire` and `note_line`, and moves nothing. Then a round
+/// It is driven by readiness. What an event says is noted by `note_wire` and `note_connection`, and moves nothing. Then a round
 /// is `read_wire`, `serve_next` as long as it serves somebody, and `flush`. Each of these makes a bounded number of calls
 /// of devices, none of which waits. `has_work` says whether a further round may move something with no event.
 ///
@@ -50,7 +50,7 @@ pub struct Served {
 pub struct Tunnel<D: Device + Drop, W: Device + Drop> {
     pub(crate) session: Session,
     pub(crate) touched: Touched,
-    pub(crate) lines: Lines<D>,
+    pub(crate) connections: Connections<D>,
     pub(crate) outgoing: Block,
     pub(crate) incoming: Block,
     pub(crate) buffer: Vec<u8>,
@@ -59,7 +59,7 @@ pub struct Tunnel<D: Device + Drop, W: Device + Drop> {
     pub(crate) is_wire_over: bool,
     /// The wire takes bytes slowly.
     pub(crate) is_slow: bool,
-    /// How many streams of the peer's were rejected for want of memory.
+    /// How many streams of the peer's were rejected for lack of memory.
     pub(crate) no_memory: u64,
 }
 
@@ -70,18 +70,18 @@ impl<D: Device + Drop, W: Device + Drop> Model for Tunnel<D, W> {
 
     ghost Value = { TunnelValue };
 
-    ghost view = { λ t. record { engine = record { session = t.session; outgoing = t.outgoing; incoming = t.incoming }; wire = W.seen t.wire; is_wire_over = t.is_wire_over; is_slow = t.is_slow; lines = t.lines; no_memory = t.no_memory } };
+    ghost view = { λ t. record { engine = record { session = t.session; outgoing = t.outgoing; incoming = t.incoming }; wire = W.seen t.wire; is_wire_over = t.is_wire_over; is_slow = t.is_slow; connections = t.connections; no_memory = t.no_memory } };
 
     ghost invariant = { λ t. one_read ≤ length t.buffer.items };
 }
 
 impl<D: Device + Drop, W: Device + Drop> Tunnel<D, W> {
     /// A tunnel of this session over this wire, which has moved nothing and has no connection. There may be no memory for its
-    /// buffers: then the session and the wire are let go.
+    /// buffers: then the session and the wire are dropped.
     pub fn new(alloc: Global, session: Session, wire: W) -> Result<Tunnel<D, W>, RefusedAllocation>
         ensures engine { IfOk result (λ made. made.engine ≡ record { session = session; outgoing = []; incoming = [] }) }
         ensures wire { IfOk result (λ made. (made.wire ≡ W.seen wire) × (made.is_wire_over ≡ false)) }
-        ensures none { IfOk result (λ made. (made.lines.by_id ≡ []) × IsIdle made.lines × (made.lines.held ≡ []) × (made.lines.missed ≡ false)) }
+        ensures none { IfOk result (λ made. (made.connections.by_id ≡ []) × IsIdle made.connections × (made.connections.held ≡ []) × (made.connections.missed ≡ false)) }
         ensures memory { IfOk result (λ made. made.no_memory ≡ 0) }
         // Nobody is forgotten.
         ensures serves { IsWithin session → IfOk result Serving }
@@ -90,7 +90,7 @@ impl<D: Device + Drop, W: Device + Drop> Tunnel<D, W> {
         Ok(Tunnel {
             session,
             touched: memory.touched,
-            lines: Lines::new(alloc),
+            connections: Connections::new(alloc),
             outgoing: memory.outgoing,
             incoming: memory.incoming,
             buffer: memory.buffer,
@@ -117,7 +117,7 @@ impl<D: Device + Drop, W: Device + Drop> Tunnel<D, W> {
         ensures noted { IsNoted ready self.old.wire self.new.wire }
         ensures engine { self.new.engine ≡ self.old.engine }
         ensures over { self.new.is_wire_over ≡ self.old.is_wire_over }
-        ensures lines { self.new.lines ≡ self.old.lines }
+        ensures connections { self.new.connections ≡ self.old.connections }
     {
         self.wire.note_event(ready);
     }
@@ -132,17 +132,17 @@ impl<D: Device + Drop, W: Device + Drop> Tunnel<D, W> {
     }
 
     /// An event says this of the device of a stream, which has a turn then. Nothing happens where it has none.
-    pub fn note_line(&mut self, id: u32, ready: Readiness)
+    pub fn note_connection(&mut self, id: u32, ready: Readiness)
         ensures runs { Runs self.old self.new }
         ensures stays { Stays self.old self.new }
-        ensures noted { (was : LineValue) → line_of id self.old.lines ≡ Some was → Notes id ready was self.old.lines self.new.lines }
-        ensures none { line_of id self.old.lines ≡ None → self.new ≡ self.old }
+        ensures noted { (was : ConnectionValue) → connection_of id self.old.connections ≡ Some was → Notes id ready was self.old.connections self.new.connections }
+        ensures none { connection_of id self.old.connections ≡ None → self.new ≡ self.old }
         ensures memory { self.new.no_memory ≡ self.old.no_memory }
         ensures engine { self.new.engine ≡ self.old.engine }
         ensures wire { self.new.wire ≡ self.old.wire }
         ensures over { self.new.is_wire_over ≡ self.old.is_wire_over }
     {
-        self.lines.note(id, ready);
+        self.connections.note(id, ready);
     }
 
     // ---- turns
@@ -154,25 +154,25 @@ impl<D: Device + Drop, W: Device + Drop> Tunnel<D, W> {
         ensures runs { Runs self.old self.new }
         ensures stays { Stays self.old self.new }
         ensures rests { Rests self.old self.new }
-        ensures none { IfNone result (IsIdle self.old.lines) }
+        ensures none { IfNone result (IsIdle self.old.connections) }
         // The first of the queue whose turn it is has its turn, and each other that waits comes nearer.
         ensures turn { IfSome result (λ served. ServesFirst served.id served.gave self.old self.new) }
         // While another waits that moves little, it gives one frame at most.
-        ensures among { IfSome result (λ served. (id : ℕ) → Contains self.old.lines.fresh id → (id ≡ served.id) ⊎ (served.gave ≤ one_frame)) }
+        ensures among { IfSome result (λ served. (id : ℕ) → Contains self.old.connections.fresh id → (id ≡ served.id) ⊎ (served.gave ≤ one_frame)) }
         // So it does while the wire is slow.
         ensures paced { IfSome result (λ served. self.old.is_slow ≡ true → served.gave ≤ one_frame) }
         ensures memory { self.new.no_memory ≡ self.old.no_memory }
     {
-        let id = self.lines.next()?;
+        let id = self.connections.next()?;
         let gave = self.serve(id);
         Some(Served { id, gave })
     }
 
     /// The connection of this stream has its turn. How many bytes its device gave.
     fn serve(&mut self, id: u32) -> usize
-        ensures served { (was : LineValue) → line_of id self.old.lines ≡ Some was → HasItsTurn id result was self.old.lines self.old self.new }
-        ensures none { line_of id self.old.lines ≡ None → (self.new ≡ self.old) × (result ≡ 0) }
-        ensures others { KeepsOthers id self.old.lines self.new.lines }
+        ensures served { (was : ConnectionValue) → connection_of id self.old.connections ≡ Some was → HasItsTurn id result was self.old.connections self.old self.new }
+        ensures none { connection_of id self.old.connections ≡ None → (self.new ≡ self.old) × (result ≡ 0) }
+        ensures others { KeepsOthers id self.old.connections self.new.connections }
         ensures memory { self.new.no_memory ≡ self.old.no_memory }
         ensures incoming { self.new.engine.incoming ≡ self.old.engine.incoming }
         ensures wire { self.new.wire ≡ self.old.wire }
@@ -181,18 +181,18 @@ impl<D: Device + Drop, W: Device + Drop> Tunnel<D, W> {
     {
         let most = self.share();
         let buffer = self.buffer.as_mut_slice();
-        self.lines
+        self.connections
             .serve(id, &mut self.session, buffer, &mut self.outgoing, most)
     }
 
     /// How many bytes the connection that has its turn may give.
     fn share(&self) -> usize
-        ensures share { result ≡ share self.now.lines self.now }
+        ensures share { result ≡ share self.now.connections self.now }
     {
         if !self.takes_more() {
             return 0;
         }
-        if self.is_slow || self.lines.has_fresh() {
+        if self.is_slow || self.connections.has_fresh() {
             return FRAME;
         }
         TURN
@@ -208,7 +208,7 @@ impl<D: Device + Drop, W: Device + Drop> Tunnel<D, W> {
 
     // ---- signs of life, go away, and the wire's end
 
-    /// Asks the peer for a sign of life, and returns the ping's number (ping). The refusals are those of `Session::ping`,
+    /// Pings the peer, and returns the ping's number (ping). The refusals are those of `Session::ping`,
     /// and change nothing.
     pub fn ping(&mut self) -> Result<u32, CallFault>
         ensures runs { Runs self.old self.new }
@@ -245,7 +245,7 @@ impl<D: Device + Drop, W: Device + Drop> Tunnel<D, W> {
         self.session.go_away()
     }
 
-    /// The peer counts as gone: the wire is shut both ways, and the session hears of its end.
+    /// The peer counts as gone: the wire is shut both ways, and the session learns of its end.
     pub fn give_up_wire(&mut self)
         ensures runs { Runs self.old self.new }
         ensures shut { IsShut self.old.wire self.new.wire }
@@ -254,7 +254,7 @@ impl<D: Device + Drop, W: Device + Drop> Tunnel<D, W> {
         ensures over { self.new.is_wire_over ≡ true }
         ensures memory { self.new.no_memory ≡ self.old.no_memory }
         ensures bytes { KeepsWire self.old.engine self.new.engine }
-        ensures lines { KeepsLines self.old.lines self.new.lines }
+        ensures connections { KeepsConnections self.old.connections self.new.connections }
     {
         self.wire.shut();
         self.lose();
@@ -268,7 +268,7 @@ impl<D: Device + Drop, W: Device + Drop> Tunnel<D, W> {
         ensures memory { self.new.no_memory ≡ self.old.no_memory }
         ensures engine { self.new.engine ≡ self.old.engine }
         ensures over { self.new.is_wire_over ≡ self.old.is_wire_over }
-        ensures lines { self.new.lines ≡ self.old.lines }
+        ensures connections { self.new.connections ≡ self.old.connections }
     {
         self.wire.end();
     }

@@ -5,7 +5,7 @@ ghost use Rattle.ymx_engine.specs.Devices.{is_push_failure};
 ghost use Rattle.ymx_engine.specs.Runs.{Runs, Stays, Rests};
 ghost use Rattle.ymx_engine.specs.Served.{Serving};
 ghost use Rattle.ymx_engine.specs.Steps.{WritesOnce};
-ghost use Rattle.ymx_engine.specs.Turns.{KeepsLines};
+ghost use Rattle.ymx_engine.specs.Turns.{KeepsConnections};
 ghost use Rattle.ymx_engine.specs.Wires.{GivesOut, HandlesOut};
 ghost use Rattle.ymx_engine.specs.Work.{Writes};
 
@@ -40,7 +40,7 @@ impl<D: Device + Drop, W: Device + Drop> Tunnel<D, W> {
         }
         put_due(&mut self.session, &mut self.outgoing);
         if self.outgoing.waiting().is_empty() {
-            self.lines.release();
+            self.connections.release();
             return false;
         }
         self.push_wire()
@@ -53,7 +53,7 @@ impl<D: Device + Drop, W: Device + Drop> Tunnel<D, W> {
         ensures { WritesOnce result self.old self.new }
     {
         let pushed = self.give_to_wire();
-        self.hear_pushed(pushed);
+        self.on_pushed(pushed);
         self.release_if_sent();
         self.wire.may_push()
     }
@@ -62,7 +62,7 @@ impl<D: Device + Drop, W: Device + Drop> Tunnel<D, W> {
     fn give_to_wire(&mut self) -> Pushed
         ensures gave { GivesOut result self.old.engine self.new.engine self.old.wire self.new.wire }
         ensures memory { self.new.no_memory ≡ self.old.no_memory }
-        ensures lines { self.new.lines ≡ self.old.lines }
+        ensures connections { self.new.connections ≡ self.old.connections }
     {
         let pushed = self.wire.push(self.outgoing.waiting());
         self.outgoing.drop_front(pushed.count());
@@ -70,12 +70,12 @@ impl<D: Device + Drop, W: Device + Drop> Tunnel<D, W> {
     }
 
     /// The wire answered this to a call with bytes. If it failed the session is lost.
-    fn hear_pushed(&mut self, pushed: Pushed)
+    fn on_pushed(&mut self, pushed: Pushed)
         ensures heard { HandlesOut (is_push_failure pushed) self.old.engine self.new.engine }
         ensures waits { self.new.engine.outgoing ≡ self.old.engine.outgoing }
         ensures memory { self.new.no_memory ≡ self.old.no_memory }
         ensures wire { self.new.wire ≡ self.old.wire }
-        ensures lines { KeepsLines self.old.lines self.new.lines }
+        ensures connections { KeepsConnections self.old.connections self.new.connections }
         ensures serves { Serving self.old → Serving self.new }
     {
         match pushed {
@@ -88,12 +88,12 @@ impl<D: Device + Drop, W: Device + Drop> Tunnel<D, W> {
     fn release_if_sent(&mut self)
         ensures engine { self.new.engine ≡ self.old.engine }
         ensures wire { self.new.wire ≡ self.old.wire }
-        ensures keeps { KeepsLines self.old.lines self.new.lines }
+        ensures keeps { KeepsConnections self.old.connections self.new.connections }
         ensures memory { self.new.no_memory ≡ self.old.no_memory }
-        ensures free { self.new.engine.outgoing ≡ [] → self.new.lines.held ≡ [] }
+        ensures free { self.new.engine.outgoing ≡ [] → self.new.connections.held ≡ [] }
     {
         if self.outgoing.waiting().is_empty() {
-            self.lines.release();
+            self.connections.release();
         }
     }
 }

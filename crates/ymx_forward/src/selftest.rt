@@ -2,28 +2,23 @@
 //! connections and sends what became of each, and this one prints it as it comes.
 //!
 //! Each server owns where it listens and its end of the session, so these close when its thread ends, or can't be made.
-//! Then whoever waits there is told at once. Who could still wait for a connection that nobody makes is released at the
+//! Then the thread that waits there learns it at once. One that could still wait for a connection that nobody makes is released at the
 //! end.
 
-ghost use Rattle.std.specs.Prelude.{◌≡◌, true, false, IfOk, IfSome, OnOk};
-ghost use Rattle.std.specs.Io.KnownBytes.{Appends, Keeps};
-ghost use Rattle.ymx_forward.specs.Echoes.{echo_lines, line_of};
-
-use crate::echoing::{Echoed, line_of, size_of};
 use arrayvec::ArrayString;
 use crossbeam_channel::{Receiver, Sender, bounded};
-use std::alloc::{AllocError, Global};
+use std::alloc::Global;
 use std::fmt::Write;
 use std::net::{Ipv4Addr, Net, SocketAddr, SocketAddrV4, TcpListener, TcpStream};
 use std::sync::{Arc, Wait};
 use std::thread::{Threads, join_mut};
 use std::{io, thread};
-use ymx_loop::{Side, run_session};
+use ymx_loop::{Service, run_session};
 use ymx_model::{Outlet, WriterOutlet, push_all};
-use ymx_policy::{Endpoint, Fault, Session, SessionOptions, Users as Comers, fault_text};
+use ymx_policy::{Fault, Session, SessionOptions, Text, Users as UserSource, fault_text};
 use ymx_sockets::{
-    Common, Drain, Host, Peer, Poll, StartFault, TcpConnection, Users, accept, address_of, connect,
-    context_of, echo, finish, listen, new_sink, send,
+    Drain, Host, Peer, Poll, Shared, StartFault, TcpConnection, Users, accept, address_of, connect,
+    context_of, echo, finish, listen, new_sink, receive, send,
 };
 
 /// How many connections there are.
@@ -51,6 +46,8 @@ struct Owned {
 /// Why the lines of the test stop.
 #[derive(Clone, Copy)]
 enum Stop {
+    /// No server could listen.
+    Listening,
     /// This connection failed.
     Connection(u8),
     /// The writer failed.
@@ -60,38 +57,34 @@ enum Stop {
 }
 
 /// Sends three connections through both ends of a tunnel to an echo server, all on 127.0.0.1, and prints a line for
-/// each. Whether all that they sent came back: else it says what failed.
+/// each. Whether all that they sent came back: else it logs what failed.
 pub fn run_selftest<R: Host + Threads + Sync, W: Outlet + Send, E: Outlet>(
     rt: &R,
     alloc: Global,
     writer: &mut W,
     errors: &mut E,
-) -> bool
-    // At a good end the writer took all three lines, and nothing is said.
-    ensures good { result ≡ true → Keeps (E.contents errors.old) (E.contents errors.new) }
-    ensures done { result ≡ true → Appends (W.contents writer.old) (W.contents writer.new) echo_lines }
-{
-    let Some(owned) = prepare(rt) else {
-        return fails(errors, fault_text(Fault::CannotListen(any_port())).as_str());
+) -> bool {
+    let text = match prepare(rt)
+        .ok_or(Stop::Listening)
+        .and_then(|owned| run_all(rt, alloc, owned, writer))
+    {
+        Ok(()) => return true,
+        Err(stop) => stop_text(stop),
     };
-    match run_all(rt, alloc, owned, writer) {
-        Ok(()) => true,
-        Err(Stop::Connection(number)) => {
-            let mut text = ArrayString::<64>::new();
-            let _ = writeln!(text, "ymx: selftest failed: connection {number}");
-            fails(errors, text.as_str())
-        }
-        Err(Stop::Writing) => fails(errors, "ymx: writing failed\n"),
-        Err(Stop::Memory) => fails(errors, fault_text(Fault::OutOfMemory).as_str()),
-    }
+    let _ = push_all(errors, text.as_str().as_bytes());
+    false
 }
 
-/// Says what failed. Where the error device fails too there is nobody left to tell.
-fn fails<E: Outlet>(errors: &mut E, text: &str) -> bool
-    ensures { result ≡ false }
-{
-    let _ = push_all(errors, text.as_bytes());
-    false
+/// What is logged of a test that stopped.
+fn stop_text(stop: Stop) -> Text {
+    let mut text = Text::new();
+    let _ = match stop {
+        Stop::Listening => return fault_text(Fault::CannotListen(any_port())),
+        Stop::Memory => return fault_text(Fault::OutOfMemory),
+        Stop::Connection(number) => writeln!(text, "ymx: selftest failed: connection {number}"),
+        Stop::Writing => writeln!(text, "ymx: writing failed"),
+    };
+    text
 }
 
 /// Runs the three servers and the client, and prints a line for each connection as it ends. Where a thread can't be made the
@@ -101,18 +94,14 @@ fn run_all<R: Host + Threads + Sync, W: Outlet + Send>(
     alloc: Global,
     owned: Owned,
     writer: &mut W,
-) -> Result<(), Stop>
-    ensures { OnOk result (Appends (W.contents writer.old) (W.contents writer.new) echo_lines) }
-{
-    let Ok((sender, receiver)) = bounded::<Echoed, Global>(alloc, CONNECTIONS as usize) else {
+) -> Result<(), Stop> {
+    let Ok((sender, receiver)) = bounded::<u8, Global>(alloc, CONNECTIONS as usize) else {
         return Err(Stop::Memory);
     };
     let mut parts = Some((owned, sender));
     let (printed, ()) = join_mut(
         rt,
-        &mut ||
-            ensures { OnOk result (Appends (W.contents writer.entry.now) (W.contents writer.exit.now) echo_lines) }
-        { print_all(rt, &receiver, writer) },
+        &mut || print_all(rt, &receiver, writer),
         &mut || {
             if let Some((owned, sender)) = parts.take() {
                 run_servers(rt, alloc, owned, sender);
@@ -127,7 +116,7 @@ fn run_servers<R: Host + Threads + Sync>(
     rt: &R,
     alloc: Global,
     owned: Owned,
-    sender: Sender<Echoed, Global>,
+    sender: Sender<u8, Global>,
 ) {
     let Owned {
         echo,
@@ -142,7 +131,9 @@ fn run_servers<R: Host + Threads + Sync>(
             .spawn(move || run_remote_end(rt, alloc, far, echo_at))
             .is_ok();
         let has_near = scope
-            .spawn(move || run_local_end(rt, alloc, near, local.listener))
+            .spawn(move || {
+                let _ = run_local_end(rt, alloc, near, local.listener);
+            })
             .is_ok();
         if has_echo && has_far && has_near {
             run_client(rt, alloc, local_at, sender);
@@ -184,39 +175,37 @@ fn prepare<R: Host>(rt: &R) -> Option<Owned> {
 /// another connection, counts as a failure of the one awaited.
 fn print_all<R: Wait, W: Outlet>(
     rt: &R,
-    receiver: &Receiver<Echoed, Global>,
+    receiver: &Receiver<u8, Global>,
     writer: &mut W,
-) -> Result<(), Stop>
-    ensures { OnOk result (Appends (W.contents writer.old) (W.contents writer.new) echo_lines) }
-{
-    print_next(rt, receiver, 1, writer)?;
-    print_next(rt, receiver, 2, writer)?;
-    print_next(rt, receiver, 3, writer)
+) -> Result<(), Stop> {
+    for number in 1..=CONNECTIONS {
+        match receiver.recv(rt) {
+            Ok(echoed) if echoed == number => {}
+            _ => return Err(Stop::Connection(number)),
+        }
+        let mut line = ArrayString::<64>::new();
+        let size = size_of(number);
+        let _ = writeln!(line, "connection {number}: {size} bytes echoed");
+        push_all(writer, line.as_str().as_bytes()).map_err(|_| Stop::Writing)?;
+    }
+    Ok(())
 }
 
-/// Waits for what the connection of this number sent to come back, and prints its line.
-fn print_next<R: Wait, W: Outlet>(
-    rt: &R,
-    receiver: &Receiver<Echoed, Global>,
-    number: u8,
-    writer: &mut W,
-) -> Result<(), Stop>
-    ensures { OnOk result (Appends (W.contents writer.old) (W.contents writer.new) (line_of number)) }
-{
-    match receiver.recv(rt) {
-        Ok(echoed) if echoed.number() == number => push_all(writer, line_of(number)).map_err(
-            |_| Stop::Writing,
-        ),
-        _ => Err(Stop::Connection(number)),
+/// How many bytes the connection of this number sends.
+fn size_of(number: u8) -> usize {
+    match number {
+        1 => 0,
+        2 => 1,
+        _ => 300_000,
     }
 }
 
 // ---- the servers
 
 /// Connects to this listener as often as its server accepts, so that none waits any longer. One that has closed refuses it.
-fn release<R: Net<Stream = TcpStream>>(rt: &R, place: SocketAddr) {
+fn release<R: Net<Stream = TcpStream>>(rt: &R, address: SocketAddr) {
     for _ in 0..CONNECTIONS {
-        let _ = connect(rt, place);
+        let _ = connect(rt, address);
     }
 }
 
@@ -230,56 +219,40 @@ fn serve_echoes(listener: TcpListener) {
     }
 }
 
-/// The end of the tunnel at the echo server.
+/// The endpoint of the tunnel at the echo server.
 fn run_remote_end<R: Host>(rt: &R, alloc: Global, connection: TcpStream, target: SocketAddr) {
     let drain = Arc::new(alloc, Drain::new(alloc));
     if let (Ok(poll), Ok(drain), SocketAddr::V4(target)) = (Poll::new(rt, alloc), drain, target) {
-        let endpoint = Endpoint::Remote {
-            target,
-            workers: CONNECTIONS as u32,
-            peers: None,
-        };
-        run_one(rt, alloc, connection, (poll, Side::Remote(drain)), endpoint);
+        let service = Service::Target(target, CONNECTIONS as u32, drain);
+        run_one(rt, alloc, connection, (poll, service));
     }
 }
 
-/// The end of the tunnel at the client.
-fn run_local_end<R: Host>(rt: &R, alloc: Global, connection: TcpStream, listener: TcpListener) {
-    if let Ok(users) = new_users(rt, alloc, listener) {
-        let endpoint = Endpoint::Local {
-            listen: any_port(),
-            count: Some(CONNECTIONS as u32),
-            links: 1,
-            names_users: false,
-        };
-        run_one(rt, alloc, connection, users, endpoint);
-    }
-}
-
-/// The users who come to this listener, and what tells of them.
-fn new_users<R: Host>(
+/// The endpoint of the tunnel at the client.
+fn run_local_end<R: Host>(
     rt: &R,
     alloc: Global,
+    connection: TcpStream,
     listener: TcpListener,
-) -> Result<(Poll, Side), StartFault> {
+) -> Result<(), StartFault> {
     let poll = Poll::new(rt, alloc)?;
-    let wanted = Comers {
+    let wanted = UserSource {
         address: any_port(),
         count: Some(CONNECTIONS as u32),
-        is_patient: false,
+        keeps_listening: false,
     };
-    let common = Common::new(alloc, wanted.count, 1)?;
-    let users = Users::new(listener, wanted, common, &poll)?;
-    Ok((poll, Side::Local(users)))
+    let shared = Shared::new(alloc, wanted.count, 1)?;
+    let users = Users::new(listener, wanted, shared, &poll)?;
+    run_one(rt, alloc, connection, (poll, Service::Users(users, false)));
+    Ok(())
 }
 
-/// Runs the only session of this endpoint over this connection. Of what is told nothing is heard.
+/// Runs the only session of this service over this connection. Its log goes nowhere.
 fn run_one<R: Host>(
     rt: &R,
     alloc: Global,
     connection: TcpStream,
-    (mut poll, mut side): (Poll, Side),
-    endpoint: Endpoint,
+    (mut poll, mut service): (Poll, Service),
 ) {
     let Ok(connection) = TcpConnection::of(connection) else {
         return;
@@ -291,55 +264,54 @@ fn run_one<R: Host>(
     let (mut nobody, mut nowhere) = (silent(), silent());
     let sink = new_sink(alloc, false, &mut nobody, &mut nowhere);
     let session = Session {
-        endpoint,
         options: SessionOptions {
             window: WINDOW,
             ping: None,
             keepalive: 0,
             idle: None,
         },
-        is_sounded: false,
-        is_followed: false,
+        needs_first_frame: false,
+        reconnects: false,
     };
     let context = context_of(rt, alloc, &sink);
-    let _ = run_session(context, &mut poll, &mut side, Peer::of(connection), session);
+    let _ = run_session(
+        context,
+        &mut poll,
+        &mut service,
+        Peer::of(connection),
+        session,
+    );
 }
 
 // ---- the client
 
-/// Makes the three connections, one after the other, and hands on what came back of each. Stops at the first that fails.
-fn run_client<R: Host>(rt: &R, alloc: Global, place: SocketAddr, sender: Sender<Echoed, Global>) {
+/// Makes the three connections, one after the other, and hands on the number of each whose bytes came back. Stops at the first that
+/// fails.
+fn run_client<R: Host>(rt: &R, alloc: Global, address: SocketAddr, sender: Sender<u8, Global>) {
     for number in 1..=CONNECTIONS {
-        let Some(echoed) = exchange(rt, alloc, place, number) else {
-            return;
-        };
-        if sender.send(rt, echoed).is_err() {
+        if exchange(rt, alloc, address, size_of(number)).is_none()
+            || sender.send(rt, number).is_err()
+        {
             return;
         }
     }
 }
 
-/// Sends the bytes of the connection of this number there, ends it, and reads what comes back. None unless it is just that.
+/// Sends so many bytes there, byte k being k modulo 251, ends, and reads what comes back. None unless it is just that.
 fn exchange<R: Net<Stream = TcpStream>>(
     rt: &R,
     alloc: Global,
-    place: SocketAddr,
-    number: u8,
-) -> Option<Echoed>
-    ensures { IfSome result (λ echoed. echoed.number ≡ number) }
-{
-    let sent = pattern(alloc, size_of(number)).ok()?;
-    let socket = connect(rt, place).ok()?;
+    address: SocketAddr,
+    size: usize,
+) -> Option<()> {
+    let mut sent = Vec::with_capacity(alloc, size).ok()?;
+    for position in 0..size {
+        sent.push((position % 251) as u8).ok()?;
+    }
+    let socket = connect(rt, address).ok()?;
     send(&socket, sent.as_slice()).ok()?;
     finish(&socket).ok()?;
-    Echoed::read(&mut &socket, alloc, number, sent.as_slice()).ok()?
-}
-
-/// So many bytes, each by its place.
-fn pattern(alloc: Global, size: usize) -> Result<Vec<u8>, AllocError> {
-    let mut bytes = Vec::new(alloc);
-    for place in 0..size {
-        bytes.push((place % 251) as u8)?;
-    }
-    Ok(bytes)
+    let mut received = Vec::new(alloc);
+    receive(&socket, &mut received).ok()?;
+    (received.as_slice() == sent.as_slice()).then_some(())
 }

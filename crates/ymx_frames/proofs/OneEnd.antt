@@ -1,4 +1,4 @@
--- What is printed of a text, and how that ends, is settled by the text.
+-- What is printed of a text, and how that ends, depends on the text alone.
 use Rattle.std.proofs.Common.{◌≡◌, ℕ, ◌<◌, List, [], ◌++◌, length, refl, sym, ◌∙◌, ap, arith}
 use Rattle.std.specs.Bool.{⊤}
 use Rattle.ymx_header.specs.Headers.{spelling}

@@ -88,7 +88,7 @@ gathers-last g part i len last e l = rw (e, l) refl
 pub gathers-more : (g : Gathered) (part : List ℕ) (i : Option Item) (len : ℕ) (last : Bool) → i ≡ Some (item.Piece len last) → last ≡ false → gathers g part i ≡ record { frames = g.frames; header = g.header; payload = g.payload ++ part }
 gathers-more g part i len last e l = rw (e, l) refl
 
--- a line behind what was printed
+-- a line after what was printed
 pub line_after : (done old new : List ℕ) (h : Header) (p : Preview) (payload : List ℕ) → new ≡ old ++ line_text h p → p ≡ preview payload → done ++ new ≡ (done ++ old) ++ line_text h (preview payload)
 line_after done old new h p payload e shown =
     ap (λ (l : List ℕ). done ++ l) (e ∙ ap (λ (x : Preview). old ++ line_text h x) shown) ∙ sym (append_assoc done old (line_text h (preview payload)))

@@ -172,7 +172,7 @@ pub fn write_rest(text: &mut Vec<u8>, count: usize) -> Result<(), RefusedAllocat
     whole_or_none(text, start, written)
 }
 
-/// Takes back what was appended behind `start` if not all of it was.
+/// Takes back what was appended after `start` if not all of it was.
 fn whole_or_none(
     text: &mut Vec<u8>,
     start: usize,

@@ -29,7 +29,7 @@ pub enum FramesEnd {
     Memory(RefusedAllocation),
 }
 
-/// What is printed of an input, and whether that ends as `Good`, `Rest` or `Fault`, is settled by the
+/// What is printed of an input, and whether that ends as `Good`, `Rest` or `Fault`, follows from the
 /// input. (A law of the definitions: the function itself does nothing.)
 pub fn one_printing()
     ensures { (limit : ℕ) (text : List ℕ) (end other : End) (output printed : List ℕ) → IsWhole end → IsWhole other →
@@ -43,7 +43,7 @@ const INPUT: usize = 65_536;
 /// longest line of one without payload 47.
 const LINES: usize = 4 * INPUT;
 
-/// Prints the frames that the reader gives, a line each, and what stands behind them: the first bad
+/// Prints the frames that the reader gives, a line each, and what stands after them: the first bad
 /// frame, or the beginning of one (framing). A Data frame whose payload is longer than `limit`, in
 /// bytes, is bad. It reads 64 KiB at a time, and writes all lines of a read before it reads again.
 pub fn frames<R: Inlet, W: Outlet>(

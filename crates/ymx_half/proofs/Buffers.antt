@@ -1,4 +1,4 @@
--- A frame in a buffer: a header, and a payload behind it.
+-- A frame in a buffer: a header, and a payload after it.
 use Rattle.std.proofs.Common.{◌≡◌, ℕ, ◌+◌, ◌-◌, ◌≤◌, List, [], ◌++◌, length, take, drop, min, arith}
 use Rattle.std.proofs.lemmas.Grind.{common_steps}
 use Rattle.ymx_header.specs.Headers.{spelling}
@@ -16,11 +16,11 @@ pub put_mid-filled : (at count taken : ℕ) (buffer waiting part : List ℕ) →
     put_mid at (at + count - at) buffer part ≡ take at buffer ++ take count waiting ++ drop (at + count) buffer
 put_mid-filled at count taken buffer waiting part fits there number is = grind (arith, common_steps)
 
--- a payload that is put behind its header, which has `at` bytes
+-- a payload that is put after its header, which has `at` bytes
 pub put-behind : (at : ℕ) (head bytes buffer put new : List ℕ) → length head ≡ at → put ≡ head ++ drop at buffer → new ≡ bytes → at + length bytes ≤ length buffer →
     take at put ++ (new ++ post_of at (at + length bytes - at) put) ≡ head ++ (bytes ++ drop (at + length bytes) buffer)
 put-behind at head bytes buffer put new l p n fits = grind (arith, common_steps)
 
--- behind all bytes there are none
+-- after all bytes there are none
 pub drop-all : (n : ℕ) (xs : List ℕ) → length xs ≤ n → drop n xs ≡ []
 drop-all n xs l = grind (arith, common_steps)

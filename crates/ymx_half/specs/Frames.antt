@@ -4,7 +4,7 @@ use Rattle.ymx_model.specs.session.Records.{End}
 use Rattle.ymx_model.specs.declared.types.FrameKind.{FrameKind}
 use Rattle.ymx_model.specs.declared.types.FrameKind.TheVariants.{Open, OpenWith, Accept, Reset, Credit, Data, Fin}
 
--- the bytes behind the header: of Data a beginning of the unsent bytes, of any other frame none
+-- the bytes after the header: of Data a beginning of the unsent bytes, of any other frame none
 abbrev pub frame_payload : FrameKind → ℕ → End → List ℕ
 frame_payload Open limit e = []
 frame_payload OpenWith limit e = take limit e.writer.unsent

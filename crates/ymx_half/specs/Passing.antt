@@ -6,7 +6,7 @@ use Rattle.ymx_model.specs.session.Records.{End, Reader, takes_payload, receive_
 abbrev pub reader_pass : ℕ → Reader → Reader
 reader_pass n r = record r { granted = r.granted - n; owed = r.owed + n }
 
--- these bytes come, with the end behind them if `fin`, and as many are read
+-- these bytes come, with the end after them if `fin`, and as many are read
 abbrev pub passed : (fin : Bool) → List ℕ → End → End
 passed fin bytes e = end_read (length bytes) (receive_piece fin bytes e)
 

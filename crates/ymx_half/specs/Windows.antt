@@ -10,7 +10,7 @@ abbrev pub reader_with : Contents → ℕ → Owing → Bool → Reader
 reader_with unread granted debt ended = record { unread = unread.items; granted = granted; owed = debt.owed; ended = ended }
 
 -- No byte is beyond the window. Until the end has arrived each byte of it is unread, granted or owed, and there is room
--- for all of them; behind the end unread bytes may have been dropped. A window is below 2^32.
+-- for all of them; after the end unread bytes may have been dropped. A window is below 2^32.
 pub record KeepsWindow (unread : Contents) (granted : ℕ) (debt : Owing) (ended : Bool) : Type 0 where
   pub within : length unread.items + granted + debt.owed ≤ debt.window
   pub balanced : ended ≡ false → length unread.items + granted + debt.owed ≡ debt.window

@@ -8,7 +8,7 @@ ghost use Rattle.ymx_model.specs.session.FramesDue.{is_empty};
 use crate::{DeadHalf, DoneHalf, EndedHalf, RecvHalf, SendHalf};
 use std::mem;
 use ymx_memory::RefusedAllocation;
-use ymx_ring::Warm;
+use ymx_ring::Pool;
 
 /// The sending direction of a stream, by its half.
 #[derive(Drop)]
@@ -28,7 +28,7 @@ impl Sending {
     /// Takes the first bytes that the credit allows, of which a dead half has none. See `SendHalf::write`.
     pub(crate) fn write(
         &mut self,
-        warm: &mut Warm,
+        pool: &mut Pool,
         bytes: &[u8],
     ) -> Result<usize, RefusedAllocation>
         requires { (writer_of self.old).finished ≡ false }
@@ -39,7 +39,7 @@ impl Sending {
         ensures same_state { sends_nothing self.new ≡ sends_nothing self.old }
     {
         match self {
-            Sending::Open(half) => half.write(warm, bytes),
+            Sending::Open(half) => half.write(pool, bytes),
             Sending::Done(_) | Sending::Dead(_) => Ok(0),
         }
     }
@@ -71,15 +71,15 @@ impl Sending {
     }
 
     /// Moves the next bytes of a frame out into `buffer`.
-    pub(crate) fn take(&mut self, warm: &mut Warm, buffer: &mut [u8]) -> usize
+    pub(crate) fn take(&mut self, pool: &mut Pool, buffer: &mut [u8]) -> usize
         ensures count { result ≡ min (length buffer.old) (length (writer_of self.old).unsent) }
         ensures taken { buffer.new ≡ take result (writer_of self.old).unsent ++ drop result buffer.old }
         ensures left { writer_of self.new ≡ writer_send result (writer_of self.old) }
         ensures same_state { sends_nothing self.new ≡ sends_nothing self.old }
     {
         match self {
-            Sending::Open(half) => half.take(warm, buffer),
-            Sending::Done(half) => half.take(warm, buffer),
+            Sending::Open(half) => half.take(pool, buffer),
+            Sending::Done(half) => half.take(pool, buffer),
             Sending::Dead(_) => 0,
         }
     }
@@ -96,7 +96,7 @@ impl Sending {
         };
     }
 
-    /// The frame with FIN begins, behind the last byte.
+    /// The frame with FIN begins, after the last byte.
     pub(crate) fn begin_fin(&mut self)
         requires due { ((writer_of self.old).finished && not (writer_of self.old).fin_sent) ≡ true }
         requires all_sent { (writer_of self.old).unsent ≡ [] }
@@ -120,10 +120,10 @@ impl Sending {
     }
 
     /// The stream is reset.
-    pub(crate) fn reset(self, warm: &mut Warm) -> DeadHalf {
+    pub(crate) fn reset(self, pool: &mut Pool) -> DeadHalf {
         match self {
-            Sending::Open(half) => half.reset(warm),
-            Sending::Done(half) => half.reset(warm),
+            Sending::Open(half) => half.reset(pool),
+            Sending::Done(half) => half.reset(pool),
             Sending::Dead(half) => half,
         }
     }
@@ -186,7 +186,7 @@ impl Receiving {
     ghost use Rattle.ymx_half.specs.Passing.{reader_pass};
 
     /// These bytes come, before the end.
-    pub(crate) fn arrive(&mut self, warm: &mut Warm, bytes: &[u8])
+    pub(crate) fn arrive(&mut self, pool: &mut Pool, bytes: &[u8])
         requires receives { receives_nothing self.old ≡ false }
         requires open { (reader_of self.old).ended ≡ false }
         requires fits { length bytes.now ≤ (reader_of self.old).granted }
@@ -194,20 +194,20 @@ impl Receiving {
         ensures same_state { receives_nothing self.new ≡ receives_nothing self.old }
     {
         if let Receiving::Open(half) = self {
-            half.arrive(warm, bytes);
+            half.arrive(pool, bytes);
         }
     }
 
     /// Moves the first unread bytes into `buffer`.
-    pub(crate) fn read(&mut self, warm: &mut Warm, buffer: &mut [u8]) -> usize
+    pub(crate) fn read(&mut self, pool: &mut Pool, buffer: &mut [u8]) -> usize
         ensures count { result ≡ min (length buffer.old) (length (reader_of self.old).unread) }
         ensures gave { buffer.new ≡ take result (reader_of self.old).unread ++ drop result buffer.old }
         ensures after { reader_of self.new ≡ reader_read result (reader_of self.old) }
         ensures same_state { receives_nothing self.new ≡ receives_nothing self.old }
     {
         match self {
-            Receiving::Open(half) => half.read(warm, buffer),
-            Receiving::Ended(half) => half.read(warm, buffer),
+            Receiving::Open(half) => half.read(pool, buffer),
+            Receiving::Ended(half) => half.read(pool, buffer),
             Receiving::Dead(_) => 0,
         }
     }
@@ -224,14 +224,14 @@ impl Receiving {
     }
 
     /// Drops the first unread bytes, as a read of them would take them out.
-    pub(crate) fn consume(&mut self, warm: &mut Warm, count: usize) -> usize
+    pub(crate) fn consume(&mut self, pool: &mut Pool, count: usize) -> usize
         ensures count { result ≡ min count (length (reader_of self.old).unread) }
         ensures after { reader_of self.new ≡ reader_read result (reader_of self.old) }
         ensures same_state { receives_nothing self.new ≡ receives_nothing self.old }
     {
         match self {
-            Receiving::Open(half) => half.consume(warm, count),
-            Receiving::Ended(half) => half.consume(warm, count),
+            Receiving::Open(half) => half.consume(pool, count),
+            Receiving::Ended(half) => half.consume(pool, count),
             Receiving::Dead(_) => 0,
         }
     }
@@ -273,14 +273,14 @@ impl Receiving {
         };
     }
 
-    /// What is unread behind the end is dropped.
-    pub(crate) fn empty(&mut self, warm: &mut Warm)
+    /// What is unread after the end is dropped.
+    pub(crate) fn empty(&mut self, pool: &mut Pool)
         requires { (reader_of self.old).ended ≡ true }
         ensures emptied { reader_of self.new ≡ reader_empty (reader_of self.old) }
         ensures same_state { receives_nothing self.new ≡ receives_nothing self.old }
     {
         if let Receiving::Ended(half) = self {
-            half.empty(warm);
+            half.empty(pool);
         }
     }
 
@@ -296,10 +296,10 @@ impl Receiving {
     }
 
     /// The stream is reset.
-    pub(crate) fn reset(self, warm: &mut Warm) -> DeadHalf {
+    pub(crate) fn reset(self, pool: &mut Pool) -> DeadHalf {
         match self {
-            Receiving::Open(half) => half.reset(warm),
-            Receiving::Ended(half) => half.reset(warm),
+            Receiving::Open(half) => half.reset(pool),
+            Receiving::Ended(half) => half.reset(pool),
             Receiving::Dead(half) => half,
         }
     }

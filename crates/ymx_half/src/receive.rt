@@ -1,4 +1,4 @@
-//! The receiving half of a stream, until its end arrives and behind it.
+//! The receiving half of a stream, until its end arrives and after it.
 
 ghost use Rattle.std.specs.Prelude.{◌≡◌, ◌+◌, ◌<◌, ◌≤◌, ◌++◌, length, take, drop, min, IfOk};
 ghost use Rattle.ymx_machine.specs.shared.Limits.{first_credit, widest_window};
@@ -10,7 +10,7 @@ use std::alloc::Global;
 use std::marker::{Model, PhantomData};
 use ymx_credit::Debt;
 use ymx_memory::RefusedAllocation;
-use ymx_ring::{Ring, Warm};
+use ymx_ring::{Pool, Ring};
 
 /// A receiving half, whose end has arrived or not (flow control). `RecvHalf` and `EndedHalf` are its two kinds.
 ///
@@ -50,12 +50,12 @@ impl ReceivingHalf<Open> {
     /// memory it answers `RefusedAllocation`.
     ///
     /// Example: of a window of 1,048,576 bytes 786,432 are owed from the start.
-    pub fn new(alloc: Global, warm: &mut Warm, window: u32) -> Result<RecvHalf, RefusedAllocation>
+    pub fn new(alloc: Global, pool: &mut Pool, window: u32) -> Result<RecvHalf, RefusedAllocation>
         requires narrowest { first_credit ≤ window }
         requires widest { window ≤ widest_window }
         ensures { IfOk result (λ half. half ≡ new_reader window) }
     {
-        let unread = Ring::new_warm(alloc, warm, window as usize)?;
+        let unread = Ring::new_pooled(alloc, pool, window as usize)?;
         Ok(ReceivingHalf {
             unread,
             granted: FIRST_CREDIT,
@@ -65,11 +65,11 @@ impl ReceivingHalf<Open> {
     }
 
     /// These bytes come. They are no more than the peer may send, and so there is room for them.
-    pub fn arrive(&mut self, warm: &mut Warm, bytes: &[u8])
+    pub fn arrive(&mut self, pool: &mut Pool, bytes: &[u8])
         requires { length bytes.now ≤ self.old.granted }
         ensures { self.new ≡ reader_arrive bytes.now self.old }
     {
-        self.unread.put_warm(warm, bytes);
+        self.unread.put_pooled(pool, bytes);
         self.granted -= bytes.len() as u32;
     }
 
@@ -106,10 +106,10 @@ impl ReceivingHalf<Open> {
 
 impl ReceivingHalf<Over> {
     /// What is unread is dropped: the stream is given up.
-    pub fn empty(&mut self, warm: &mut Warm)
+    pub fn empty(&mut self, pool: &mut Pool)
         ensures { self.new ≡ reader_empty self.old }
     {
-        self.unread.cool(warm);
+        self.unread.go_idle(pool);
     }
 }
 
@@ -117,12 +117,12 @@ impl<K: Kind> ReceivingHalf<K> {
     /// Moves the first unread bytes into `buffer`, as many as are there and fit, and returns their
     /// number. They are owed to the peer from then on. The rest of `buffer` stays as it was. Where nothing is
     /// unread, and the end has arrived, it is reached.
-    pub fn read(&mut self, warm: &mut Warm, buffer: &mut [u8]) -> usize
+    pub fn read(&mut self, pool: &mut Pool, buffer: &mut [u8]) -> usize
         ensures count { result ≡ min (length buffer.old) (length self.old.unread) }
         ensures gave { buffer.new ≡ take result self.old.unread ++ drop result buffer.old }
         ensures after { self.new ≡ reader_read result self.old }
     {
-        let count = self.unread.take_warm(warm, buffer);
+        let count = self.unread.take_pooled(pool, buffer);
         self.debt.read(count as u32);
         count
     }
@@ -137,12 +137,12 @@ impl<K: Kind> ReceivingHalf<K> {
 
     /// Drops the first `count` unread bytes, or as many as are there, as a read of them would take them out, and
     /// returns their number.
-    pub fn consume(&mut self, warm: &mut Warm, count: usize) -> usize
+    pub fn consume(&mut self, pool: &mut Pool, count: usize) -> usize
         ensures count { result ≡ min count (length self.old.unread) }
         ensures after { self.new ≡ reader_read result self.old }
     {
         let taken = count.min(self.unread.len());
-        self.unread.skip_warm(warm, taken);
+        self.unread.skip_pooled(pool, taken);
         self.debt.read(taken as u32);
         taken
     }
@@ -169,10 +169,10 @@ impl<K: Kind> ReceivingHalf<K> {
         self.unread.renew(capacity)
     }
 
-    /// The stream is reset: the unread bytes are dropped, and `warm` has their block for the next stream.
-    pub fn reset(self, warm: &mut Warm) -> DeadHalf {
+    /// The stream is reset: the unread bytes are dropped, and `pool` has their block for the next stream.
+    pub fn reset(self, pool: &mut Pool) -> DeadHalf {
         let ReceivingHalf { unread, .. } = self;
-        unread.end(warm);
+        unread.end(pool);
         DeadHalf
     }
 

@@ -1,4 +1,4 @@
-//! The sending half of a stream, until it is finished and behind that.
+//! The sending half of a stream, until it is finished and after that.
 
 ghost use Rattle.std.specs.Prelude.{◌≡◌, ◌+◌, ◌≤◌, ◌++◌, [], false, length, take, drop, min, IsOk, IfOk, OnErr};
 ghost use Rattle.ymx_machine.specs.shared.Limits.{first_credit, greatest_number};
@@ -9,7 +9,7 @@ use std::alloc::Global;
 use std::marker::{Model, PhantomData};
 use ymx_credit::Credit;
 use ymx_memory::RefusedAllocation;
-use ymx_ring::{Ring, Warm};
+use ymx_ring::{Pool, Ring};
 
 /// A sending half, which was finished or not (flow control). `SendHalf` and `DoneHalf` are its two kinds.
 ///
@@ -47,10 +47,10 @@ impl SendingHalf<Open> {
 
     /// Makes the half of a new stream: 262,144 bytes may be written, and there is memory for so many
     /// unsent ones. Without that memory it answers `RefusedAllocation`.
-    pub fn new(alloc: Global, warm: &mut Warm) -> Result<SendHalf, RefusedAllocation>
+    pub fn new(alloc: Global, pool: &mut Pool) -> Result<SendHalf, RefusedAllocation>
         ensures { IfOk result (λ half. half ≡ new_writer) }
     {
-        let unsent = Ring::new_warm(alloc, warm, FIRST_CREDIT as usize)?;
+        let unsent = Ring::new_pooled(alloc, pool, FIRST_CREDIT as usize)?;
         Ok(SendingHalf {
             credit: Credit::new(FIRST_CREDIT),
             unsent,
@@ -66,7 +66,7 @@ impl SendingHalf<Open> {
     ///
     /// Example: of 300,000 bytes a new half takes 262,144. The next write takes none, until the peer
     /// grants more.
-    pub fn write(&mut self, warm: &mut Warm, bytes: &[u8]) -> Result<usize, RefusedAllocation>
+    pub fn write(&mut self, pool: &mut Pool, bytes: &[u8]) -> Result<usize, RefusedAllocation>
         ensures took_min { IfOk result (λ count. count ≡ min (length bytes.now) self.old.credit) }
         ensures wrote { IfOk result (λ count. self.new ≡ writer_write (take count bytes.now) self.old) }
         ensures in_room { length self.old.unsent + min (length bytes.now) self.old.credit ≤ first_credit → IsOk result }
@@ -79,7 +79,7 @@ impl SendingHalf<Open> {
         if needed > capacity && self.unsent.grow(needed.max(2 * capacity)).is_err() {
             self.unsent.grow(needed)?;
         }
-        self.unsent.put_warm(warm, &bytes[..count]);
+        self.unsent.put_pooled(pool, &bytes[..count]);
         self.credit.spend(count as u32);
         Ok(count)
     }
@@ -113,7 +113,7 @@ impl SendingHalf<Open> {
 }
 
 impl SendingHalf<Over> {
-    /// The frame with FIN begins (half-close): once, and behind the last byte.
+    /// The frame with FIN begins (half-close): once, and after the last byte.
     pub fn begin_fin(&mut self)
         requires all_sent { self.old.unsent ≡ [] }
         requires once { self.old.fin_sent ≡ false }
@@ -143,12 +143,12 @@ impl<K: Kind> SendingHalf<K> {
 
     /// Moves the next bytes of a frame out of the half into `buffer`, as many as are there and fit, and
     /// returns their number. The rest of `buffer` stays as it was.
-    pub fn take(&mut self, warm: &mut Warm, buffer: &mut [u8]) -> usize
+    pub fn take(&mut self, pool: &mut Pool, buffer: &mut [u8]) -> usize
         ensures count { result ≡ min (length buffer.old) (length self.old.unsent) }
         ensures taken { buffer.new ≡ take result self.old.unsent ++ drop result buffer.old }
         ensures left { self.new ≡ writer_send result self.old }
     {
-        self.unsent.take_warm(warm, buffer)
+        self.unsent.take_pooled(pool, buffer)
     }
 
     /// Gives a block back of which more memory is in use than the unsent bytes need, or which is wider than the first
@@ -161,11 +161,11 @@ impl<K: Kind> SendingHalf<K> {
         self.unsent.renew(capacity)
     }
 
-    /// The stream is reset: the unsent bytes and the end are dropped, and `warm` has their block for the next
+    /// The stream is reset: the unsent bytes and the end are dropped, and `pool` has their block for the next
     /// stream.
-    pub fn reset(self, warm: &mut Warm) -> DeadHalf {
+    pub fn reset(self, pool: &mut Pool) -> DeadHalf {
         let SendingHalf { unsent, .. } = self;
-        unsent.end(warm);
+        unsent.end(pool);
         DeadHalf
     }
 

@@ -17,7 +17,7 @@ use std::mem;
 use ymx_credit::is_half_owed;
 use ymx_header::{FLAG_ACK, FLAG_FIN, FLAG_RST, FLAG_SYN, HEADER_LENGTH, Header};
 use ymx_memory::RefusedAllocation;
-use ymx_ring::Warm;
+use ymx_ring::Pool;
 
 /// How far a stream has come at this end.
 #[derive(Clone, Copy, PartialEq, Eq)]
@@ -149,7 +149,7 @@ impl StreamRec {
     /// is due next.
     pub fn opened(
         alloc: Global,
-        warm: &mut Warm,
+        pool: &mut Pool,
         window: u32,
         with_data: bool,
     ) -> Result<StreamRec, RefusedAllocation>
@@ -157,8 +157,8 @@ impl StreamRec {
         requires widest { window ≤ widest_window }
         ensures { IfOk result (λ stream. stream ≡ new_end window LivePhase true with_data) }
     {
-        let writer = Sending::Open(SendHalf::new(alloc, warm)?);
-        let reader = Receiving::Open(RecvHalf::new(alloc, warm, window)?);
+        let writer = Sending::Open(SendHalf::new(alloc, pool)?);
+        let reader = Receiving::Open(RecvHalf::new(alloc, pool, window)?);
         let marks = Marks {
             syn: true,
             with_data,
@@ -180,15 +180,15 @@ impl StreamRec {
     /// are due at once. Without the memory it answers `RefusedAllocation`.
     pub fn offered(
         alloc: Global,
-        warm: &mut Warm,
+        pool: &mut Pool,
         window: u32,
     ) -> Result<StreamRec, RefusedAllocation>
         requires narrowest { first_credit ≤ window }
         requires widest { window ≤ widest_window }
         ensures { IfOk result (λ stream. stream ≡ new_end window OfferedPhase false false) }
     {
-        let writer = Sending::Open(SendHalf::new(alloc, warm)?);
-        let reader = Receiving::Open(RecvHalf::new(alloc, warm, window)?);
+        let writer = Sending::Open(SendHalf::new(alloc, pool)?);
+        let reader = Receiving::Open(RecvHalf::new(alloc, pool, window)?);
         let marks = Marks {
             syn: false,
             with_data: false,
@@ -310,14 +310,14 @@ impl StreamRec {
     /// more. Without that memory it answers `RefusedAllocation`, and nothing has changed.
     ///
     /// Example: of 300,000 bytes a new stream takes 262,144, and then none, until the peer grants more.
-    pub fn write(&mut self, warm: &mut Warm, bytes: &[u8]) -> Result<usize, RefusedAllocation>
+    pub fn write(&mut self, pool: &mut Pool, bytes: &[u8]) -> Result<usize, RefusedAllocation>
         requires { self.old.writer.finished ≡ false }
         ensures took_min { IfOk result (λ count. count ≡ min (length bytes.now) self.old.writer.credit) }
         ensures wrote { IfOk result (λ count. self.new ≡ end_write (take count bytes.now) self.old) }
         ensures in_room { length self.old.writer.unsent + min (length bytes.now) self.old.writer.credit ≤ first_credit → IsOk result }
         ensures refused_unchanged { OnErr result (self.new ≡ self.old) }
     {
-        self.writer.write(warm, bytes)
+        self.writer.write(pool, bytes)
     }
 
     /// Moves the first unread bytes into `buffer`, as many as are there and fit, and returns their
@@ -325,21 +325,21 @@ impl StreamRec {
     ///
     /// Example: of a window of 262,144 bytes the first 131,071 that are read make no credit due, and one
     /// byte more does.
-    pub fn read(&mut self, warm: &mut Warm, buffer: &mut [u8]) -> usize
+    pub fn read(&mut self, pool: &mut Pool, buffer: &mut [u8]) -> usize
         ensures count { result ≡ min (length buffer.old) (length self.old.reader.unread) }
         ensures gave { buffer.new ≡ take result self.old.reader.unread ++ drop result buffer.old }
         ensures after { self.new ≡ end_read result self.old }
     {
-        self.reader.read(warm, buffer)
+        self.reader.read(pool, buffer)
     }
 
     /// Drops the first `count` unread bytes, or as many as are there, as a read of them would take them out, and
     /// returns their number. The caller has seen them by `unread`.
-    pub fn consume(&mut self, warm: &mut Warm, count: usize) -> usize
+    pub fn consume(&mut self, pool: &mut Pool, count: usize) -> usize
         ensures count { result ≡ min count (length self.old.reader.unread) }
         ensures after { self.new ≡ end_read result self.old }
     {
-        self.reader.consume(warm, count)
+        self.reader.consume(pool, count)
     }
 
     /// Nothing more is written (half-close): the unsent bytes go out, and then the end.
@@ -360,14 +360,14 @@ impl StreamRec {
     }
 
     /// Both directions of a stream that was neither reset nor given up are over (flags): what is unread
-    /// and unsent is dropped, and `warm` has its memory. An RST is due, behind a SYN that hasn't gone out, and nothing
+    /// and unsent is dropped, and `pool` has its memory. An RST is due, after a SYN that hasn't gone out, and nothing
     /// else. The stream is then at `stage`, which is `Reset` or `Lingering`.
-    pub fn reset(&mut self, warm: &mut Warm, stage: Stage)
+    pub fn reset(&mut self, pool: &mut Pool, stage: Stage)
         requires up { takes self.old.phase ≡ true }
         requires over { takes (phase_of stage) ≡ false }
         ensures { self.new ≡ end_reset (phase_of stage) self.old }
     {
-        self.drop_halves(warm, stage);
+        self.drop_halves(pool, stage);
         self.marks = self.marks.only(self.marks.syn, true);
     }
 
@@ -376,37 +376,37 @@ impl StreamRec {
     /// In a lost session nothing is sent any more. A stream that was reset stays so. One that was finished
     /// here, and whose peer has ended, drops what is unread, and still sends its bytes and its FIN. Any
     /// other is reset.
-    pub fn forget(&mut self, warm: &mut Warm, lost: bool)
+    pub fn forget(&mut self, pool: &mut Pool, lost: bool)
         requires { is_lingering self.old.phase ≡ false }
         ensures { self.new ≡ end_forget lost self.old }
     {
         if lost {
-            self.drop_halves(warm, Stage::Lingering);
+            self.drop_halves(pool, Stage::Lingering);
             self.marks = self.marks.only(false, false);
             return;
         }
         if self.stage != Stage::Reset {
             if self.writer.is_finished() && self.reader.has_ended() {
-                self.reader.empty(warm);
+                self.reader.empty(pool);
             } else {
-                self.reset(warm, Stage::Lingering);
+                self.reset(pool, Stage::Lingering);
             }
         }
         self.stage = Stage::Lingering;
     }
 
     /// Both halves are over.
-    fn drop_halves(&mut self, warm: &mut Warm, stage: Stage)
+    fn drop_halves(&mut self, pool: &mut Pool, stage: Stage)
         requires { takes (phase_of stage) ≡ false }
         ensures { self.new ≡ record self.old { phase = phase_of stage; writer = dead_writer; reader = dead_reader } }
     {
-        mem::replace(&mut self.writer, Sending::Dead(DeadHalf)).reset(warm);
-        mem::replace(&mut self.reader, Receiving::Dead(DeadHalf)).reset(warm);
+        mem::replace(&mut self.writer, Sending::Dead(DeadHalf)).reset(pool);
+        mem::replace(&mut self.reader, Receiving::Dead(DeadHalf)).reset(pool);
         self.stage = stage;
     }
 
     /// Gives memory back: the blocks of its rings of which more is in use than their bytes need, and unsent bytes' block
-    /// that grew, for fresh ones. The stream stays as it was. True where it gave one back; for want of memory it keeps
+    /// that grew, for fresh ones. The stream stays as it was. True where it gave one back; for lack of memory it keeps
     /// what it has.
     pub fn shrink(&mut self) -> bool
         ensures { self.new ≡ self.old }
@@ -417,30 +417,30 @@ impl StreamRec {
     }
 
     /// The record goes: the blocks of its rings are kept for the next stream.
-    pub fn end(self, warm: &mut Warm) {
+    pub fn end(self, pool: &mut Pool) {
         let StreamRec { writer, reader, .. } = self;
-        writer.reset(warm);
-        reader.reset(warm);
+        writer.reset(pool);
+        reader.reset(pool);
     }
 
     // ---- frames that come
 
-    /// A piece of a payload comes, and behind it the peer's end if `fin` (flow control). A stream that takes
+    /// A piece of a payload comes, and after it the peer's end if `fin` (flow control). A stream that takes
     /// payload has room for all that it granted, and may be sent so much less from then on. Any other stream
     /// drops the piece and the end.
     ///
     /// Example: a new stream takes 262,144 bytes, and then none, until it has announced more.
-    pub fn receive_piece(&mut self, warm: &mut Warm, fin: bool, bytes: &[u8])
+    pub fn receive_piece(&mut self, pool: &mut Pool, fin: bool, bytes: &[u8])
         requires { takes_payload self.old ≡ true → length bytes.now ≤ self.old.reader.granted }
         ensures { self.new ≡ receive_piece fin bytes.now self.old }
     {
-        self.receive_data(warm, bytes);
+        self.receive_data(pool, bytes);
         if fin {
             self.receive_fin();
         }
     }
 
-    /// A piece of a payload comes, and behind it the peer's end if `fin`, and is read at once: `receive_piece` of these
+    /// A piece of a payload comes, and after it the peer's end if `fin`, and is read at once: `receive_piece` of these
     /// bytes, and then a read of as many (flow control). None of them is put among the unread bytes, of which there
     /// are none.
     ///
@@ -474,9 +474,9 @@ impl StreamRec {
         }
     }
 
-    /// The peer has reset the stream (flags): what is unread and unsent is dropped, and `warm` has its memory;
+    /// The peer has reset the stream (flags): what is unread and unsent is dropped, and `pool` has its memory;
     /// nothing is due any more. The record of an offered stream goes instead.
-    pub fn receive_rst(&mut self, warm: &mut Warm)
+    pub fn receive_rst(&mut self, pool: &mut Pool)
         requires { is_offered self.old.phase ≡ false }
         ensures { self.new ≡ receive_rst self.old }
     {
@@ -484,17 +484,17 @@ impl StreamRec {
             Stage::Lingering => Stage::Lingering,
             _ => Stage::Reset,
         };
-        self.drop_halves(warm, stage);
+        self.drop_halves(pool, stage);
         self.marks = self.marks.only(false, false);
     }
 
     /// Payload comes, which a stream that doesn't take it drops.
-    fn receive_data(&mut self, warm: &mut Warm, bytes: &[u8])
+    fn receive_data(&mut self, pool: &mut Pool, bytes: &[u8])
         requires { takes_payload self.old ≡ true → length bytes.now ≤ self.old.reader.granted }
         ensures { self.new ≡ receive_data bytes.now self.old }
     {
         if self.takes_payload() {
-            self.reader.arrive(warm, bytes);
+            self.reader.arrive(pool, bytes);
         }
     }
 
@@ -554,7 +554,7 @@ impl StreamRec {
     /// How many bytes such a frame of this stream has, header and payload, where Data carries at most
     /// `limit` bytes of payload.
     ///
-    /// Example: with 20,000 bytes unsent and a limit of 16,384, Data has 16,396 bytes, and the one behind
+    /// Example: with 20,000 bytes unsent and a limit of 16,384, Data has 16,396 bytes, and the one after
     /// it 3,628.
     pub fn frame_len(&self, kind: FrameKind, limit: u32) -> usize
         ensures { (window id : ℕ) → length (spelled kind window limit id self.now) ≡ result }
@@ -570,7 +570,7 @@ impl StreamRec {
     /// from now on.
     pub fn begin_frame(
         &mut self,
-        warm: &mut Warm,
+        pool: &mut Pool,
         kind: FrameKind,
         window: u32,
         limit: u32,
@@ -587,7 +587,7 @@ impl StreamRec {
         let count = self.payload_len(kind, limit) as usize;
         put_header(&header, buffer);
         self.mark_begun(kind, window);
-        self.put_payload(warm, count, buffer);
+        self.put_payload(pool, count, buffer);
         HEADER_LENGTH + count
     }
 
@@ -668,14 +668,14 @@ impl StreamRec {
         }
     }
 
-    /// Moves the next `count` unsent bytes to the place behind a header.
-    fn put_payload(&mut self, warm: &mut Warm, count: usize, buffer: &mut [u8])
+    /// Moves the next `count` unsent bytes to the place after a header.
+    fn put_payload(&mut self, pool: &mut Pool, count: usize, buffer: &mut [u8])
         requires there { count ≤ length self.old.writer.unsent }
         requires fits { 12 + count ≤ length buffer.old }
         ensures written { buffer.new ≡ take 12 buffer.old ++ take count self.old.writer.unsent ++ drop (12 + count) buffer.old }
         ensures goes { self.new ≡ record self.old { writer = writer_send count self.old.writer } }
     {
         self.writer
-            .take(warm, &mut buffer[HEADER_LENGTH..HEADER_LENGTH + count]);
+            .take(pool, &mut buffer[HEADER_LENGTH..HEADER_LENGTH + count]);
     }
 }

@@ -17,7 +17,7 @@ check_of h =
     else Err UnknownType)
     else Err BadVersion
 
--- the number that users see behind a B
+-- the number that users see after a B
 abbrev pub fault_number : Fault → ℕ
 fault_number BadVersion = 1
 fault_number UnknownType = 2

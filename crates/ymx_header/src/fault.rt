@@ -3,7 +3,7 @@
 use std::error::Error;
 use std::fmt;
 
-/// Why a session broke. A fault is printed as its number behind a B, as `B5`.
+/// Why a session broke. A fault is printed as its number after a B, as `B5`.
 ///
 /// From `BadVersion` to `BadGoAwayCode` this side found the fault, and tells the peer by a Go Away
 /// frame with the code for a protocol error. The last two are what the peer's own Go Away frame said.

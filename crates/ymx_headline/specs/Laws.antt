@@ -66,10 +66,10 @@ carries_bytes _ _ = false
 abbrev pub begins_payload : Header → Incoming
 begins_payload h = if payload h == 0 then Head [] else Payload h.id (payload h) (has_fin h) false
 
--- what has come of a frame that isn't whole, behind one byte more
+-- what has come of a frame that isn't whole, after one byte more
 abbrev pub after_byte : ℕ → Incoming → Incoming
 after_byte b (Head seen) = if length seen == 11 then begins_payload (header_of (seen ++ b ∷ [])) else Head (seen ++ b ∷ [])
-after_byte b (Payload id missing fin stray) = if nat_lt 1 missing then Payload id (missing - 1) fin stray else Head []
+after_byte b (Payload id missing fin discarded) = if nat_lt 1 missing then Payload id (missing - 1) fin discarded else Head []
 
 -- how many frames these bytes make whole
 abbrev pub made_whole : List ℕ → Incoming → ℕ

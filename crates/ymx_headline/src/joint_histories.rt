@@ -1,4 +1,4 @@
-//! The law behind the audit of two histories. The function does nothing: its contract is the theorem.
+//! The law that the audit of two histories rests on. The function does nothing: its contract is the theorem.
 ghost use Rattle.std.specs.Prelude.{List, Bool};
 ghost use Rattle.ymx_model.specs.declared.types.Entry.{Entry};
 ghost use Rattle.ymx_machine.specs.declared.types.Step.{Step};

@@ -48,7 +48,7 @@ pub fn others_keep()
     ensures other_side { (c : Call) (m n : Machine) (r : Reply) → Rule c m r n → n.you ≡ m.you }
 {}
 
-/// A call has one answer in a state. Only where a stream would be opened or bytes taken may want of
+/// A call has one answer in a state. Only where a stream would be opened or bytes taken may lack of
 /// memory be answered in its place.
 pub fn one_answer()
     ensures { (c : Call) (m n k : Machine) (r other : Reply) → Rule c m r n → Rule c m other k →

@@ -19,7 +19,7 @@ ghost use Rattle.ymx_law_session.specs.Limits.{IsWithin};
 ghost use Rattle.ymx_headline.specs.world.Texts.{AreFrames, AreWithin, IsLater, IsDelivered};
 
 /// In each direction that still carries bytes, what the receiver holds of a frame, the pipe, and the rest
-/// of the sender's frame begun are whole frames one after the other, behind the rest of a payload
+/// of the sender's frame begun are whole frames one after the other, after the rest of a payload
 /// (framing). So it is whatever the two sides do and however the bytes are cut: an emission adds frames at
 /// the end, a delivery takes some from the front. These frames are settled by the bytes, and no session
 /// within its limits finds a fault in the header of one by itself. In a quiet world no session is inside a

@@ -43,7 +43,7 @@ none_between n v b e = empty (part n b) (omega (arith, ap length e, ap length (p
     empty [] len = refl
     empty (x ∷ xs) len = absurd (omega arith)
 
--- the entry of one event was added behind what is seen of the journal
+-- the entry of one event was added after what is seen of the journal
 pub extends_one : (n : ℕ) (v w : Option (List Entry)) (log : Option JournalView) (event : Event) (told : Reply) (Such : List Entry → Type 0) → w ≡ whole_of (journal_after n event told log) → IsBehind n v log → ((p : ℕ) → HasIf true log → Such (entry p n event told ∷ [])) → Extends n v w Such
 extends_one n v w log event told Such e b p = subst (λ (x : Option (List Entry)). Extends n v x Such) (sym e) (added v log b p)
   where
@@ -77,7 +77,7 @@ entries_at keeps n m p d e q r es fs gs is a b c d' = is ∙ (λ i. d' i ++ kept
 pub after_at : (keeps : Bool) (n m : ℕ) (d e : Event) (q r : Reply) (es fs gs : List Entry) → gs ≡ es ++ kept_entries keeps (entry (length es) n d q) → n ≡ m → d ≡ e → q ≡ r → es ≡ fs → gs ≡ entries_after keeps m e r fs
 after_at keeps n m d e q r es fs gs is a b c d' = is ∙ (λ i. entries_after keeps (a i) (b i) (c i) (d' i))
 
--- where an entry was kept, there are more behind it
+-- where an entry was kept, there are more after it
 pub kept_longer : (keeps : Bool) (es fs : List Entry) (e : Entry) (start : ℕ) → start ≡ length fs → fs ≡ es ++ kept_entries keeps e → keeps ≡ true → length es < start
 kept_longer true es fs e start s f k = omega (arith, s, ap length f, length-append es (e ∷ []))
 kept_longer false es fs e start s f k = cc

@@ -47,7 +47,7 @@ use Rattle.ymx_hub.specs.Steps.{Steps, StepsAsked, StepsClosed}
 use Rattle.ymx_hub.specs.Turns.{EndsIn}
 use Rattle.ymx_hub.specs.Shown.{IsShown}
 use Rattle.ymx_hub.specs.WholeHistories.{IsHistoryOf}
-use Rattle.ymx_hub.specs.Releasing.{AreReads, FindsEnd, ReadsUp, ReadsOut, Tends, Releases, Looks, joined, AllTend, Settles, SettlesAmong, LooksAmong, AllAmong, Waits, WaitFrom, OthersStay, IsDropped, SpentAlike, all_spent, LeavesSome}
+use Rattle.ymx_hub.specs.Releasing.{AreReads, FindsEnd, ReadsUp, ReadsOut, Tends, Releases, Looks, joined, AllTend, Purges, PurgesAmong, LooksAmong, AllAmong, Waits, WaitFrom, OthersStay, IsDropped, SpentAlike, all_spent, LeavesSome}
 use Rattle.ymx_hub.proofs.Books.{books_same, books_at, books_weaker}
 
 reads_append : (id seat : ℕ) (es ds : List Entry) → AreReads id seat es → AreReads id seat ds → AreReads id seat (es ++ ds)
@@ -63,7 +63,7 @@ asked_reads id size buffer seat (Ok g) ds o = one_read id size seat (read_or (Ok
 asked_reads id size buffer seat (Err fault) ds (inl none) = rw none.1 tt
 asked_reads id size buffer seat (Err fault) ds (inr some) = one_read id size seat (read_or (Err some.0) buffer) ds some.2
 
--- what is last is told behind what came before
+-- what is last is told after what came before
 ends_behind : (Such : Reply → Type 0) (es ds : List Entry) → EndsIn Such ds → EndsIn Such (es ++ ds)
 ends_behind Such [] ds h = h
 ends_behind Such (e ∷ []) [] h = absurd h
@@ -143,13 +143,13 @@ among_append : (ids : List ℕ) (ps qs : List (ℕ × List Entry)) → AllAmong 
 among_append ids [] qs a b = b
 among_append ids (p ∷ ps) qs a b = (a.0, among_append ids ps qs a.1 b)
 
-pub settles_none : (keeps : Bool) (seat : SeatView) → Books keeps seat seat (Settles seat.number)
-settles_none keeps seat = books_same keeps seat (Settles seat.number) ([], refl, tt)
+pub purges_none : (keeps : Bool) (seat : SeatView) → Books keeps seat seat (Purges seat.number)
+purges_none keeps seat = books_same keeps seat (Purges seat.number) ([], refl, tt)
 
 -- looks at released streams once more
-pub settles_more : (keeps : Bool) (old mid new : SeatView) → Books keeps old mid (Settles old.number) → Books keeps mid new (Settles mid.number) → Books keeps old new (Settles old.number)
-settles_more keeps old mid new g h =
-    books_at keeps old mid new (Settles old.number) Settles (Settles old.number)
+pub purges_more : (keeps : Bool) (old mid new : SeatView) → Books keeps old mid (Purges old.number) → Books keeps mid new (Purges mid.number) → Books keeps old new (Purges old.number)
+purges_more keeps old mid new g h =
+    books_at keeps old mid new (Purges old.number) Purges (Purges old.number)
     (λ es ds s t. (
       s.0 ++ t.0,
       ap (λ xs. xs ++ ds) s.1 ∙ ap (λ ys. joined s.0 ++ ys) t.1 ∙ sym (joined_append s.0 t.0),
@@ -169,8 +169,8 @@ looks_among keeps old new ids place id look within e h =
     books_weaker keeps old new (Looks id old.number look) (LooksAmong ids old.number)
     (λ es l. let t : (answer : Result (Unit {0}) HubFault) × Tends id old.number answer es = looks_tend id old.number look es l in (id, t.0, t.1, (place, within, e id))) h
 
-pub among_none : (keeps : Bool) (ids : List ℕ) (seat : SeatView) → Books keeps seat seat (SettlesAmong ids seat.number)
-among_none keeps ids seat = books_same keeps seat (SettlesAmong ids seat.number) ([], refl, tt, tt)
+pub among_none : (keeps : Bool) (ids : List ℕ) (seat : SeatView) → Books keeps seat seat (PurgesAmong ids seat.number)
+among_none keeps ids seat = books_same keeps seat (PurgesAmong ids seat.number) ([], refl, tt, tt)
 
 -- those that are left were there before
 left_before : (before after : List ℕ) (old new : BookedView) (id : ℕ) → LeavesSome before after old new → Contains after id → Contains before id
@@ -178,9 +178,9 @@ left_before before after old new id l h =
     Contains-permutation (l.0 ++ after) before id (IsPermutation-sym before (l.0 ++ after) l.1.parts) (Contains-append_right l.0 after id h)
 
 -- one stream more
-pub among_more : (keeps : Bool) (old mid new : SeatView) (ids listed : List ℕ) (h k : BookedView) → Books keeps old mid (SettlesAmong ids old.number) → LeavesSome ids listed h k → Books keeps mid new (LooksAmong listed mid.number) → Books keeps old new (SettlesAmong ids old.number)
+pub among_more : (keeps : Bool) (old mid new : SeatView) (ids listed : List ℕ) (h k : BookedView) → Books keeps old mid (PurgesAmong ids old.number) → LeavesSome ids listed h k → Books keeps mid new (LooksAmong listed mid.number) → Books keeps old new (PurgesAmong ids old.number)
 among_more keeps old mid new ids listed h k g l t =
-    books_at keeps old mid new (SettlesAmong ids old.number) (LooksAmong listed) (SettlesAmong ids old.number)
+    books_at keeps old mid new (PurgesAmong ids old.number) (LooksAmong listed) (PurgesAmong ids old.number)
     (λ es ds s o. (
       s.0 ++ (o.0, ds) ∷ [],
       ap (λ xs. xs ++ ds) s.1 ∙ ap (λ ys. joined s.0 ++ ys) (sym (append-nil ds)) ∙ sym (joined_append s.0 ((o.0, ds) ∷ [])),
@@ -188,8 +188,8 @@ among_more keeps old mid new ids listed h k g l t =
       among_append ids s.0 ((o.0, ds) ∷ []) s.3 (left_before ids listed h k o.0 l o.3, tt),
     )) g t
 
-pub settles_among : (keeps : Bool) (old new : SeatView) (ids : List ℕ) → Books keeps old new (SettlesAmong ids old.number) → Books keeps old new (Settles old.number)
-settles_among keeps old new ids g = books_weaker keeps old new (SettlesAmong ids old.number) (Settles old.number) (λ es s. (s.0, s.1, s.2)) g
+pub purges_among : (keeps : Bool) (old new : SeatView) (ids : List ℕ) → Books keeps old new (PurgesAmong ids old.number) → Books keeps old new (Purges old.number)
+purges_among keeps old new ids g = books_weaker keeps old new (PurgesAmong ids old.number) (Purges old.number) (λ es s. (s.0, s.1, s.2)) g
 
 -- ---- which halves are spent
 
@@ -234,7 +234,7 @@ all_alike : (ids : List ℕ) (h k : BookedView) → SpentAlike h k → SpentAlik
 all_alike [] h k a = a
 all_alike (x ∷ xs) h k a = all_alike xs (spent x h) (spent x k) (spent_alike x h k a)
 
--- the half is spent behind reads
+-- the half is spent after reads
 pub spent_on : (keeps : Bool) (seat id : ℕ) (answer : Result (Unit {0}) HubFault) (old mid new : BookedView) → SpentAlike old mid → StepsClosed (is_half_spent id mid) keeps seat id answer mid new → SpentAlike (spent id old) new
 spent_on keeps seat id answer old mid new a s = alike_twice (spent id old) (spent id mid) new (spent_alike id old mid a) (closed_alike (is_half_spent id mid) keeps seat id answer mid new s)
 
@@ -384,7 +384,7 @@ pub release_done : (keeps : Bool) (old new : SeatView) (id : ℕ) (answer : Resu
 release_done keeps old new id (Ok u) s after h = inr h
 release_done keeps old new id (Err why) s after h = tt
 
--- the history is shown behind it
+-- the history is shown after it
 pub is_dropped : (keeps witnessed : Bool) (role : Role) (config : Config) (old mid new : SeatView) (id : ℕ) (result : Result (Unit {0}) HubFault) (s : Session) (ids : List ℕ) →
     IfOk result (λ (u : Unit {0}). (Waits s id × Contains ids id) ⊎ Books keeps old mid (ReadsOut id old.number (Ok tt))) →
     IsShown mid new → IsHistoryOf witnessed role config new.seen s →
@@ -421,7 +421,7 @@ other_waits : (id other : ℕ) (s t : Session) → OthersStay id s t → other �
 other_waits id other s t stay n w =
     reply_is other t ∙ ap (λ (v : Status). reply_of v (look other t.table.entries)) stay.status ∙ ap (reply_of s.status) (stay.others other n) ∙ sym (reply_is other s) ∙ w
 
--- the stream at this place waits, and those behind it go on
+-- the stream at this place waits, and those after it go on
 pub wait_on : (id place : ℕ) (s t : Session) (ids : List ℕ) → ((d : ℕ) → get_or ids place d ≡ id) → OthersStay id s t → Waits t id → WaitFrom s ids (place + 1) → WaitFrom t ids place
 wait_on id place s t ids e stay now w at d low high = of (get_or ids at d == id) refl
   where

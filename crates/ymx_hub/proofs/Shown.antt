@@ -1,4 +1,4 @@
--- What a seat sees of the whole history is behind what it had seen, and what is booked behind that.
+-- What a seat sees of the whole history is after what it had seen, and what is booked after that.
 use Rattle.std.proofs.Common.{◌≡◌, ℕ, List, [], ◌∷◌, ◌++◌, length, Bool, Option, Some, None, refl, sym, ap, subst, ◌∙◌, append_assoc, append-nil}
 use Rattle.std.proofs.lemmas.List.{append_cancel_left}
 use Rattle.ymx_model.specs.declared.types.Entry.{Entry}
@@ -59,7 +59,7 @@ extends_behind n (Some v) (Some m) (Some w) Such g h = some h.0 h.1 h.2
 pub shown_booked : (keeps : Bool) (old new : SeatView) (Such : List Entry → Type 0) → Books keeps old new Such → BooksShown keeps old new Such
 shown_booked keeps old new Such g = record { between = new; booked = g; shown = shown_none new }
 
--- what is shown behind what is booked
+-- what is shown after what is booked
 pub booked_shown : (keeps : Bool) (old mid new : SeatView) (Such : List Entry → Type 0) → Books keeps old mid Such → IsShown mid new → BooksShown keeps old new Such
 booked_shown keeps old mid new Such g s = record { between = mid; booked = g; shown = s }
 
@@ -67,7 +67,7 @@ booked_shown keeps old mid new Such g s = record { between = mid; booked = g; sh
 pub shown_alone : (keeps : Bool) (old new : SeatView) (Such : List Entry → Type 0) → Such [] → IsShown old new → BooksShown keeps old new Such
 shown_alone keeps old new Such p s = record { between = old; booked = books_same keeps old Such p; shown = s }
 
--- what is booked behind what was shown
+-- what is booked after what was shown
 pub shown_before : (keeps : Bool) (old mid new : SeatView) (Such : List Entry → Type 0) → IsShown old mid → Books keeps mid new Such → BooksShown keeps old new Such
 shown_before keeps old mid new Such s g = by (subst (λ (v : SeatView). Books keeps v new Such) s.rest g)
   where
@@ -80,7 +80,7 @@ shown_before keeps old mid new Such s g = by (subst (λ (v : SeatView). Books ke
           shown = record { rest = refl; grown = subst (λ (n : ℕ). HasGrown n e.0 new.seen) (sym h.number) e.2 };
         }
 
--- what is added first, and then what is added next, each with what was shown behind it
+-- what is added first, and then what is added next, each with what was shown after it
 pub shown_at : (keeps : Bool) (old mid new : SeatView) (First : List Entry → Type 0) (Next : ℕ → List Entry → Type 0) (Both : List Entry → Type 0) → ((es ds : List Entry) → First es → Next old.number ds → Both (es ++ ds)) → BooksShown keeps old mid First → BooksShown keeps mid new (Next mid.number) → BooksShown keeps old new Both
 shown_at keeps old mid new First Next Both f g h =
     let k : BooksShown keeps g.between h.between (Next mid.number) = shown_before keeps g.between mid h.between (Next mid.number) g.shown h.booked in

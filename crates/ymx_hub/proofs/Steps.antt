@@ -27,7 +27,7 @@ view role config s es j given unspent half_spent released over =
 pub gives_at : (e d : Event) (q r : Reply) (s t : Session) → e ≡ d → q ≡ r → Gives in_turn s e q t → Gives in_turn s d r t
 gives_at e d q r s t a b g = subst (λ (x : Reply). Gives in_turn s d x t) b (subst (λ (x : Event). Gives in_turn s x q t) a g)
 
--- one event, by what stands before and behind it
+-- one event, by what stands before and after it
 pub steps_of : (keeps : Bool) (event : Event) (told : Reply) (seat : ℕ) (old : BookedView) (role : Role) (config : Config) (s t : Session) (es fs : List Entry) (j k : Option JournalView) (given unspent : ℕ) (half_spent released : List ℕ) (over : Bool) → old ≡ record { role = role; config = config; session = s; entries = es; journal = j; given = given; unspent = unspent; half_spent = half_spent; released = released; ended = over } → Gives in_turn s event told t → fs ≡ entries_after keeps seat event told es → k ≡ journal_after seat event told j → Steps keeps seat event told old (record { role = role; config = config; session = t; entries = fs; journal = k; given = given; unspent = unspent; half_spent = half_spent; released = released; ended = over })
 steps_of keeps event told seat old role config s t es fs j k given unspent half_spent released over e g f h =
     subst (λ (o : BookedView). Steps keeps seat event told o (view role config t fs k given unspent half_spent released over)) (sym e) (record {

@@ -22,7 +22,7 @@ refused_seat = record { seal = tt }
 abbrev pub refused_release : RefusedRelease
 refused_release = record { seal = tt }
 
--- want of memory is the hub's own fault, whoever found it
+-- lack of memory is the hub's own fault, whichever call found it
 abbrev pub hub_fault_of : CallFault → HubFault
 hub_fault_of (OutOfMemory _) = Memory evidence
 hub_fault_of fault = Call fault
@@ -31,7 +31,7 @@ abbrev pub hub_answer : {A : Type 0} → Result A CallFault → Result A HubFaul
 hub_answer (Ok x) = Ok x
 hub_answer (Err fault) = Err (hub_fault_of fault)
 
--- the answer is no want of memory
+-- the answer is no lack of memory
 abbrev pub IsNotMemory : {A : Type 0} → Result A HubFault → Type 0
 IsNotMemory result = IfErr result (λ fault. fault ≡ Memory evidence → ⊥)
 

@@ -116,7 +116,7 @@ Does event told seat (Err refused) added = added ≡ []
 
 -- ---- streams that are handed out
 
--- the event was not done, for want of memory or of seats, or it was refused
+-- the event was not done, for lack of memory or of seats, or it was refused
 abbrev pub IsRefused : Event → ℕ → HubFault → List Entry → Type 0
 IsRefused event seat fault added =
     (((fault ≡ Memory evidence) ⊎ (fault ≡ Seats refused_seat)) × (added ≡ []))

@@ -44,8 +44,8 @@ ReadsOut id seat answer added =
     (reads : List Entry) × (last : List Entry) × (added ≡ reads ++ last) × AreReads id seat reads
     × EndsIn FindsEnd reads × Closes id seat answer last
 
--- Reads of the stream. Its half is spent only behind one that found that nothing more comes, which gives the answer. Nothing else
--- is refused but for want of memory for an entry.
+-- Reads of the stream. Its half is spent only after one that found that nothing more comes, which gives the answer. Nothing else
+-- is refused but for lack of memory for an entry.
 abbrev pub Tends : (id seat : ℕ) → Result (Unit {0}) HubFault → List Entry → Type 0
 Tends id seat (Ok u) added = AreReads id seat added ⊎ ReadsOut id seat (Ok u) added
 Tends id seat (Err why) added = ((why ≡ fault.Memory evidence) × AreReads id seat added) ⊎ ReadsOut id seat (Err why) added
@@ -67,7 +67,7 @@ spares_memory LookWaits = Unit {0}
 spares_memory (Lacks refused) = ⊥
 spares_memory (Spent answer) = IsNotMemory answer
 
--- the entries of some streams, one stream behind another
+-- the entries of some streams, one stream after another
 abbrev pub joined : List (ℕ × List Entry) → List Entry
 joined [] = []
 joined (p ∷ ps) = p.1 ++ joined ps
@@ -78,8 +78,8 @@ AllTend seat [] = Unit {0}
 AllTend seat (p ∷ ps) = ((answer : Result (Unit {0}) HubFault) × Tends p.0 seat answer p.1) × AllTend seat ps
 
 -- that of some streams
-abbrev pub Settles : (seat : ℕ) → List Entry → Type 0
-Settles seat added = (parts : List (ℕ × List Entry)) × (added ≡ joined parts) × AllTend seat parts
+abbrev pub Purges : (seat : ℕ) → List Entry → Type 0
+Purges seat added = (parts : List (ℕ × List Entry)) × (added ≡ joined parts) × AllTend seat parts
 
 -- each is one of these
 abbrev pub AllAmong : List ℕ → List (ℕ × List Entry) → Type 0
@@ -87,8 +87,8 @@ AllAmong ids [] = Unit {0}
 AllAmong ids (p ∷ ps) = Contains ids p.0 × AllAmong ids ps
 
 -- that of some streams, each of which is one of these
-abbrev pub SettlesAmong : List ℕ → (seat : ℕ) → List Entry → Type 0
-SettlesAmong ids seat added =
+abbrev pub PurgesAmong : List ℕ → (seat : ℕ) → List Entry → Type 0
+PurgesAmong ids seat added =
     (parts : List (ℕ × List Entry)) × (added ≡ joined parts) × AllTend seat parts × AllAmong ids parts
 
 -- that of one stream, which is one of these

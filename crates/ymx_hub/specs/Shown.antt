@@ -18,7 +18,7 @@ pub record IsShown (old new : SeatView) : Type 0 where
   pub rest : new ≡ record old { seen = new.seen }
   pub grown : HasGrown old.number old.seen new.seen
 
--- entries that are such were booked, and behind them the history was shown
+-- entries that are such were booked, and after them the history was shown
 pub record BooksShown (keeps : Bool) (old new : SeatView) (Such : List Entry → Type 0) : Type 0 where
   pub between : SeatView
   pub booked : Books keeps old between Such

@@ -20,11 +20,11 @@ use Rattle.ymx_hub.specs.Rights.{handed_out}
 
 -- ---- one event
 
--- the entries behind this event of a seat, of which a recorder that keeps nothing keeps none
+-- the entries after this event of a seat, of which a recorder that keeps nothing keeps none
 abbrev pub entries_after : (keeps : Bool) (seat : ℕ) (event : Event) (told : Reply) → List Entry → List Entry
 entries_after keeps seat event told es = es ++ kept_entries keeps (entry (length es) seat event told)
 
--- The session goes by this event, which gives this reply, to the session behind it; its entry is kept, and stands in the
+-- The session goes by this event, which gives this reply, to the session after it; its entry is kept, and stands in the
 -- journal; and nothing else changes.
 pub record Steps (keeps : Bool) (seat : ℕ) (event : Event) (told : Reply) (old new : BookedView) : Type 0 where
   pub gives : Gives in_turn old.session event told new.session
@@ -52,7 +52,7 @@ StepsTold keeps event told seat (Err refused) old new = LacksEntry keeps old new
 
 -- ---- streams that are handed out
 
--- a new seat of this number, whose entries come behind these, and which has seen this history, in which none of its own stands
+-- a new seat of this number, whose entries come after these, and which has seen this history, in which none of its own stands
 abbrev pub IsNext : (number : ℕ) → List Entry → Option (List Entry) → SeatView → Type 0
 IsNext number entries history seat =
     (seat.number ≡ number) × (seat.start ≡ length entries) × (seat.entries ≡ []) × (seat.seen ≡ history) × IsNewcomer number seat.seen

@@ -112,7 +112,7 @@ IsWrote told = (wrote : Wrote) × (told ≡ reply.Wrote wrote)
 abbrev pub IsUnrefused : List Entry → Type 0
 IsUnrefused added = (added ≡ []) ⊎ EndsIn IsWrote added
 
--- all bytes were taken; or the first so many, up to a refusal, or to want of memory for the next entry
+-- all bytes were taken; or the first so many, up to a refusal, or to lack of memory for the next entry
 abbrev pub WriteEnds : (bytes : List ℕ) → Result (Unit {0}) WriteFault → List Entry → Type 0
 WriteEnds bytes (Ok u) added = (total added ≡ length bytes) × EndsIn HasTaken added
 WriteEnds bytes (Err stop) added =

@@ -74,7 +74,7 @@ impl SpinBudget {
         true
     }
 
-    /// Looks for a while: whether there was a notification behind the first `before` ones.
+    /// Looks for a while: whether there was a notification after the first `before` ones.
     fn look(&self, all: &AtomicU64, condition: &Condvar, before: u64) -> bool {
         if all.load(Ordering::SeqCst) >= MOST_LOOKERS_OF_ALL || !self.lets_look() {
             return false;
@@ -93,7 +93,7 @@ impl SpinBudget {
     }
 }
 
-/// Looks for a while: whether there was a notification behind the first `before` ones.
+/// Looks for a while: whether there was a notification after the first `before` ones.
 fn is_notified_soon(condition: &Condvar, before: u64) -> bool {
     for _ in 0..LOOKS {
         if condition.notifications() != before {
@@ -112,7 +112,7 @@ pub(crate) fn await_wakeup<'a, W: Wait, T>(
     all: &AtomicU64,
     guard: MutexGuard<'a, T>,
 ) -> MutexGuard<'a, T> {
-    // Who notifies has taken the waiters under the lock, so its notification comes behind this line.
+    // Who notifies has taken the waiters under the lock, so its notification comes after this line.
     let before = condition.notifications();
     let mutex = MutexGuard::unlock(guard);
     if !budget.look(all, condition, before) {
@@ -129,7 +129,7 @@ pub(crate) fn take_lock<'a, W: Wait, T>(rt: &W, mutex: &'a Mutex<T>) -> MutexGua
     }
 }
 
-/// Takes a lock, as a pump does: all streams wait for it, and to let others run would put it behind all who try.
+/// Takes a lock, as a pump does: all streams wait for it, and to let others run would put it after all who try.
 pub(crate) fn take_lock_at_once<'a, W: Wait, T>(rt: &W, mutex: &'a Mutex<T>) -> MutexGuard<'a, T> {
     for _ in 0..SPINS {
         if let Some(guard) = mutex.try_lock() {

@@ -50,7 +50,7 @@ pub(crate) fn both_halves<R: Recorder>(
     )
 }
 
-/// The writing half of a stream. It must be spent, by `finish` or `reset`: it cannot be dropped. Whoever spends the
+/// The writing half of a stream. It must be spent, by `finish` or `reset`: it cannot be dropped. The caller that spends the
 /// second half of a stream gives the stream up too.
 pub struct WriteHalf<R: Recorder> {
     hub: Arc<Hub<R>, Global>,
@@ -58,7 +58,7 @@ pub struct WriteHalf<R: Recorder> {
     id: u32,
 }
 
-/// The reading half of a stream. It must be spent, by `close` or `release`: it cannot be dropped. Whoever spends the
+/// The reading half of a stream. It must be spent, by `close` or `release`: it cannot be dropped. The caller that spends the
 /// second half of a stream gives the stream up too.
 pub struct ReadHalf<R: Recorder> {
     hub: Arc<Hub<R>, Global>,
@@ -146,7 +146,7 @@ impl<R: Recorder> WriteHalf<R> {
         // Its caller may write the stream, and may do so still.
         ensures may { R.WITNESSED ≡ true → MayWrite self.seat.right self.id }
         ensures right { result.0.right ≡ self.seat.right }
-        // Where no entries are kept, it is not refused for want of memory.
+        // Where no entries are kept, it is not refused for lack of memory.
         ensures off { R.KEEPS ≡ false → IsNotMemory result.1 }
     {
         let WriteHalf { hub, mut seat, id } = self;
@@ -165,7 +165,7 @@ impl<R: Recorder> WriteHalf<R> {
         // Its caller may write the stream, and may do so still.
         ensures may { R.WITNESSED ≡ true → MayWrite self.seat.right self.id }
         ensures right { result.0.right ≡ self.seat.right }
-        // Where no entries are kept, it is not refused for want of memory.
+        // Where no entries are kept, it is not refused for lack of memory.
         ensures off { R.KEEPS ≡ false → IsNotMemory result.1 }
     {
         let WriteHalf { hub, mut seat, id } = self;
@@ -217,11 +217,11 @@ impl<R: Recorder> ReadHalf<R> {
         // The entries of its turns stand in the list of its seat: the last has the bytes at the front of the buffer, or the end.
         ensures booked { Books R.KEEPS self.old.seat self.new.seat (ReadTurns self.old.id (length buffer.old) buffer.new self.old.seat.number result) }
         ensures end { IfOk result (λ count. count ≡ 0 → Books R.KEEPS self.old.seat self.new.seat (EndsIn (λ told. told ≡ reply.ReadEnd))) }
-        // Behind those bytes the buffer is as it was, and all of it where the call is refused.
+        // After those bytes the buffer is as it was, and all of it where the call is refused.
         ensures within { IfOk result (λ count. count ≤ length buffer.old) }
         ensures length { length buffer.new ≡ length buffer.old }
         ensures rest { MatchResult result (λ count. drop count buffer.new ≡ drop count buffer.old) (λ fault. buffer.new ≡ buffer.old) }
-        // Where no entries are kept, it is not refused for want of memory.
+        // Where no entries are kept, it is not refused for lack of memory.
         ensures off { R.KEEPS ≡ false → IsNotMemory result }
     {
         self.hub.read(rt, &mut self.seat, self.id, buffer)
@@ -237,7 +237,7 @@ impl<R: Recorder> ReadHalf<R> {
         // Its caller may read the stream, and may do so still.
         ensures may { R.WITNESSED ≡ true → MayRead self.seat.right self.id }
         ensures right { result.0.right ≡ self.seat.right }
-        // Where no entries are kept, it is not refused for want of memory.
+        // Where no entries are kept, it is not refused for lack of memory.
         ensures off { R.KEEPS ≡ false → IsNotMemory result.1 }
     {
         let ReadHalf { hub, mut seat, id } = self;
@@ -247,7 +247,7 @@ impl<R: Recorder> ReadHalf<R> {
 
     /// Hands the half to the hub: what has come of the stream is read and dropped, so that the peer gets its credit back.
     /// Once nothing more can come, as the peer's end is there, it was reset or the session is lost, the half is spent as
-    /// by `close`; until then whoever calls `Hub::settle` does the same. So a stream that was finished isn't given up
+    /// by `close`; until then each call of `Hub::purge` does the same. So a stream that was finished isn't given up
     /// before the peer's end, and nothing that was written is lost.
     ///
     /// In the same hold of the lock the whole history is shown to its seat and to another, as by `Hub::meet`.
@@ -262,7 +262,7 @@ impl<R: Recorder> ReadHalf<R> {
         // The other seat has seen all that it had seen before, and now the same; its list stays.
         ensures other { IsShown other.old other.new }
         ensures same { other.new.seen ≡ result.0.seen }
-        // Where no entries are kept, it is not refused for want of memory.
+        // Where no entries are kept, it is not refused for lack of memory.
         ensures off { R.KEEPS ≡ false → IsNotMemory result.1 }
     {
         let ReadHalf { hub, mut seat, id } = self;

@@ -21,7 +21,7 @@ use crate::wakeups::Wakeups;
 use std::alloc::Global;
 use std::sync::{Arc, Mutex, MutexGuard, Wait};
 use ymx_memory::RefusedAllocation;
-use ymx_seats::{NewJournal, Recorder, Seat, Sight, Transcript};
+use ymx_seats::{NewJournal, Parked, Recorder, Seat, Transcript};
 use ymx_session::{Session, Touched};
 
 /// A session under one lock. What its recorder keeps of it is, whenever the lock is free, the history of the session.
@@ -35,15 +35,15 @@ pub struct Hub<R: Recorder> {
 #[derive(Drop)]
 pub struct FirstSeats<R: Recorder> {
     /// Of who works with the session.
-    pub caller: Sight<R>,
+    pub caller: Parked<R>,
     /// Of the read pump.
-    pub reader: Sight<R>,
+    pub reader: Parked<R>,
     /// Of the read pump, for the streams that are released.
-    pub settler: Sight<R>,
+    pub purger: Parked<R>,
     /// Of the write pump.
-    pub writer: Sight<R>,
+    pub writer: Parked<R>,
     /// Of who closes the session where a pump can't run.
-    pub closer: Sight<R>,
+    pub closer: Parked<R>,
 }
 
 impl<R: Recorder> Hub<R> {
@@ -130,7 +130,7 @@ impl<R: Recorder> Hub<R> {
     }
 
     /// Shows the whole history so far to two seats at once, where there is a journal: both have then seen the same. So the
-    /// later calls of each come behind all that the other has seen. It is no event of the session.
+    /// later calls of each come after all that the other has seen. It is no event of the session.
     #[tactic(auto, using(crate::proofs::Shown::grown))]
     pub fn meet<W: Wait>(&self, rt: &W, one: &mut Seat<R>, other: &mut Seat<R>)
         // Each seat has seen all that it had seen before, and perhaps more; its list stays.
@@ -285,7 +285,7 @@ impl<R: Recorder> Hub<R> {
     pub fn go_away<W: Wait>(&self, rt: &W, seat: &mut Seat<R>) -> Result<(), HubFault>
         // Its one entry stands in the list of its seat, with the answer.
         ensures booked { Books R.KEEPS seat.old seat.new (Asks to_go_away done_or seat.old.number result) }
-        // Where no entries are kept, it is not refused for want of memory.
+        // Where no entries are kept, it is not refused for lack of memory.
         ensures off { R.KEEPS ≡ false → IsNotMemory result }
     {
         let mut shared = take_lock(rt, &self.shared);
@@ -300,7 +300,7 @@ impl<R: Recorder> Hub<R> {
     pub fn close<W: Wait>(&self, rt: &W, seat: &mut Seat<R>) -> Result<(), HubFault>
         // Its one entry stands in the list of its seat, with the answer.
         ensures booked { Books R.KEEPS seat.old seat.new (Asks to_close done_or seat.old.number result) }
-        // Where no entries are kept, it is not refused for want of memory.
+        // Where no entries are kept, it is not refused for lack of memory.
         ensures off { R.KEEPS ≡ false → IsNotMemory result }
     {
         let mut shared = take_lock(rt, &self.shared);
@@ -333,7 +333,7 @@ fn first_seats<R: Recorder>(booked: &mut Booked<R>) -> FirstSeats<R>
     let Ok(reader) = booked.seat() else {
         unreachable!()
     };
-    let Ok(settler) = booked.seat() else {
+    let Ok(purger) = booked.seat() else {
         unreachable!()
     };
     let Ok(writer) = booked.seat() else {
@@ -343,10 +343,10 @@ fn first_seats<R: Recorder>(booked: &mut Booked<R>) -> FirstSeats<R>
         unreachable!()
     };
     FirstSeats {
-        caller: caller.into_sight(),
-        reader: reader.into_sight(),
-        settler: settler.into_sight(),
-        writer: writer.into_sight(),
-        closer: closer.into_sight(),
+        caller: caller.into_parked(),
+        reader: reader.into_parked(),
+        purger: purger.into_parked(),
+        writer: writer.into_parked(),
+        closer: closer.into_parked(),
     }
 }

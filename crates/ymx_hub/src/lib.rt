@@ -9,13 +9,12 @@
 //! who waits and who is woken, and `awaiting` how a thread waits.
 //!
 //! `Booked` is what stands under the lock, and uses no threads: a session, the log of its events, and which streams are half
-//! spent. `book` is the door that each event goes through, which adds its entry. Its calls stand in `opening` (a stream is
+//! spent. `record_event` is the door that each event goes through, which adds its entry. Its calls stand in `opening` (a stream is
 //! handed out), `stream_calls` (bytes, and halves that are spent), `session_calls` and `wire_calls` (what comes and goes).
 #![tactic(auto)]
 
 mod acceptor;
 mod awaiting;
-mod book;
 mod booked;
 mod end_fault;
 mod faults;
@@ -24,11 +23,12 @@ mod hub;
 mod moving;
 mod opener;
 mod opening;
+mod purged;
+mod recording;
 mod refused_seat;
 mod released_ids;
 mod releasing;
 mod session_calls;
-mod settled;
 mod shared;
 mod slot_set;
 mod status;
@@ -45,11 +45,11 @@ pub use end_fault::{EndFault, EndWhy};
 pub use faults::HubFault;
 pub use halves::{ReadHalf, WriteHalf};
 pub use hub::{FirstSeats, Hub};
-pub use moving::{FedAndSettled, Turn};
+pub use moving::{FedAndPurged, Turn};
 pub use opener::{Opener, open_at_seat, open_with_at_seat};
+pub use purged::Purged;
 pub use refused_seat::RefusedSeat;
 pub use released_ids::RefusedRelease;
-pub use settled::Settled;
 pub use undrained::Undrained;
 pub use write_fault::WriteFault;
 pub use ymx_seats::{Full, Off, Recorder, Seat, Transcript};

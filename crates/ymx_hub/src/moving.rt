@@ -6,11 +6,11 @@ ghost use Rattle.ymx_machine.specs.declared.types.Reply.TheVariants as reply;
 ghost use Rattle.ymx_hub.specs.Books.{Books, Does};
 ghost use Rattle.ymx_hub.specs.Pumped.{EmitsOnce, SeesTurn, IsAwake, emitted_count};
 ghost use Rattle.ymx_hub.specs.Shown.{IsShown};
-ghost use Rattle.ymx_hub.specs.Releasing.{Settles};
+ghost use Rattle.ymx_hub.specs.Releasing.{Purges};
 
 use crate::awaiting::{await_wakeup, take_lock, take_lock_at_once};
 use crate::hub::Hub;
-use crate::settled::Settled;
+use crate::purged::Purged;
 use crate::shared::Shared;
 use std::sync::{MutexGuard, Wait};
 use ymx_memory::RefusedAllocation;
@@ -30,16 +30,16 @@ pub enum Turn {
 
 /// What a feed took, and how it left the streams that were released.
 #[derive(Drop)]
-pub struct FedAndSettled {
+pub struct FedAndPurged {
     /// What the feed took.
     pub fed: Fed,
-    /// The evidence that each stream that is released waited behind the feed; or there was no memory for an entry.
-    pub settled: Result<Settled, RefusedAllocation>,
+    /// The evidence that each stream that is released waited after the feed; or there was no memory for an entry.
+    pub purged: Result<Purged, RefusedAllocation>,
 }
 
 impl<R: Recorder> Hub<R> {
     /// Feeds bytes that came from the peer, and wakes whom they concern. `RefusedAllocation`, and nothing is
-    /// done, where there is no memory for the entry. Streams that were released are left to `settle`.
+    /// done, where there is no memory for the entry. Streams that were released are left to `purge`.
     pub fn feed<W: Wait>(
         &self,
         rt: &W,
@@ -50,7 +50,7 @@ impl<R: Recorder> Hub<R> {
         ensures booked { Books R.KEEPS seat.old seat.new (Does (event.Feed bytes.now) reply.Fed seat.old.number result) }
         // It takes a beginning of the bytes.
         ensures within { IfOk result (λ fed. fed.taken ≤ length bytes.now) }
-        // Where no entries are kept, it is not refused for want of memory.
+        // Where no entries are kept, it is not refused for lack of memory.
         ensures off { R.KEEPS ≡ false → IsOk result }
     {
         let mut shared = take_lock_at_once(rt, &self.shared);
@@ -66,34 +66,34 @@ impl<R: Recorder> Hub<R> {
     }
 
     /// Feeds as `feed` does, at the first seat, and in the same hold of the lock looks at the streams that were released, as
-    /// `settle` does, at the second. `RefusedAllocation`, and nothing is done, where there is no memory for the entry of the
+    /// `purge` does, at the second. `RefusedAllocation`, and nothing is done, where there is no memory for the entry of the
     /// feed.
-    #[tactic(auto, using(crate::proofs::Released::settles_none, crate::proofs::Released::settles_among))]
-    pub fn feed_and_settle<W: Wait>(
+    #[tactic(auto, using(crate::proofs::Released::purges_none, crate::proofs::Released::purges_among))]
+    pub fn feed_and_purge<W: Wait>(
         &self,
         rt: &W,
         seat: &mut Seat<R>,
-        settler: &mut Seat<R>,
+        purger: &mut Seat<R>,
         bytes: &[u8],
-    ) -> Result<FedAndSettled, RefusedAllocation>
+    ) -> Result<FedAndPurged, RefusedAllocation>
         // The one entry of the feed stands in the list of its seat, with these bytes and the answer.
         ensures booked { Books R.KEEPS seat.old seat.new (Does (event.Feed bytes.now) (λ done. reply.Fed done.fed) seat.old.number result) }
         // What it did of released streams stands in the list of the second seat: a stream is given up only where nothing more could come.
-        ensures tended { Books R.KEEPS settler.old settler.new (Settles settler.old.number) }
+        ensures tended { Books R.KEEPS purger.old purger.new (Purges purger.old.number) }
         // It takes a beginning of the bytes.
         ensures within { IfOk result (λ done. done.fed.taken ≤ length bytes.now) }
-        // Where no entries are kept, neither is refused for want of memory.
+        // Where no entries are kept, neither is refused for lack of memory.
         ensures off { R.KEEPS ≡ false → IsOk result }
-        ensures off_settled { IfOk result (λ done. R.KEEPS ≡ false → IsOk done.settled) }
+        ensures off_settled { IfOk result (λ done. R.KEEPS ≡ false → IsOk done.purged) }
     {
         let mut shared = take_lock_at_once(rt, &self.shared);
         let was_due = shared.booked.due();
         let offered = shared.booked.offered_count();
         match shared.feed(seat, bytes) {
             Ok(fed) => {
-                let settled = shared.settle(rt, settler);
+                let purged = shared.purge(rt, purger);
                 self.wake_concerned(shared, fed.why, was_due, offered);
-                Ok(FedAndSettled { fed, settled })
+                Ok(FedAndPurged { fed, purged })
             }
             Err(refused) => Err(refused),
         }
@@ -124,7 +124,7 @@ impl<R: Recorder> Hub<R> {
     pub fn feed_end<W: Wait>(&self, rt: &W, seat: &mut Seat<R>) -> Result<(), RefusedAllocation>
         // Its one entry stands in the list of its seat.
         ensures booked { Books R.KEEPS seat.old seat.new (Does event.FeedEnd (λ _. reply.Done) seat.old.number result) }
-        // Where no entries are kept, it is not refused for want of memory.
+        // Where no entries are kept, it is not refused for lack of memory.
         ensures off { R.KEEPS ≡ false → IsOk result }
     {
         let mut shared = take_lock_at_once(rt, &self.shared);
@@ -157,11 +157,11 @@ impl<R: Recorder> Hub<R> {
         ensures booked { EmitsOnce R.KEEPS (length buffer.old) buffer.new seat.old seat.new result }
         // The answer that nothing is due is of the session that the history in its sight leads to.
         ensures due { IfOk result (λ turn. SeesTurn R.WITNESSED R.role R.config seat.new.seen turn) }
-        // Behind those bytes the buffer is as it was.
+        // After those bytes the buffer is as it was.
         ensures within { IfOk result (λ turn. emitted_count turn ≤ length buffer.old) }
         ensures length { length buffer.new ≡ length buffer.old }
         ensures rest { MatchResult result (λ turn. drop (emitted_count turn) buffer.new ≡ drop (emitted_count turn) buffer.old) (λ fault. buffer.new ≡ buffer.old) }
-        // Where no entries are kept, it is not refused for want of memory.
+        // Where no entries are kept, it is not refused for lack of memory.
         ensures off { R.KEEPS ≡ false → IsOk result }
     {
         let mut shared = take_lock_at_once(rt, &self.shared);

@@ -12,9 +12,9 @@ ghost use Rattle.ymx_hub.specs.Gained.{GainedAlike};
 ghost use Rattle.ymx_hub.specs.Steps.{IsNext, StepsOpened, StepsOpenedWith, StepsAccepted, StepsGiven};
 ghost use Rattle.ymx_machine.specs.shared.Evidence.{evidence};
 
-use crate::book::carry_out;
 use crate::booked::Booked;
 use crate::faults::{HubFault, hub_fault};
+use crate::recording::record_prepared;
 use crate::refused_seat::seats_left;
 use indexmap::IndexSet;
 use std::alloc::Global;
@@ -94,7 +94,7 @@ impl<R: Recorder> Booked<R> {
     {
         make_room(self.given, self.unspent, &mut self.half_spent)?;
         let room = self.log.prepare(self.alloc, seat, event, &[], 1)?;
-        let told = carry_out(&mut self.log, &mut self.session, seat, room, event, &mut []);
+        let told = record_prepared(&mut self.log, &mut self.session, seat, room, event, &mut []);
         match given_by(event, &told) {
             Ok(Some((id, taken))) => {
                 let (first, second) = hand_out::<R, Brand>(

@@ -8,7 +8,7 @@ ghost use Rattle.ymx_seats.specs.Journals.{release_of};
 ghost use Rattle.ymx_seats.specs.Views.{released_by};
 ghost use Rattle.ymx_hub.specs.Answers.{IsNotMemory, refused_release};
 ghost use Rattle.ymx_hub.specs.Books.{Books};
-ghost use Rattle.ymx_hub.specs.Releasing.{ReadsUp, ReadsOut, Looks, Releases, LooksAmong, Settles, SettlesAmong, Waits, WaitFrom, AllWait, IsDropped, SpentAlike, spent_by, spares_memory, OthersStay, LeavesSome, ReleasesOne};
+ghost use Rattle.ymx_hub.specs.Releasing.{ReadsUp, ReadsOut, Looks, Releases, LooksAmong, Purges, PurgesAmong, Waits, WaitFrom, AllWait, IsDropped, SpentAlike, spent_by, spares_memory, OthersStay, LeavesSome, ReleasesOne};
 ghost use Rattle.ymx_hub.specs.Rights.{MayRead};
 ghost use Rattle.ymx_hub.specs.Shown.{BooksShown, IsShown};
 
@@ -16,8 +16,8 @@ use crate::awaiting::take_lock;
 use crate::booked::Booked;
 use crate::faults::HubFault;
 use crate::hub::Hub;
+use crate::purged::Purged;
 use crate::released_ids::RefusedRelease;
-use crate::settled::Settled;
 use crate::shared::Shared;
 use std::sync::Wait;
 use ymx_memory::RefusedAllocation;
@@ -176,7 +176,7 @@ impl<R: Recorder> Shared<R> {
 
     /// Looks at the released stream at a place. It is released no more where its half is spent.
     #[tactic(auto, using(crate::proofs::Released::looks_among, crate::proofs::Released::leaves_none, crate::proofs::Released::leaves_one, crate::proofs::Released::wait_on, crate::proofs::Released::wait_gone))]
-    fn settle_at<W: Wait>(
+    fn purge_at<W: Wait>(
         &mut self,
         rt: &W,
         seat: &mut Seat<R>,
@@ -204,12 +204,12 @@ impl<R: Recorder> Shared<R> {
     /// Looks at all released streams, each once and at no other, so that each that is left waits. Without memory for an entry those
     /// that are left are looked at by the next call.
     #[tactic(auto, using(crate::proofs::Released::among_none, crate::proofs::Released::among_more, crate::proofs::Released::some_none, crate::proofs::Released::some_more))]
-    pub(crate) fn settle<W: Wait>(
+    pub(crate) fn purge<W: Wait>(
         &mut self,
         rt: &W,
         seat: &mut Seat<R>,
-    ) -> Result<Settled, RefusedAllocation>
-        ensures booked { Books R.KEEPS seat.old seat.new (SettlesAmong self.old.booked.released seat.old.number) }
+    ) -> Result<Purged, RefusedAllocation>
+        ensures booked { Books R.KEEPS seat.old seat.new (PurgesAmong self.old.booked.released seat.old.number) }
         ensures wait { IfOk result (λ _. AllWait self.new.booked.session self.new.booked.released) }
         ensures left { LeavesSome self.old.booked.released self.new.booked.released self.old.booked self.new.booked }
         ensures rest { self.new ≡ record self.old { booked = self.new.booked } }
@@ -218,13 +218,13 @@ impl<R: Recorder> Shared<R> {
         // From the last place on, so that who comes into the place of another was looked at.
         let count = self.booked.released_count();
         for done in 0..count {
-            self.settle_at(rt, seat, count - 1 - done)?;
+            self.purge_at(rt, seat, count - 1 - done)?;
         }
-        Ok(Settled::of(self))
+        Ok(Purged::of(self))
     }
 }
 
-/// The want of memory for an entry, if that is the answer: any other refusal stands in the entry.
+/// The lack of memory for an entry, if that is the answer: any other refusal stands in the entry.
 fn unless_lacking(answer: Result<(), HubFault>) -> Result<(), RefusedAllocation>
     ensures lacks { OnErr result (answer ≡ Err (HubFault.Memory evidence)) }
     ensures spares { IsNotMemory answer → IsOk result }
@@ -263,22 +263,22 @@ impl<R: Recorder> Hub<R> {
     }
 
     /// Looks at the streams that were released: reads what came of each and drops it, and gives it up once nothing more can
-    /// come. It waits for nothing but the lock. Whoever calls `feed` calls it behind each of them, with a seat of its own;
-    /// a read pump calls `feed_and_settle`.
+    /// come. It waits for nothing but the lock. The caller of `feed` calls it after each of them, with a seat of its own;
+    /// a read pump calls `feed_and_purge`.
     ///
     /// The evidence says that each stream that is still released waited then. Without memory for an entry it answers
     /// `RefusedAllocation`: the streams that are left are looked at by the next call.
-    #[tactic(auto, using(crate::proofs::Released::settles_among))]
-    pub fn settle<W: Wait>(&self, rt: &W, seat: &mut Seat<R>) -> Result<Settled, RefusedAllocation>
+    #[tactic(auto, using(crate::proofs::Released::purges_among))]
+    pub fn purge<W: Wait>(&self, rt: &W, seat: &mut Seat<R>) -> Result<Purged, RefusedAllocation>
         // Its entries stand in the list of its seat: a stream is given up only where nothing more could come.
-        ensures booked { Books R.KEEPS seat.old seat.new (Settles seat.old.number) }
-        // Where no entries are kept, it is not refused for want of memory.
+        ensures booked { Books R.KEEPS seat.old seat.new (Purges seat.old.number) }
+        // Where no entries are kept, it is not refused for lack of memory.
         ensures off { R.KEEPS ≡ false → IsOk result }
     {
         let mut shared = take_lock(rt, &self.shared);
         let was_due = shared.booked.due();
-        let settled = shared.settle(rt, seat);
+        let purged = shared.purge(rt, seat);
         self.unlock(shared, was_due);
-        settled
+        purged
     }
 }

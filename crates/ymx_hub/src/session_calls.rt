@@ -13,7 +13,7 @@ use ymx_model::{Call, Reply};
 use ymx_seats::{Recorder, Seat};
 
 impl<R: Recorder> Booked<R> {
-    /// Asks the peer for a sign of life, and returns the ping's number.
+    /// Pings the peer, and returns the ping's number.
     ///
     /// Refused by the session, in this order, with `Closed`, `Lost`, and `PingsPending` while 16 pings are not collected.
     /// `Memory`, and nothing is asked, where there is none for the entry.

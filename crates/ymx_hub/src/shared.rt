@@ -27,7 +27,7 @@ pub(crate) struct Shared<R: Recorder> {
     pub(crate) is_full: bool,
     /// A write pump has given up, so that nothing goes out any more.
     pub(crate) is_mute: bool,
-    /// A stream that the peer opened was rejected for want of memory.
+    /// A stream that the peer opened was rejected for lack of memory.
     pub(crate) has_lacked_memory: bool,
 }
 

@@ -26,7 +26,7 @@ impl<R: Recorder> Hub<R> {
         shared.booked.status() == Status::Running
     }
 
-    /// Whether a stream that the peer opened was rejected here for want of memory. It is no event of the session.
+    /// Whether a stream that the peer opened was rejected here for lack of memory. It is no event of the session.
     pub fn has_lacked_memory<W: Wait>(&self, rt: &W) -> bool {
         take_lock(rt, &self.shared).has_lacked_memory
     }

@@ -11,9 +11,9 @@ ghost use Rattle.ymx_hub.specs.Gained.{GainedAlike};
 ghost use Rattle.ymx_hub.specs.Rights.{MayWrite, MayRead};
 ghost use Rattle.ymx_hub.specs.Steps.{StepsAsked, StepsSpent, StepsClosed};
 
-use crate::book::carry_out;
 use crate::booked::Booked;
 use crate::faults::{HubFault, answered};
+use crate::recording::record_prepared;
 use ymx_model::{Call, CallFault, Event, Got, Lent, Reply, Wrote};
 use ymx_seats::{Recorder, Seat};
 
@@ -116,7 +116,7 @@ impl<R: Recorder> Booked<R> {
         let forget = Event::Call(Call::Forget(id));
         let room = self.log.prepare(self.alloc, seat, &event, &[], entries)?;
         let next = self.log.prepare(self.alloc, seat, &forget, &[], entries)?;
-        let told = carry_out(
+        let told = record_prepared(
             &mut self.log,
             &mut self.session,
             seat,
@@ -128,7 +128,7 @@ impl<R: Recorder> Booked<R> {
         if !second {
             return answered(ended);
         }
-        carry_out(
+        record_prepared(
             &mut self.log,
             &mut self.session,
             seat,

@@ -141,14 +141,14 @@ impl<R: Recorder> Hub<R> {
         unreachable!()
     }
 
-    /// Asks the peer for a sign of life, waits for it, and returns the ping's number.
+    /// Pings the peer, waits for the answer, and returns the ping's number.
     ///
     /// Refused with `Closed`, `Lost`, and `PingsPending` while 16 pings wait; while it waits with `Closed` or `Lost`.
     /// `Memory` where there is none for an entry; the ping may then have been asked already.
     pub fn ping<W: Wait>(&self, rt: &W, seat: &mut Seat<R>) -> Result<u32, HubFault>
         // The entries of the ping, and of each look for its answer, stand in the list of its seat, in their order.
         ensures booked { Books R.KEEPS seat.old seat.new (PingTurns seat.old.number result) }
-        // Where no entries are kept, it is not refused for want of memory.
+        // Where no entries are kept, it is not refused for lack of memory.
         ensures off { R.KEEPS ≡ false → IsNotMemory result }
     {
         let mut shared = take_lock(rt, &self.shared);

@@ -16,7 +16,7 @@ use ymx_seats::{Recorder, Seat};
 use ymx_session::Touched;
 
 impl<R: Recorder> Booked<R> {
-    /// Feeds bytes that came from the peer, and notes the streams that they touch, and an answer to a ping, behind what
+    /// Feeds bytes that came from the peer, and notes the streams that they touch, and an answer to a ping, after what
     /// was noted before. A stream that isn't noted then is as it was, and a stream is noted only where the end of a
     /// header of its frames, or payload of it, was among the bytes taken.
     #[tactic(auto, using(crate::proofs::History::kept_after, crate::proofs::Journals::journaled_after, crate::proofs::Journals::all_after, crate::proofs::Journals::witnessed_after, crate::proofs::Books::books_one))]
@@ -50,7 +50,7 @@ impl<R: Recorder> Booked<R> {
         ensures alike { GainedAlike self.old.entries self.new.entries seat.old.entries seat.new.entries }
         ensures off { R.KEEPS ≡ false → IsOk result }
     {
-        match self.book(seat, &Event::FeedEnd, &mut [])? {
+        match self.record_event(seat, &Event::FeedEnd, &mut [])? {
             Reply::Done => Ok(()),
             _ => unreachable!(),
         }
@@ -71,7 +71,7 @@ impl<R: Recorder> Booked<R> {
         ensures rest { MatchResult result (λ count. drop count buffer.new ≡ drop count buffer.old) (λ fault. buffer.new ≡ buffer.old) }
         ensures off { R.KEEPS ≡ false → IsOk result }
     {
-        match self.book(seat, &Event::Emit(buffer.len()), buffer)? {
+        match self.record_event(seat, &Event::Emit(buffer.len()), buffer)? {
             Reply::Emitted(count) => Ok(count),
             _ => unreachable!(),
         }

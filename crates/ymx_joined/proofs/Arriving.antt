@@ -47,7 +47,7 @@ use Rattle.ymx_headline.proofs.machine.faces.RunFaces.{run_past, blank, faced-ne
 use Rattle.ymx_headline.proofs.machine.lanes.LaneLaws.{lists}
 use Rattle.ymx_headline.proofs.machine.lanes.StreamFacts.{live-up}
 use Rattle.ymx_joined.specs.Quiet.{NextRead}
-use Rattle.ymx_joined.proofs.Ways.{IsStillWay, no_parts, end_quiet}
+use Rattle.ymx_joined.proofs.StillDirections.{IsStillWay, no_parts, end_quiet}
 
 -- ---- a stream, seen from the end that writes
 
@@ -167,7 +167,7 @@ next_read id s h runs room told t (HasOutcome answered state) =
     ∙ rw (waiting_is id s h, ended_is id s h) refl
 next_read id s h runs room told t (NoMemory needs answered state) = let no : false ≡ true = needs in absurd cc
 
--- ---- a run, behind which nothing is under way one way
+-- ---- a run, after which nothing is under way one way
 
 -- of a stream that the side has which reads: what the writer wrote was got, or waits there
 pub record Comes (id : ℕ) (steps : List Step) (answers : List Answer) (w : World) : Type 0 where

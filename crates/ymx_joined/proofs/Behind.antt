@@ -1,4 +1,4 @@
--- Behind a marked call of a side: what its later calls say, in a run and in its history.
+-- After a marked call of a side: what its later calls say, in a run and in its history.
 use Rattle.std.proofs.Common.{◌≡◌, ℕ, ◌≤◌, List, [], ◌∷◌, ◌++◌, Bool, true, false, refl, sym, ap, subst, ◌∙◌, append_assoc}
 use Rattle.ymx_machine.specs.declared.types.Side.TheVariants.{A, B}
 use Rattle.ymx_machine.specs.declared.types.Step.{Step}
@@ -112,7 +112,7 @@ behind_event law xs p us vs (event.Emit n) told e k = let no : ⊥ = cc in absur
 behind_event law xs p us vs (event.Feed bytes) told e k = let no : ⊥ = cc in absurd no
 behind_event law xs p us vs event.FeedEnd told e k = let no : ⊥ = cc in absurd no
 
--- Behind a marked entry every call of the history is quiet.
+-- After a marked entry every call of the history is quiet.
 pub behind : {mine yours id : ℕ} {mark : Call → Answer → Bool} {L : Machine → Type 0} {Quiet : Call → Answer → Type 0} → Law mine yours id mark L Quiet → (xs : List Entry) → Played mine yours xs →
     (before after : List Entry) (x : Entry) → xs ≡ before ++ x ∷ after → marked mark x.event x.reply ≡ true → AllQuiet Quiet (calls_in after)
 behind law xs p before after x e k = behind_event law xs p (calls_in before) (calls_in after) x.event x.reply (ap calls_in e ∙ calls_then before (x ∷ after)) k

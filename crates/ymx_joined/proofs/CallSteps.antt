@@ -28,7 +28,7 @@ use Rattle.ymx_machine.specs.machine.Machines.{Machine, mirror_machine, new_mach
 use Rattle.ymx_machine.specs.machine.CallRules.{OnStream, AcceptRule}
 use Rattle.ymx_machine.specs.machine.FreeMoves.{Releases}
 use Rattle.ymx_machine.specs.machine.Runs.{MachineStep}
-use Rattle.ymx_joined.specs.Stages.{Numbers, alone, IsWritable, IsComing, IsSettled, IsReadable}
+use Rattle.ymx_joined.specs.Stages.{Numbers, alone, IsWritable, IsComing, IsDecided, IsReadable}
 use Rattle.ymx_joined.proofs.Machines.{flip-flip, change-one, look-one, found-one}
 use Rattle.ymx_joined.proofs.Moves.{IsAt}
 use Rattle.ymx_joined.proofs.Carriage.{at-a}
@@ -163,7 +163,7 @@ accepted-machine : (k : Numbers) (id : ℕ) (s : Stream) (offered : List ℕ) �
     record m { streams = change id (stream_accept false) m.streams; me = record m.me { offered = [] } } ≡ mirror_machine (alone k id (accepted_b s) []))
 accepted-machine k id s offered = rw (change-one id (stream_accept false) (flip s), flip-flip (stream_accept false (flip s))) refl
 
-pub accept-step : (k : Numbers) (id no_memory : ℕ) (bytes : List ℕ) (s : Stream) (offered : List ℕ) (given : Answer) (n : Machine) → IsSettled no_memory id bytes s offered →
+pub accept-step : (k : Numbers) (id no_memory : ℕ) (bytes : List ℕ) (s : Stream) (offered : List ℕ) (given : Answer) (n : Machine) → IsDecided no_memory id bytes s offered →
     MachineStep (step.At B call.Accept) given (alone k id s offered) n →
     ((given ≡ answer.Accepted (Some id)) × IsAt k id (IsReadable bytes) n) ⊎ ((given ≡ answer.Accepted None) × (0 < no_memory))
 accept-step k id no_memory bytes s offered given n (inl there) h =

@@ -85,13 +85,13 @@ pub handed_out_once : (xs ys : List Entry) (steps : List Step) (wa fa wb fb : �
 handed_out_once xs ys steps wa fa wb fb s t good one =
     (once_given wa wb xs (played_a xs ys steps wa fa wb fb s t good one), once_given wb wa ys (played_b xs ys steps wa fa wb fb s t good one))
 
--- In one run no stream takes a byte behind its finish.
+-- In one run no stream takes a byte after its finish.
 pub none_behind_finish : (xs ys : List Entry) (steps : List Step) (wa fa wb fb : ℕ) (s t : Session) → AreGood wa fa wb fb → IsOneRun in_turn xs ys steps wa fa wb fb s t →
     TakeNoneBehindFinish xs × TakeNoneBehindFinish ys
 none_behind_finish xs ys steps wa fa wb fb s t good one =
     (none_behind_its_finish wa wb xs (played_a xs ys steps wa fa wb fb s t good one), none_behind_its_finish wb wa ys (played_b xs ys steps wa fa wb fb s t good one))
 
--- In one run no stream gives a byte behind its end.
+-- In one run no stream gives a byte after its end.
 pub none_behind_end : (xs ys : List Entry) (steps : List Step) (wa fa wb fb : ℕ) (s t : Session) → AreGood wa fa wb fb → IsOneRun in_turn xs ys steps wa fa wb fb s t →
     GiveNoneBehindEnd xs × GiveNoneBehindEnd ys
 none_behind_end xs ys steps wa fa wb fb s t good one =

@@ -26,8 +26,8 @@ use Rattle.ymx_model.specs.session.Emissions.{Choice}
 use Rattle.ymx_model.specs.world.Worlds.{World}
 use Rattle.ymx_headline.specs.Agrees.{RunsAlike}
 use Rattle.ymx_headline.specs.Laws.{is_carriage}
-use Rattle.ymx_world.specs.Settled.{no_memory_of, no_memory_in}
-use Rattle.ymx_joined.specs.Stages.{Numbers, alone, IsBeforeAccept, IsComingOrRefused, IsSettled}
+use Rattle.ymx_world.specs.Driven.{no_memory_of, no_memory_in}
+use Rattle.ymx_joined.specs.Stages.{Numbers, alone, IsBeforeAccept, IsComingOrRefused, IsDecided}
 use Rattle.ymx_joined.proofs.Machines.{mirror-mirror, from-mirror}
 use Rattle.ymx_joined.proofs.Moves.{IsAt, IsAtB, still-counts, move-a, move-b, offered-not_unborn}
 
@@ -130,17 +130,17 @@ is-offered : (id : ℕ) (s : Stream) (offered : List ℕ) → is_unborn s.you �
 is-offered id s offered e (inl h) = let k : is_unborn Unborn ≡ false = subst (λ (p : Phase). is_unborn p ≡ false) h.0 e in absurd cc
 is-offered id s offered e (inr h) = h.1
 
-settled : (mine yours id no_memory : ℕ) (bytes : List ℕ) (s : Stream) (offered : List ℕ) → IsStill mine yours s → IsComingOrRefused no_memory id bytes s offered → IsSettled no_memory id bytes s offered
-settled mine yours id no_memory bytes s offered still (inl h) = inl (record {
+driven : (mine yours id no_memory : ℕ) (bytes : List ℕ) (s : Stream) (offered : List ℕ) → IsStill mine yours s → IsComingOrRefused no_memory id bytes s offered → IsDecided no_memory id bytes s offered
+driven mine yours id no_memory bytes s offered still (inl h) = inl (record {
   you = offered-not_unborn id s offered still.you_born h.you;
   here = sym (append-nil s.outbound.here) ∙ (ap (λ (z : List ℕ). s.outbound.here ++ z) (sym still.way_outbound) ∙ h.split);
   fin = has-come s.outbound.fin h.fin still.fin_outbound;
   offered_one = is-offered id s offered still.you_born h.you;
 })
-settled mine yours id no_memory bytes s offered still (inr h) = inr h
+driven mine yours id no_memory bytes s offered still (inr h) = inr h
 
 -- where nothing is under way, all has come or the stream was refused
-pub settled-machine : (k : Numbers) (id no_memory : ℕ) (bytes : List ℕ) (s : Stream) (offered : List ℕ) → IsStillMachine (alone k id s offered) → IsComingOrRefused no_memory id bytes s offered →
-    IsSettled no_memory id bytes s offered
-settled-machine k id no_memory bytes s offered still h =
-    settled k.mine k.yours id no_memory bytes s offered (All-head (λ (p : ℕ × Stream). IsStill k.mine k.yours p.1) (id, s) [] still.streams) h
+pub driven-machine : (k : Numbers) (id no_memory : ℕ) (bytes : List ℕ) (s : Stream) (offered : List ℕ) → IsStillMachine (alone k id s offered) → IsComingOrRefused no_memory id bytes s offered →
+    IsDecided no_memory id bytes s offered
+driven-machine k id no_memory bytes s offered still h =
+    driven k.mine k.yours id no_memory bytes s offered (All-head (λ (p : ℕ × Stream). IsStill k.mine k.yours p.1) (id, s) [] still.streams) h

@@ -26,7 +26,7 @@ use Rattle.ymx_joined.proofs.OwnEntries.{Starts, starts, WritesAll, ReadsAll, wr
 
 -- ---- a half whose calls are all made
 
--- A half did so, and its caller saw a history behind its last call: of the half all entries are these, behind all that it had seen.
+-- A half did so, and its caller saw a history after its last call: of the half all entries are these, after all that it had seen.
 record EndsHalf (n : ℕ) (before after : Option (List Entry)) (Own : List Entry → Type 0) : Type 0 where
   last : Option (List Entry)
   extends : Extends n before last Own
@@ -46,7 +46,7 @@ ends_half half before old new First Both Next join first sees =
       more = subst (λ (v : ℕ × Option (List Entry)). HasGrown v.0 booked.between.seen v.1) (λ i. ((booked.booked.number ∙ same) i, sym sees.seen i)) booked.shown.grown;
     }
 
--- what was added to what a caller had seen is such, where a history goes on behind it
+-- what was added to what a caller had seen is such, where a history goes on after it
 added_such : (n : ℕ) (v w : Option (List Entry)) (Such : List Entry → Type 0) (es : List Entry) → Extends n v w Such → StandsIn w (Some es) → (added : List Entry) × Such added
 added_such n (Some v) (Some w) Such es e s = (e.0, e.1)
 added_such n None (Some w) Such es e s = absurd e

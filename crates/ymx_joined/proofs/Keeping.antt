@@ -42,7 +42,7 @@ next_of : {X : Type 0} (xs : List X) (y : X) → slice_get (xs ++ y ∷ []) (len
 next_of [] y = refl
 next_of (x ∷ xs) y = next_of xs y
 
--- A run that tells when it is quiet, to the step behind it; before that step all is at rest.
+-- A run that tells when it is quiet, to the step after it; before that step all is at rest.
 record Quiets (may : Choice → Session → Bool) (steps : List Step) (answers : List Answer) (now : Bool) (st : Step) (given : Answer) (w u : World) : Type 0 where
   told : List Bool
   last : Bool

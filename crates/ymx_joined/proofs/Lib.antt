@@ -10,7 +10,7 @@ pub mod Histories
 pub mod Piping
 pub mod Tracing
 pub mod Tunneling
-pub mod Ways
+pub mod StillDirections
 pub mod Arriving
 pub mod Keeping
 pub mod Holding

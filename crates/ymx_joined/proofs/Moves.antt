@@ -172,7 +172,7 @@ moved-a k id f false s offered = rw (change-one id f s) refl
 refuses-none : (k : Numbers) (id : ℕ) (s : Stream) (offered : List ℕ) → s.you ≡ Unborn → offered ≡ [] → machine_refuses (mirror_machine (alone k id s offered)) ≡ false
 refuses-none k id s offered e f = rw (e, f) refl
 
--- it is refused where the refusal counts, that is for want of memory
+-- it is refused where the refusal counts, that is for lack of memory
 begin-b : (k : Numbers) (id no_memory : ℕ) (bytes : List ℕ) (counted : Bool) (s : Stream) (offered : List ℕ) → s.you ≡ Unborn → offered ≡ [] → IsComing id bytes s offered →
     (let m = mirror_machine (alone k id s offered) in
     IsAtB k id (IsComingOrRefused (no_memory + counted_by (SynArrives id counted)) id bytes) (

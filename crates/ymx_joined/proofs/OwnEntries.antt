@@ -187,7 +187,7 @@ others_give_none of Such id n seen es at giver carried once within alone there g
 
 -- ---- one half of a stream, up to what a history is later
 
--- behind each entry that is so marked nothing is gathered
+-- after each entry that is so marked nothing is gathered
 abbrev GivesNoneBehind : (of : Event → Reply → List ℕ) (marks : Event → Reply → Bool) → List Entry → Type 0
 GivesNoneBehind of marks es = (before after : List Entry) (x : Entry) → es ≡ before ++ x ∷ after → marks x.event x.reply ≡ true → gathered of after ≡ []
 
@@ -200,7 +200,7 @@ record IsGathered (of : Event → Reply → List ℕ) (marks : Event → Reply �
   all : gathered of es ≡ gathered of (part n own)
   marked : HasMarked marks es
 
--- behind what was seen there is nothing
+-- after what was seen there is nothing
 none_later : (of : Event → Reply → List ℕ) (marks : Event → Reply → Bool) (seen es : List Entry) (within : IsPrefix seen es) →
     GivesNoneBehind of marks es → HasMarked marks seen → gathered of es ≡ gathered of seen
 none_later of marks seen es within quiet (e, there, m) =

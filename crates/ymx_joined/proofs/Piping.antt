@@ -27,7 +27,7 @@ use Rattle.ymx_headline.proofs.audit.Over.{IsOver}
 use Rattle.ymx_engine.specs.Engines.{Engine}
 use Rattle.ymx_engine.specs.Events.{Happen}
 use Rattle.ymx_engine.specs.Wires.{emitted_at, emitted, fed_at, fed, OffersFront, FeedsFront}
-use Rattle.ymx_engine.specs.Turns.{Lines}
+use Rattle.ymx_engine.specs.Turns.{Connections}
 use Rattle.ymx_engine.proofs.Exchanging.{happen_then}
 use Rattle.ymx_joined.specs.Tunnels.{TunnelPair, engine_of, Works, Turn, OneWorks, BothWork, HaveCome, at_a, at_b, events_at_a, events_at_b, entries_from, entries, AreOneTunnelRun}
 use Rattle.ymx_joined.proofs.Histories.{replays}
@@ -142,7 +142,7 @@ gets_all (e ∷ es) s t p waits rest h f k =
 
 -- ---- what a turn moves
 
--- what came was the front of one pipe, and what went is behind the other
+-- what came was the front of one pipe, and what went is after the other
 record Moves (es : List (Event × Reply)) (old new : Engine) (to from to_new from_new : List ℕ) : Type 0 where
   happen : Happen es old.session new.session
   came : List ℕ
@@ -159,7 +159,7 @@ consumed a b from from_new came e f h = subst (λ (o : Option (List ℕ)). Consu
 appended : (a b : Option (List ℕ)) (to to_new sent : List ℕ) → a ≡ Some to → b ≡ Some to_new → Appends a b sent → to_new ≡ to ++ sent
 appended a b to to_new sent e f h = subst (λ (o : Option (List ℕ)). Appends (Some to) o sent) f (subst (λ (o : Option (List ℕ)). Appends o b sent) e h)
 
-turn_moves : (es : List (Event × Reply)) (old new : Engine) (ls ms : Lines) (to from to_new from_new : List ℕ) → Works es old new ls ms to from to_new from_new → Moves es old new to from to_new from_new
+turn_moves : (es : List (Event × Reply)) (old new : Engine) (ls ms : Connections) (to from to_new from_new : List ℕ) → Works es old new ls ms to from to_new from_new → Moves es old new to from to_new from_new
 turn_moves es old new ls ms to from to_new from_new x =
     let r = x.runs.moves in
     let moves : Moves r.events x.before.engine x.after.engine to from to_new from_new = record {
@@ -204,7 +204,7 @@ HoldsAB pipe p = Holds pipe (p.b.incoming ++ (p.ab ++ p.a.outgoing))
 abbrev pub HoldsBA : Pipe → TunnelPair → Type 0
 HoldsBA pipe p = Holds pipe (p.a.incoming ++ (p.ba ++ p.b.outgoing))
 
--- behind the end of its input a session is over
+-- after the end of its input a session is over
 abbrev OverIf : Pipe → Session → Type 0
 OverIf pipe s = pipe.ended ≡ true → IsOver s
 
@@ -222,7 +222,7 @@ pub record Joint (a b : Session) (ab ba : Pipe) (xs ys : List Entry) (q : Tunnel
   pub over_a : last_ba.ended ≡ true → IsOver q.a.session
   pub over_b : last_ab.ended ≡ true → IsOver q.b.session
 
--- a run goes on behind an event of A, and behind one of B
+-- a run goes on after an event of A, and after one of B
 run_a : (e : Event) (told : Reply) (turns : List Bool) (steps : List Step) (xs ys : List Entry) (a b s : Session) (ab ba p : Pipe) (last : World) → Gives in_turn a e told s → Gets e told ba p → OverIf ba a →
     Runs in_turn steps (told_from turns p.ended (sent_into e told ab).ended xs ys) (world s b (sent_into e told ab) p) last →
     Runs in_turn (world_steps A ba e ++ steps) (answers_of ba.ended e told ++ told_from turns (is_ended_behind ba.ended e) ab.ended xs ys) (world a b ab ba) last
@@ -295,7 +295,7 @@ joint_turn : (side : Side) (es more_a more_b : List (Event × Reply)) (p q last 
     Joint q.a.session q.b.session ab2 ba2 (entries_from i2 more_a) (entries_from j2 more_b) last) →
     Joint p.a.session p.b.session ab ba (entries_from i (at_a side es ++ more_a)) (entries_from j (at_b side es ++ more_b)) last
 joint_turn A es more_a more_b p q last ab ba i j t h k over_a over_b rest =
-    let m = turn_moves es p.a q.a p.lines_a q.lines_a p.ab p.ba q.ab q.ba t.0 in
+    let m = turn_moves es p.a q.a p.connections_a q.connections_a p.ab p.ba q.ab q.ba t.0 in
     let got = from_holds es p.a q.a p.ab p.ba q.ab q.ba p.b.outgoing ba m k in
     let to : HoldsAB (sent_all es ab) q = same_holds (sent_all es ab) _ _ (ap (λ (e : Engine). e.incoming ++ (q.ab ++ q.a.outgoing)) (sym t.1)) (to_holds es p.a q.a p.ab p.ba q.ab q.ba p.b.incoming ab m h) in
     let from : HoldsBA got.pipe q = same_holds got.pipe _ _ (ap (λ (e : Engine). q.a.incoming ++ (q.ba ++ e.outgoing)) (sym t.1)) got.holds in
@@ -303,7 +303,7 @@ joint_turn A es more_a more_b p q last ab ba i j t h k over_a over_b rest =
     (λ n over. subst (λ (e : Engine). Joint q.a.session e.session (sent_all es ab) got.pipe (entries_from n more_a) (entries_from j more_b) last) t.1
     (rest (sent_all es ab) got.pipe n j to from over (over_beside es ab p.b q.b t.1 over_b)))
 joint_turn B es more_a more_b p q last ab ba i j t h k over_a over_b rest =
-    let m = turn_moves es p.b q.b p.lines_b q.lines_b p.ba p.ab q.ba q.ab t.0 in
+    let m = turn_moves es p.b q.b p.connections_b q.connections_b p.ba p.ab q.ba q.ab t.0 in
     let got = from_holds es p.b q.b p.ba p.ab q.ba q.ab p.a.outgoing ab m h in
     let to : HoldsBA (sent_all es ba) q = same_holds (sent_all es ba) _ _ (ap (λ (e : Engine). e.incoming ++ (q.ba ++ q.b.outgoing)) (sym t.1)) (to_holds es p.b q.b p.ba p.ab q.ba q.ab p.a.incoming ba m k) in
     let from : HoldsAB got.pipe q = same_holds got.pipe _ _ (ap (λ (e : Engine). q.b.incoming ++ (q.ab ++ e.outgoing)) (sym t.1)) got.holds in
@@ -345,12 +345,12 @@ joint_new ts wa fa wb fb q h =
 -- ---- what happened at each side
 
 turn_happens_a : (side : Side) (es more : List (Event × Reply)) (p q : TunnelPair) (s : Session) → OneWorks side es p q → Happen more q.a.session s → Happen (at_a side es ++ more) p.a.session s
-turn_happens_a A es more p q s t h = happen_then es more p.a.session q.a.session s (turn_moves es p.a q.a p.lines_a q.lines_a p.ab p.ba q.ab q.ba t.0).happen h
+turn_happens_a A es more p q s t h = happen_then es more p.a.session q.a.session s (turn_moves es p.a q.a p.connections_a q.connections_a p.ab p.ba q.ab q.ba t.0).happen h
 turn_happens_a B es more p q s t h = subst (λ (e : Engine). Happen more e.session s) t.1 h
 
 turn_happens_b : (side : Side) (es more : List (Event × Reply)) (p q : TunnelPair) (s : Session) → OneWorks side es p q → Happen more q.b.session s → Happen (at_b side es ++ more) p.b.session s
 turn_happens_b A es more p q s t h = subst (λ (e : Engine). Happen more e.session s) t.1 h
-turn_happens_b B es more p q s t h = happen_then es more p.b.session q.b.session s (turn_moves es p.b q.b p.lines_b q.lines_b p.ba p.ab q.ba q.ab t.0).happen h
+turn_happens_b B es more p q s t h = happen_then es more p.b.session q.b.session s (turn_moves es p.b q.b p.connections_b q.connections_b p.ba p.ab q.ba q.ab t.0).happen h
 
 happens_a : (ts : List Turn) (p q : TunnelPair) → BothWork ts p q → Happen (events_at_a ts) p.a.session q.a.session
 happens_a [] p q r = ap (λ (z : TunnelPair). z.a.session) r

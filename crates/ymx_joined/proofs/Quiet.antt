@@ -25,9 +25,9 @@ use Rattle.ymx_joined.proofs.Keeping.{both_have}
 use Rattle.ymx_joined.proofs.Piping.{open_pipe, Holds, Joint, nothing_held, joint_new}
 use Rattle.ymx_joined.proofs.Tracing.{gathers_a, gathers_b, writes_of, all_written, reads_of, all_read, finishes_of}
 use Rattle.ymx_joined.proofs.Tunneling.{plain_a, plain_b, nothing_lost, no_cause, taken_during, given_during, plenty_during}
-use Rattle.ymx_joined.proofs.Ways.{IsStillWay}
+use Rattle.ymx_joined.proofs.StillDirections.{IsStillWay}
 
--- ---- the world of two tunnels, where a way is quiet
+-- ---- the world of two tunnels, where a direction is quiet
 
 not_over : (s : Session) → is_running s.status ≡ true → IsOver s → ⊥
 not_over s e f = let no : true ≡ false = sym e ∙ f in absurd cc

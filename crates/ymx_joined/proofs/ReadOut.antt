@@ -1,4 +1,4 @@
--- Behind its end a stream gives no bytes.
+-- After its end a stream gives no bytes.
 use Rattle.std.proofs.Common.{◌≡◌, ℕ, ◌≤◌, List, [], Bool, true, false, ◌||◌, ◌==◌, if◌then◌else◌, Option, None, Some, refl, sym, ap, subst, ◌∙◌, arith}
 use Rattle.std.proofs.lemmas.Bool.Decides.{nat_tests}
 use Rattle.ymx_machine.specs.declared.types.Side.TheVariants.{A, B}
@@ -66,7 +66,7 @@ gives_none mine yours id (call.Read from max) m (reply.Read bytes) n out h = if_
     none_on mine yours id max m bytes n (look id m.streams) out refl (subst (λ (v : ℕ). OnStream v (Reads max) (look v m.streams) m (reply.Read bytes) n) (agrees from id d) o))
 gives_none mine yours id c m r n out h = refl
 
--- Behind a read that was answered with the end each call gets nothing of the stream.
+-- After a read that was answered with the end each call gets nothing of the stream.
 read_out_law : (mine yours id : ℕ) → first_credit ≤ mine → first_credit ≤ yours → Law mine yours id (ends_by id) (IsReadOut mine yours id) (λ c g. gave_by id c g ≡ [])
 read_out_law mine yours id w v = record {
   marks = λ c g m n s h e. read_out_then mine yours id w v (step.At A c) g m n h s.0 s.1 s.2 (ap (λ (b : Bool). s.1.ended || b) (ends_is A A id c g ∙ e) ∙ or_true s.1.ended);
@@ -78,7 +78,7 @@ ended_marked : (id : ℕ) (e : Event) (told : Reply) → ended_at id e told ≡ 
 ended_marked id (event.Call c) told = ended_is id c told
 ended_marked id e told = refl
 
--- In a history that was played a stream gives nothing behind its end.
+-- In a history that was played a stream gives nothing after its end.
 pub none_behind_its_end : (mine yours : ℕ) (xs : List Entry) → Played mine yours xs → GiveNoneBehindEnd xs
 none_behind_its_end mine yours xs p id before after x is e =
     given_in id after ∙ nothing_joined (gave_by id) _

@@ -10,7 +10,7 @@ use Rattle.ymx_engine.specs.Events.{taken, given}
 use Rattle.ymx_engine.specs.Served.{Serving, NoneWaits, NoneEnds, NoneStops}
 use Rattle.ymx_engine.specs.Serves.{is_silent, is_stopped}
 use Rattle.ymx_engine.specs.Tunnels.{Tunnel}
-use Rattle.ymx_engine.specs.Ways.{is_open, may_push}
+use Rattle.ymx_engine.specs.Directions.{is_open, may_push}
 use Rattle.ymx_engine.proofs.Resting.{rest_flushed, rest_fed, rest_none, rest_takes, rest_hears, rest_ends, rest_stops}
 use Rattle.ymx_joined.specs.Tunnels.{Turn, events_at_a, events_at_b}
 use Rattle.ymx_joined.specs.Quiet.{IsQuietWay, HasCome, is_finished, IsAtRest, IsDelivered, IsLetGo, LeavesNone, AllIsDelivered}
@@ -32,8 +32,8 @@ delivered id from to t s same waits ends come l has there = by (waits id l there
     goes_on true e none more = absurd (not_both (is_silent id t.engine.session) (over_says id t.engine.session has none e) more)
     goes_on false e none more = sym come_here.end ∙ e
 
-    by : (waiting id t.engine.session ≡ []) ⊎ (may_push l.ways l.seen.marks ≡ false) → (is_silent id t.engine.session ≡ false) ⊎ (may_push l.ways l.seen.marks ≡ false) →
-        ((taken id from ≡ given id to) × (is_finished id from ≡ false)) ⊎ (may_push l.ways l.seen.marks ≡ false)
+    by : (waiting id t.engine.session ≡ []) ⊎ (may_push l.directions l.seen.marks ≡ false) → (is_silent id t.engine.session ≡ false) ⊎ (may_push l.directions l.seen.marks ≡ false) →
+        ((taken id from ≡ given id to) × (is_finished id from ≡ false)) ⊎ (may_push l.directions l.seen.marks ≡ false)
     by (inl none) (inl more) = inl (come_here.bytes ∙ ap (λ (v : List ℕ). given id to ++ v) none ∙ append-nil (given id to), goes_on (has_ended id t.engine.session) refl none more)
     by (inl none) (inr full) = inr full
     by (inr full) h = inr full
@@ -44,11 +44,11 @@ let_go t ends stops id l gone there = (by (ends id l there), of (stops id l ther
     says : (is_silent id t.engine.session ≡ true) × (is_stopped id t.engine.session ≡ true)
     says = gone_says id t.engine.session gone
 
-    by : (is_silent id t.engine.session ≡ false) ⊎ (may_push l.ways l.seen.marks ≡ false) → may_push l.ways l.seen.marks ≡ false
+    by : (is_silent id t.engine.session ≡ false) ⊎ (may_push l.directions l.seen.marks ≡ false) → may_push l.directions l.seen.marks ≡ false
     by (inl more) = absurd (not_both (is_silent id t.engine.session) says.0 more)
     by (inr full) = full
 
-    of : (is_stopped id t.engine.session ≡ false) ⊎ (is_open l.ways.to_peer ≡ false) → is_open l.ways.to_peer ≡ false
+    of : (is_stopped id t.engine.session ≡ false) ⊎ (is_open l.directions.to_peer ≡ false) → is_open l.directions.to_peer ≡ false
     of (inl takes) = absurd (not_both (is_stopped id t.engine.session) says.1 takes)
     of (inr off) = off
 
@@ -71,8 +71,8 @@ quiet_way from to pipe a b same_a same_b x y empty runs_a runs_b = record {
 
 pub all_is_delivered : (ts : List Turn) → AllIsDelivered ts
 all_is_delivered ts = λ wa fa wb fb q a b h of x y ab ba.
-    let serves_a = serving_as a q.a q.lines_a of.engine_a of.lines_a (serving_a ts wa fa wb fb q h) in
-    let serves_b = serving_as b q.b q.lines_b of.engine_b of.lines_b (serving_b ts wa fa wb fb q h) in
+    let serves_a = serving_as a q.a q.connections_a of.engine_a of.connections_a (serving_a ts wa fa wb fb q h) in
+    let serves_b = serving_as b q.b q.connections_b of.engine_b of.connections_b (serving_b ts wa fa wb fb q h) in
     record {
       quiet = λ runs_a runs_b. (quiet_way q.a q.b q.ab a b of.engine_a of.engine_b x y ab runs_a runs_b, quiet_way q.b q.a q.ba b a of.engine_b of.engine_a y x ba runs_b runs_a);
       to_b = λ runs_a runs_b id.

@@ -1,4 +1,4 @@
--- Behind its finish a stream takes no bytes.
+-- After its finish a stream takes no bytes.
 use Rattle.std.proofs.Common.{◌≡◌, inl, inr, ℕ, List, [], take, Bool, true, false, not, ◌==◌, if◌then◌else◌, Option, None, Some, refl, sym, ap, subst, ◌∙◌, arith}
 use Rattle.ymx_machine.specs.declared.types.Answer.{Answer}
 use Rattle.ymx_machine.specs.declared.types.Answer.TheVariants as answer
@@ -205,7 +205,7 @@ writes_none mine yours id (call.OpenWith bytes) m (reply.OpenedWith new k) n st 
 ]
 writes_none mine yours id c m r n st h has = refl
 
--- Behind a finish that was done each call writes nothing to the stream.
+-- After a finish that was done each call writes nothing to the stream.
 shut_law : (mine yours id : ℕ) → Law mine yours id (finishes_by id) (λ m. HasAt IsShut id m.streams) (λ c g. wrote_by id c g ≡ [])
 shut_law mine yours id = record {
   marks = λ c g m n s h e. releases_keep IsShut shut_kept.here id h.2 h.1 n h.5 (finish_shuts mine yours id c g m h.0 h.1 s h.4 h.3 e);
@@ -217,7 +217,7 @@ finished_marked : (id : ℕ) (e : Event) (told : Reply) → finished_at id e tol
 finished_marked id (event.Call c) told = finished_is id c told
 finished_marked id e told = refl
 
--- In a history that was played a stream takes nothing behind its finish.
+-- In a history that was played a stream takes nothing after its finish.
 pub none_behind_its_finish : (mine yours : ℕ) (xs : List Entry) → Played mine yours xs → TakeNoneBehindFinish xs
 none_behind_its_finish mine yours xs p id before after x is e =
     taken_in id after ∙ nothing_joined (wrote_by id) _ (behind (shut_law mine yours id) xs p before after x is (sym (finished_marked id x.event x.reply) ∙ e))

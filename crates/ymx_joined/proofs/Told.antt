@@ -10,7 +10,7 @@ use Rattle.ymx_machine.specs.declared.types.Answer.{Answer}
 use Rattle.ymx_machine.specs.declared.types.Answer.TheVariants as answer
 use Rattle.ymx_machine.specs.shared.Limits.{first_credit}
 use Rattle.ymx_model.specs.world.Worlds.{World}
-use Rattle.ymx_joined.specs.Stages.{Stands, IsWritable, IsSettled, IsReadable, IsRead}
+use Rattle.ymx_joined.specs.Stages.{Stands, IsWritable, IsDecided, IsReadable, IsRead}
 
 -- ---- open
 
@@ -86,8 +86,8 @@ gave-all o bytes rest e h = let k : IsRead rest (Some bytes) = subst (IsRead res
 
 -- the stream that was accepted
 pub accepted-one : (no_memory at id : ℕ) (bytes : List ℕ) (w v : World) →
-    ((id : ℕ) (bytes : List ℕ) → Stands id (IsSettled no_memory id bytes) w → (at ≡ id) × Stands id (IsReadable bytes) v) →
-    Stands id (IsSettled no_memory id bytes) w → Stands at (IsReadable bytes) v
+    ((id : ℕ) (bytes : List ℕ) → Stands id (IsDecided no_memory id bytes) w → (at ≡ id) × Stands id (IsReadable bytes) v) →
+    Stands id (IsDecided no_memory id bytes) w → Stands at (IsReadable bytes) v
 accepted-one no_memory at id bytes w v h s = let q = h id bytes s in subst (λ (i : ℕ). Stands i (IsReadable bytes) v) (sym q.0) q.1
 
 -- ---- room for one byte more

@@ -21,7 +21,7 @@ use Rattle.ymx_engine.specs.Exchanges.{has_bytes}
 use Rattle.ymx_engine.specs.Lives.{all_of, kept_of, loses, Trades, IsIdle, Change, Lives, sinces, Life}
 use Rattle.ymx_engine.proofs.Quiet.{or_neither}
 use Rattle.ymx_engine.proofs.Exchanging.{taken_then, given_then, end_then, finish_then, lacks_then, or_none}
-use Rattle.ymx_engine.specs.Turns.{Line, Entry, Lines, look}
+use Rattle.ymx_engine.specs.Turns.{Connection, Entry, Connections, look}
 use Rattle.ymx_engine.proofs.Listing.{plain_then}
 use Rattle.ymx_engine.proofs.Trading.{life_then, life_quiet}
 use Rattle.ymx_joined.specs.Tunnels.{TunnelPair, Works, Turn, OneWorks, BothWork, at_a, at_b, events_at_a, events_at_b, entries}
@@ -31,7 +31,7 @@ use Rattle.ymx_joined.proofs.Tracing.{gathers_a, gathers_b, writes_of, all_writt
 
 -- ---- no stream is opened with its first bytes
 
-works_plain : (es : List (Event × Reply)) (old new : Engine) (ls ms : Lines) (to from to_new from_new : List ℕ) → Works es old new ls ms to from to_new from_new → has_open_with es ≡ false
+works_plain : (es : List (Event × Reply)) (old new : Engine) (ls ms : Connections) (to from to_new from_new : List ℕ) → Works es old new ls ms to from to_new from_new → has_open_with es ≡ false
 works_plain es old new ls ms to from to_new from_new w = ap has_open_with w.events ∙ w.runs.moves.plain
 
 plain_at_a : (side : Side) (es : List (Event × Reply)) (p q : TunnelPair) → OneWorks side es p q → has_open_with (at_a side es) ≡ false
@@ -52,35 +52,35 @@ plain_b (t ∷ ts) p q h = plain_then (at_b t.side t.events) (events_at_b ts) (p
 
 -- ---- the devices of a stream
 
-works_life : (id : ℕ) (es : List (Event × Reply)) (old new : Engine) (ls ms : Lines) (to from to_new from_new : List ℕ) → Works es old new ls ms to from to_new from_new → Life id es (look id ls) (look id ms)
+works_life : (id : ℕ) (es : List (Event × Reply)) (old new : Engine) (ls ms : Connections) (to from to_new from_new : List ℕ) → Works es old new ls ms to from to_new from_new → Life id es (look id ls) (look id ms)
 works_life id es old new ls ms to from to_new from_new w =
     subst (λ (v : List (Event × Reply)). Life id v (look id ls) (look id ms)) (sym w.events)
-    (subst (λ (v : Lines). Life id w.runs.moves.events (look id v) (look id ms)) w.begins
-    (subst (λ (v : Lines). Life id w.runs.moves.events (look id w.before.lines) (look id v)) w.ends (w.runs.moves.lines id)))
+    (subst (λ (v : Connections). Life id w.runs.moves.events (look id v) (look id ms)) w.begins
+    (subst (λ (v : Connections). Life id w.runs.moves.events (look id w.before.connections) (look id v)) w.ends (w.runs.moves.connections id)))
 
-stays : (id : ℕ) (ls ms : Lines) → ms ≡ ls → Life id [] (look id ls) (look id ms)
-stays id ls ms e = subst (λ (v : Lines). Life id [] (look id ls) (look id v)) (sym e) (life_quiet id [] (look id ls) (refl, refl, refl, refl, refl, refl))
+stays : (id : ℕ) (ls ms : Connections) → ms ≡ ls → Life id [] (look id ls) (look id ms)
+stays id ls ms e = subst (λ (v : Connections). Life id [] (look id ls) (look id v)) (sym e) (life_quiet id [] (look id ls) (refl, refl, refl, refl, refl, refl))
 
-life_at_a : (id : ℕ) (side : Side) (es : List (Event × Reply)) (p q : TunnelPair) → OneWorks side es p q → Life id (at_a side es) (look id p.lines_a) (look id q.lines_a)
+life_at_a : (id : ℕ) (side : Side) (es : List (Event × Reply)) (p q : TunnelPair) → OneWorks side es p q → Life id (at_a side es) (look id p.connections_a) (look id q.connections_a)
 life_at_a id A es p q t = works_life id es _ _ _ _ _ _ _ _ t.0
-life_at_a id B es p q t = stays id p.lines_a q.lines_a t.2
+life_at_a id B es p q t = stays id p.connections_a q.connections_a t.2
 
-life_at_b : (id : ℕ) (side : Side) (es : List (Event × Reply)) (p q : TunnelPair) → OneWorks side es p q → Life id (at_b side es) (look id p.lines_b) (look id q.lines_b)
-life_at_b id A es p q t = stays id p.lines_b q.lines_b t.2
+life_at_b : (id : ℕ) (side : Side) (es : List (Event × Reply)) (p q : TunnelPair) → OneWorks side es p q → Life id (at_b side es) (look id p.connections_b) (look id q.connections_b)
+life_at_b id A es p q t = stays id p.connections_b q.connections_b t.2
 life_at_b id B es p q t = works_life id es _ _ _ _ _ _ _ _ t.0
 
-life_a : (id : ℕ) (ts : List Turn) (p q : TunnelPair) → BothWork ts p q → Life id (events_at_a ts) (look id p.lines_a) (look id q.lines_a)
-life_a id [] p q h = stays id p.lines_a q.lines_a (ap (λ (v : TunnelPair). v.lines_a) h)
+life_a : (id : ℕ) (ts : List Turn) (p q : TunnelPair) → BothWork ts p q → Life id (events_at_a ts) (look id p.connections_a) (look id q.connections_a)
+life_a id [] p q h = stays id p.connections_a q.connections_a (ap (λ (v : TunnelPair). v.connections_a) h)
 life_a id (t ∷ ts) p q h = life_then id (at_a t.side t.events) (events_at_a ts) _ _ _ (life_at_a id t.side t.events p h.0 h.1) (life_a id ts h.0 q h.2)
 
-life_b : (id : ℕ) (ts : List Turn) (p q : TunnelPair) → BothWork ts p q → Life id (events_at_b ts) (look id p.lines_b) (look id q.lines_b)
-life_b id [] p q h = stays id p.lines_b q.lines_b (ap (λ (v : TunnelPair). v.lines_b) h)
+life_b : (id : ℕ) (ts : List Turn) (p q : TunnelPair) → BothWork ts p q → Life id (events_at_b ts) (look id p.connections_b) (look id q.connections_b)
+life_b id [] p q h = stays id p.connections_b q.connections_b (ap (λ (v : TunnelPair). v.connections_b) h)
 life_b id (t ∷ ts) p q h = life_then id (at_b t.side t.events) (events_at_b ts) _ _ _ (life_at_b id t.side t.events p h.0 h.1) (life_b id ts h.0 q h.2)
 
 -- no device was there before
-none_before : (id : ℕ) (es : List (Event × Reply)) (ls : Lines) (p : Option Seen) → ls.by_id ≡ [] → Life id es (look id ls) p → Life id es None p
+none_before : (id : ℕ) (es : List (Event × Reply)) (ls : Connections) (p : Option Seen) → ls.by_id ≡ [] → Life id es (look id ls) p → Life id es None p
 none_before id es ls p e h =
-    subst (λ (v : List (ℕ × Entry)). Life id es (option_map (λ (l : Line). l.seen) (option_map (λ (x : Entry). x.line) (lookup (nat_eq id) v))) p) e h
+    subst (λ (v : List (ℕ × Entry)). Life id es (option_map (λ (l : Connection). l.seen) (option_map (λ (x : Entry). x.connection) (lookup (nat_eq id) v))) p) e h
 
 -- ---- what is carried
 
@@ -107,8 +107,8 @@ tunnels_carry ts = λ wa fa wb fb q h id.
     let plain_es = plain_a ts p q r in
     let plain_fs = plain_b ts p q r in
     record {
-      a = none_before id es p.lines_a _ h.none_a (life_a id ts p q r);
-      b = none_before id fs p.lines_b _ h.none_b (life_b id ts p q r);
+      a = none_before id es p.connections_a _ h.none_a (life_a id ts p q r);
+      b = none_before id fs p.connections_b _ h.none_b (life_b id ts p q r);
       to_b = carried A B wb id o.0 answers es fs face.0
           (gathers_a (writes_of A B refl id) one.turns new_pipe new_pipe false false 0 0 es fs o.0 one.joint refl refl plain_es ∙ all_written A B refl id es)
           (gathers_b (reads_of B A refl id) one.turns new_pipe new_pipe false false 0 0 es fs o.0 one.joint refl refl plain_fs ∙ all_read B A refl id fs)
@@ -134,7 +134,7 @@ nothing_lost (p ∷ ps) h =
     let two = or_neither (has_bytes p.1) (loses ps) h in
     ap (λ (v : List ℕ). (p.0 ++ v) ++ all_of ps) (no_bytes_of p.1 two.0) ∙ ap (λ (v : List ℕ). v ++ all_of ps) (append-nil p.0) ∙ ap (λ (v : List ℕ). p.0 ++ v) (nothing_lost ps two.1)
 
--- bytes are lost only for want of memory
+-- bytes are lost only for lack of memory
 pub no_cause : (b c : Bool) → c ≡ false → (b ≡ true → c ≡ true) → b ≡ false
 no_cause true c h f = sym (f refl) ∙ h
 no_cause false c h f = refl

@@ -22,10 +22,10 @@ use Rattle.ymx_model.specs.session.Emissions.{in_turn}
 use Rattle.ymx_model.specs.world.Worlds.{World, Steps, new_world}
 use Rattle.ymx_headline.specs.Agrees.{Agrees, Follows}
 use Rattle.ymx_headline.specs.Laws.{IsOpenPipe, IsOpenWorld}
-use Rattle.ymx_world.specs.Settled.{no_memory_in, IsCarriedOn}
-use Rattle.ymx_joined.specs.Stages.{Numbers, alone, IsWritable, IsComing, IsComingOrRefused, IsSettled, IsReadable, Stands, IsNewWorld}
+use Rattle.ymx_world.specs.Driven.{no_memory_in, IsCarriedOn}
+use Rattle.ymx_joined.specs.Stages.{Numbers, alone, IsWritable, IsComing, IsComingOrRefused, IsDecided, IsReadable, Stands, IsNewWorld}
 use Rattle.ymx_joined.proofs.Moves.{IsAt, still-counts}
-use Rattle.ymx_joined.proofs.Carriage.{carriage-run, settled-machine}
+use Rattle.ymx_joined.proofs.Carriage.{carriage-run, driven-machine}
 use Rattle.ymx_joined.proofs.CallSteps.{opened_numbers, open-step, write-step, finish-step, accept-step, read-step}
 
 -- ---- an open world stays open under calls
@@ -102,9 +102,9 @@ finishes id bytes given w v h st follows =
 some-counted : (total no_memory : ℕ) → no_memory ≡ min total greatest_number → 0 < total → 0 < no_memory
 some-counted total no_memory e some = omega (arith, e, some)
 
-pub settles : (no_memory id : ℕ) (bytes : List ℕ) (w v : World) → Stands id (IsComing id bytes) w → IsCarriedOn no_memory w v → ((m : Machine) → Agrees v m → IsStillMachine m) →
-    Stands id (IsSettled no_memory id bytes) v
-settles no_memory id bytes w v h carried still =
+pub drives : (no_memory id : ℕ) (bytes : List ℕ) (w v : World) → Stands id (IsComing id bytes) w → IsCarriedOn no_memory w v → ((m : Machine) → Agrees v m → IsStillMachine m) →
+    Stands id (IsDecided no_memory id bytes) v
+drives no_memory id bytes w v h carried still =
     let total = no_memory_in carried.answers in
     let f = carried.queues (alone h.numbers id h.stream h.offered) h.agrees in
     let all : total ≡ 0 + total = omega arith in
@@ -118,10 +118,10 @@ settles no_memory id bytes w v h carried still =
       stream = at.stream;
       offered = at.offered;
       agrees = b;
-      stage = settled-machine h.numbers id no_memory bytes at.stream at.offered (still (alone h.numbers id at.stream at.offered) b) stage;
+      stage = driven-machine h.numbers id no_memory bytes at.stream at.offered (still (alone h.numbers id at.stream at.offered) b) stage;
     }
 
-pub accepts : (no_memory id : ℕ) (bytes : List ℕ) (given : Answer) (w v : World) → Stands id (IsSettled no_memory id bytes) w → Steps in_turn (step.At B call.Accept) given w v →
+pub accepts : (no_memory id : ℕ) (bytes : List ℕ) (given : Answer) (w v : World) → Stands id (IsDecided no_memory id bytes) w → Steps in_turn (step.At B call.Accept) given w v →
     Followed (step.At B call.Accept) given w v →
     ((given ≡ answer.Accepted (Some id)) × Stands id (IsReadable bytes) v) ⊎ ((given ≡ answer.Accepted None) × (0 < no_memory))
 accepts no_memory id bytes given w v h st follows =

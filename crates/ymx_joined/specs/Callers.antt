@@ -75,11 +75,11 @@ abbrev pub AreHandedOutOnce : List Entry → Type 0
 AreHandedOutOnce xs =
     (id p q : ℕ) (x y : Entry) → slice_get xs p ≡ Some x → opens_or_accepts id x.event x.reply ≡ true → slice_get xs q ≡ Some y → opens_or_accepts id y.event y.reply ≡ true → p ≡ q
 
--- behind its finish a stream takes nothing
+-- after its finish a stream takes nothing
 abbrev pub TakeNoneBehindFinish : List Entry → Type 0
 TakeNoneBehindFinish xs = (id : ℕ) (before after : List Entry) (x : Entry) → xs ≡ before ++ x ∷ after → finished_at id x.event x.reply ≡ true → all_taken id after ≡ []
 
--- behind its end a stream gives nothing
+-- after its end a stream gives nothing
 abbrev pub GiveNoneBehindEnd : List Entry → Type 0
 GiveNoneBehindEnd xs = (id : ℕ) (before after : List Entry) (x : Entry) → xs ≡ before ++ x ∷ after → ended_at id x.event x.reply ≡ true → all_given id after ≡ []
 

@@ -19,8 +19,8 @@ pub record Carries (id : ℕ) (from to : List (Event × Reply)) : Type 0 where
 -- A stream at both ends: its devices, one after the other, gave what it took and took what it gave; and it carries bytes
 -- both ways.
 pub record CarriesBoth (id : ℕ) (at_a at_b : List (Event × Reply)) (q : TunnelPair) : Type 0 where
-  pub a : Life id at_a None (look id q.lines_a)
-  pub b : Life id at_b None (look id q.lines_b)
+  pub a : Life id at_a None (look id q.connections_a)
+  pub b : Life id at_b None (look id q.connections_b)
   pub to_b : Carries id at_a at_b
   pub to_a : Carries id at_b at_a
 

@@ -19,8 +19,8 @@ use Rattle.ymx_engine.specs.Events.{taken, given}
 use Rattle.ymx_engine.specs.Lives.{opens_at}
 use Rattle.ymx_engine.specs.Served.{NoneGives, NoneEnds, NoneStops, NoneHangs}
 use Rattle.ymx_engine.specs.Tunnels.{Tunnel}
-use Rattle.ymx_engine.specs.Turns.{Line, line_of}
-use Rattle.ymx_engine.specs.Ways.{is_open, may_push}
+use Rattle.ymx_engine.specs.Turns.{Connection, connection_of}
+use Rattle.ymx_engine.specs.Directions.{is_open, may_push}
 use Rattle.ymx_engine.specs.Work.{has_work}
 use Rattle.ymx_joined.specs.Tunnels.{TunnelPair, Turn, HaveCome, events_at_a, events_at_b}
 
@@ -95,7 +95,7 @@ AllHasCome ts =
 
 -- ---- their devices
 
--- What one device gave the other took, but for these bytes, which come behind.
+-- What one device gave the other took, but for these bytes, which come after.
 pub record IsAllPassedOn (giver giver_new taker taker_new : Seen) (waits : List ℕ) : Type 0 where
   pub came : List ℕ
   pub went : List ℕ
@@ -113,19 +113,19 @@ pub record IsAtRest (t : Tunnel) : Type 0 where
 -- These are now the two tunnels whose sessions and connections the pair has.
 pub record AreOf (q : TunnelPair) (a b : Tunnel) : Type 0 where
   pub engine_a : a.engine ≡ q.a
-  pub lines_a : a.lines ≡ q.lines_a
+  pub connections_a : a.connections ≡ q.connections_a
   pub engine_b : b.engine ≡ q.b
-  pub lines_b : b.lines ≡ q.lines_b
+  pub connections_b : b.connections ≡ q.connections_b
 
 -- Where this end has the stream, and its connection is there: all that the stream took at the other end was given here, and it was
 -- not finished there; or the device here may take none now, as it says itself, or as it was told of the end.
 abbrev pub IsDelivered : ℕ → (from to : List (Event × Reply)) → Tunnel → Type 0
-IsDelivered id from to here = (l : Line) → stream_fault id here.engine.session ≡ None → line_of id here.lines ≡ Some l → ((taken id from ≡ given id to) × (is_finished id from ≡ false)) ⊎ (may_push l.ways l.seen.marks ≡ false)
+IsDelivered id from to here = (l : Connection) → stream_fault id here.engine.session ≡ None → connection_of id here.connections ≡ Some l → ((taken id from ≡ given id to) × (is_finished id from ≡ false)) ⊎ (may_push l.directions l.seen.marks ≡ false)
 
 -- Where this end has the stream no more, as it was reset or the session is closed, and its connection is there: the device may take
 -- none now, as it says itself, or as it was told; and its way to the peer isn't open.
 abbrev pub IsLetGo : ℕ → Tunnel → Type 0
-IsLetGo id here = (l : Line) → IsSome (stream_fault id here.engine.session) → line_of id here.lines ≡ Some l → (may_push l.ways l.seen.marks ≡ false) × (is_open l.ways.to_peer ≡ false)
+IsLetGo id here = (l : Connection) → IsSome (stream_fault id here.engine.session) → connection_of id here.connections ≡ Some l → (may_push l.directions l.seen.marks ≡ false) × (is_open l.directions.to_peer ≡ false)
 
 -- What a tunnel at rest leaves to no device: no stream takes bytes that its device may have; where no more come on a stream, and where
 -- it takes none any more, its device was told, as far as it may be; and so it is of a session that is over.

@@ -40,7 +40,7 @@ pub record IsComing (id : ℕ) (bytes : List ℕ) (s : Stream) (offered : List �
   pub rst_inbound : s.rst_inbound ≡ Unsaid
 
 -- B has refused the stream. In a delivery nothing but memory lacks for it, so it counts among the streams that were
--- refused for want of memory.
+-- refused for lack of memory.
 pub record IsRefused (no_memory : ℕ) (s : Stream) (offered : List ℕ) : Type 0 where
   pub own : s.own ≡ true
   pub you : s.you ≡ Refused
@@ -49,11 +49,11 @@ pub record IsRefused (no_memory : ℕ) (s : Stream) (offered : List ℕ) : Type 
   pub offered_none : offered ≡ []
   pub counts : 0 < no_memory
 
--- while A's bytes are carried, on whose way so many streams were refused for want of memory
+-- while A's bytes are carried, on whose way so many streams were refused for lack of memory
 abbrev pub IsComingOrRefused : (no_memory id : ℕ) → List ℕ → Stream → List ℕ → Type 0
 IsComingOrRefused no_memory id bytes s offered = IsComing id bytes s offered ⊎ IsRefused no_memory s offered
 
--- the bytes and the end behind them have come, and the stream waits to be accepted
+-- the bytes and the end after them have come, and the stream waits to be accepted
 pub record IsThere (id : ℕ) (bytes : List ℕ) (s : Stream) (offered : List ℕ) : Type 0 where
   pub you : s.you ≡ Offered
   pub here : s.outbound.here ≡ bytes
@@ -61,8 +61,8 @@ pub record IsThere (id : ℕ) (bytes : List ℕ) (s : Stream) (offered : List �
   pub offered_one : offered ≡ id ∷ []
 
 -- and when they were carried
-abbrev pub IsSettled : (no_memory id : ℕ) → List ℕ → Stream → List ℕ → Type 0
-IsSettled no_memory id bytes s offered = IsThere id bytes s offered ⊎ IsRefused no_memory s offered
+abbrev pub IsDecided : (no_memory id : ℕ) → List ℕ → Stream → List ℕ → Type 0
+IsDecided no_memory id bytes s offered = IsThere id bytes s offered ⊎ IsRefused no_memory s offered
 
 -- B has accepted the stream. These bytes are left to be read, and then comes the end.
 pub record IsReadable (rest : List ℕ) (s : Stream) (offered : List ℕ) : Type 0 where

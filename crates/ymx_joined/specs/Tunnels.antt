@@ -14,15 +14,15 @@ use Rattle.ymx_headline.specs.audit.Told.{IsOneRun}
 use Rattle.ymx_engine.specs.Engines.{Engine}
 use Rattle.ymx_engine.specs.Runs.{Runs}
 use Rattle.ymx_engine.specs.Tunnels.{Tunnel}
-use Rattle.ymx_engine.specs.Turns.{Lines}
+use Rattle.ymx_engine.specs.Turns.{Connections}
 
 -- The sessions of two tunnels with the bytes that each has under way, their connections, the bytes that A's wire took and B's has
 -- not given, and those of the other way.
 pub record TunnelPair : Type 0 where
   pub a : Engine
   pub b : Engine
-  pub lines_a : Lines
-  pub lines_b : Lines
+  pub connections_a : Connections
+  pub connections_b : Connections
   pub ab : List ℕ
   pub ba : List ℕ
 
@@ -32,17 +32,17 @@ engine_of s = record { session = s; outgoing = []; incoming = [] }
 
 -- ---- a turn of one side, at which these events happened; it reads the pipe `from`, and writes to the pipe `to`
 
--- A tunnel made any number of calls. Its wire gave the front of the pipe `from`, and put what it took behind the bytes of the
+-- A tunnel made any number of calls. Its wire gave the front of the pipe `from`, and put what it took after the bytes of the
 -- pipe `to`. It may also have failed, or said that no more bytes come.
-pub record Works (es : List (Event × Reply)) (old new : Engine) (lines lines_new : Lines) (to from to_new from_new : List ℕ) : Type 0 where
+pub record Works (es : List (Event × Reply)) (old new : Engine) (connections connections_new : Connections) (to from to_new from_new : List ℕ) : Type 0 where
   pub before : Tunnel
   pub after : Tunnel
   pub runs : Runs before after
   pub events : es ≡ runs.moves.events
   pub engine : before.engine ≡ old
   pub engine_new : after.engine ≡ new
-  pub begins : before.lines ≡ lines
-  pub ends : after.lines ≡ lines_new
+  pub begins : before.connections ≡ connections
+  pub ends : after.connections ≡ connections_new
   pub left : before.wire.left ≡ Some from
   pub left_new : after.wire.left ≡ Some from_new
   pub had : before.wire.had ≡ Some to
@@ -57,8 +57,8 @@ pub record Turn : Type 0 where
 
 -- one side's tunnel works, and the other's stays as it was
 abbrev pub OneWorks : Side → List (Event × Reply) → TunnelPair → TunnelPair → Type 0
-OneWorks A es p q = Works es p.a q.a p.lines_a q.lines_a p.ab p.ba q.ab q.ba × (q.b ≡ p.b) × (q.lines_b ≡ p.lines_b)
-OneWorks B es p q = Works es p.b q.b p.lines_b q.lines_b p.ba p.ab q.ba q.ab × (q.a ≡ p.a) × (q.lines_a ≡ p.lines_a)
+OneWorks A es p q = Works es p.a q.a p.connections_a q.connections_a p.ab p.ba q.ab q.ba × (q.b ≡ p.b) × (q.connections_b ≡ p.connections_b)
+OneWorks B es p q = Works es p.b q.b p.connections_b q.connections_b p.ba p.ab q.ba q.ab × (q.a ≡ p.a) × (q.connections_a ≡ p.connections_a)
 
 -- now one, now the other, from p to q
 abbrev pub BothWork : List Turn → TunnelPair → TunnelPair → Type 0
@@ -89,8 +89,8 @@ pub record HaveCome (ts : List Turn) (window_a first_a window_b first_b : ℕ) (
   pub new : TunnelPair
   pub a : new.a ≡ engine_of (new_session Client window_a first_a)
   pub b : new.b ≡ engine_of (new_session Server window_b first_b)
-  pub none_a : new.lines_a.by_id ≡ []
-  pub none_b : new.lines_b.by_id ≡ []
+  pub none_a : new.connections_a.by_id ≡ []
+  pub none_b : new.connections_b.by_id ≡ []
   pub ab : new.ab ≡ []
   pub ba : new.ba ≡ []
   pub work : BothWork ts new q

@@ -4,11 +4,11 @@ ghost use Rattle.std.specs.Prelude.{◌≡◌, ◌<◌, ◌≤◌, ℕ, List, le
 ghost use Rattle.ymx_machine.specs.shared.Evidence.{evidence};
 ghost use Rattle.ymx_machine.specs.shared.Limits.{first_credit};
 ghost use Rattle.ymx_session.specs.declared.new_fault.NewFault.TheVariants.{OutOfMemory};
-ghost use Rattle.ymx_joined.specs.Stages.{IsNewWorld, Stands, IsComing, IsSettled, IsReadable};
+ghost use Rattle.ymx_joined.specs.Stages.{IsNewWorld, Stands, IsComing, IsDecided, IsReadable};
 ghost use Rattle.ymx_joined.specs.declared.fault.DeliveryFault.TheVariants.{TooLong, Memory};
 
 use crate::fault::DeliveryFault;
-use crate::stages::{accept, finish, open, read, settle, write};
+use crate::stages::{accept, drive, finish, open, read, write};
 use std::alloc::Global;
 use ymx_header::FIRST_CREDIT;
 use ymx_memory::{RefusalCount, RefusedAllocation};
@@ -51,7 +51,7 @@ fn begin(alloc: Global) -> Result<World, RefusedAllocation>
     }
 }
 
-/// What a world that wasn't made answers here: its want of memory. There is no other fault.
+/// What a world that wasn't made answers here: its lack of memory. There is no other fault.
 fn not_made(fault: NewFault) -> RefusedAllocation
     requires { fault ≡ OutOfMemory evidence }
 {
@@ -84,7 +84,7 @@ fn deliver_between(
     ensures { IfOk result (λ bytes. bytes.items ≡ text.now) }
 {
     send(alloc, world, text)?;
-    let no_memory = settle(world)?;
+    let no_memory = drive(world)?;
     let max = text.len() + 1;
     receive(alloc, world, max, no_memory)
 }
@@ -102,7 +102,7 @@ fn send(alloc: Global, world: &mut World, text: &[u8]) -> Result<(), RefusedAllo
 }
 
 /// What B does: it accepts the stream and reads to the end. `max` is at least 1, and at least the number of bytes
-/// that are there. `no_memory` counts the streams that were refused on the way for want of memory.
+/// that are there. `no_memory` counts the streams that were refused on the way for lack of memory.
 fn receive(
     alloc: Global,
     world: &mut World,
@@ -110,8 +110,8 @@ fn receive(
     no_memory: RefusalCount,
 ) -> Result<Vec<u8>, RefusedAllocation>
     requires room { 0 < max }
-    requires stands { (id : ℕ) × (bytes : List ℕ) × (length bytes ≤ max) × Stands id (IsSettled no_memory id bytes) world.old }
-    ensures { IfOk result (λ got. (id : ℕ) (bytes : List ℕ) → length bytes ≤ max → Stands id (IsSettled no_memory id bytes) world.old → got.items ≡ bytes) }
+    requires stands { (id : ℕ) × (bytes : List ℕ) × (length bytes ≤ max) × Stands id (IsDecided no_memory id bytes) world.old }
+    ensures { IfOk result (λ got. (id : ℕ) (bytes : List ℕ) → length bytes ≤ max → Stands id (IsDecided no_memory id bytes) world.old → got.items ≡ bytes) }
 {
     let id = accept(world, no_memory)?;
     read_to_end(alloc, world, id, max)

@@ -13,8 +13,8 @@ ghost use Rattle.ymx_joined.specs.Callers.{CarryAll, AreHandedOutOnce, TakeNoneB
 /// Two histories are one run: a client's and a server's, whose entries have a joint order that goes as the queue machine does,
 /// as `certify` shows of two transcripts. Then what each stream gave at one end is a beginning of what it took at the other.
 /// Where its end was read at the one, it is all of it, and the stream was finished at the other. So it is both ways, and of each
-/// stream. In neither history is a stream given to a caller twice, by being opened or accepted. Behind its finish a stream takes
-/// no byte there, and gives none behind its end.
+/// stream. In neither history is a stream given to a caller twice, by being opened or accepted. After its finish a stream takes
+/// no byte there, and gives none after its end.
 pub fn one_run_carries()
     ensures carries { (xs ys : List Entry) → (steps : List Step) → (wa fa wb fb : ℕ) → (s t : Session) →
         AreGood wa fa wb fb → IsOneRun in_turn xs ys steps wa fa wb fb s t → CarryAll xs ys }

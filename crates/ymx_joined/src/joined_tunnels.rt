@@ -37,7 +37,7 @@ pub fn tunnels_carry()
 {}
 
 /// What the device at one end of a stream takes is a beginning of what the device at the other end gave, unless a write of
-/// that was refused for want of memory. Where its end was passed on, it is all that the other had to give.
+/// that was refused for lack of memory. Where its end was passed on, it is all that the other had to give.
 pub fn devices_get_what_was_given()
     ensures { (id : ℕ) (at_giver at_taker : List (Event × Reply)) (giver giver_new taker taker_new : Seen) →
         Trades id at_giver giver giver_new → Trades id at_taker taker taker_new → Carries id at_giver at_taker → lacks_memory id at_giver ≡ false →
@@ -55,10 +55,10 @@ pub fn one_device_gets_what_the_other_gave()
 {}
 
 /// Nothing sticks between two tunnels. They are a client's and a server's, over two pipes in memory, and made any calls, in
-/// any order. The way from one to the other is quiet where nothing of the one is due, no byte waits for its wire, in the
+/// any order. The direction from one to the other is quiet where nothing of the one is due, no byte waits for its wire, in the
 /// pipe, or to be fed to the other, and both sessions run. Then all that a stream took at the one was given at the other, or
 /// waits there to be given, if the session there has the stream; and its end has come there exactly if it was finished.
-/// Where both ways are quiet, both sessions have each stream that both were given and neither left. The next read gives the
+/// Where both directions are quiet, both sessions have each stream that both were given and neither left. The next read gives the
 /// first of what waits, or the end where nothing does.
 pub fn quiet_tunnels_have_carried_all()
     ensures carried { (turns : List Turn) → AllHasCome turns }
@@ -67,7 +67,7 @@ pub fn quiet_tunnels_have_carried_all()
 
 /// Then the device at one end of a stream has taken all that the device at the other end gave, but for the bytes that wait
 /// at its session. One device and no other was joined to the stream at each end, and no write of what was given was refused
-/// for want of memory.
+/// for lack of memory.
 pub fn quiet_devices_have_all_but_what_waits()
     ensures { (id : ℕ) (at_giver at_taker : List (Event × Reply)) (giver giver_last taker taker_last : Seen) (reader : Session) →
         HadOne id at_giver giver giver_last → HadOne id at_taker taker taker_last → HasCome id at_giver at_taker reader → lacks_memory id at_giver ≡ false →
@@ -79,7 +79,7 @@ pub fn quiet_devices_have_all_but_what_waits()
 /// the tunnels are quiet. Where an end has a stream, and its connection is there, all that the stream took at the other end was
 /// given here, and it was not finished there; or the device here may take none now, as it says itself, or as it was told of the
 /// end. Nor does a stream take bytes then that its device may have. Where an end has a stream no more, as it was reset, its
-/// device may take none now, and gives none either: its way to the peer isn't open, also where its connection was still being
+/// device may take none now, and gives none either: its direction to the peer isn't open, also where its connection was still being
 /// made. So it is of each connection of a session that is over. (Nobody is forgotten: what each call says, `Runs`, has it.)
 pub fn tunnels_at_rest_have_delivered()
     ensures { (turns : List Turn) → AllIsDelivered turns }

@@ -1,4 +1,4 @@
-//! The steps of a delivery, each with where the world stands before it and after it. The one error is want of
+//! The steps of a delivery, each with where the world stands before it and after it. The one error is lack of
 //! memory; each other answer is proved to be impossible.
 
 ghost use Rattle.std.specs.Prelude.{◌≡◌, ◌<◌, ◌≤◌, ℕ, List, [], length, IfOk};
@@ -6,14 +6,14 @@ ghost use Rattle.ymx_machine.specs.shared.Evidence.{evidence};
 ghost use Rattle.ymx_machine.specs.declared.types.CallFault.TheVariants.{OutOfMemory};
 ghost use Rattle.ymx_machine.specs.shared.Limits.{first_credit};
 ghost use Rattle.ymx_headline.specs.Laws.{IsOpenWorld};
-ghost use Rattle.ymx_joined.specs.Stages.{IsNewWorld, Stands, IsWritable, IsComing, IsSettled, IsReadable, IsRead};
+ghost use Rattle.ymx_joined.specs.Stages.{IsNewWorld, Stands, IsWritable, IsComing, IsDecided, IsReadable, IsRead};
 
 use std::alloc::Global;
 use ymx_memory::{RefusalCount, RefusedAllocation};
 use ymx_model::{Answer, Bytes, Call, CallFault, Side, Step};
 use ymx_world::World;
 
-/// What a call that was refused answers here: its want of memory. There is no other refusal.
+/// What a call that was refused answers here: its lack of memory. There is no other refusal.
 fn call_refused(fault: CallFault) -> RefusedAllocation
     requires { fault ≡ OutOfMemory evidence }
 {
@@ -23,7 +23,7 @@ fn call_refused(fault: CallFault) -> RefusedAllocation
     }
 }
 
-/// What a stream that was refused answers here: its want of memory, which was counted.
+/// What a stream that was refused answers here: its lack of memory, which was counted.
 fn stream_refused(no_memory: RefusalCount) -> RefusedAllocation
     requires { 0 < no_memory }
 {
@@ -77,21 +77,21 @@ pub(crate) fn finish(world: &mut World, id: u32) -> Result<(), RefusedAllocation
     }
 }
 
-/// Carries all that is under way to the other side, and answers how many streams were refused for want of memory.
-pub(crate) fn settle(world: &mut World) -> Result<RefusalCount, RefusedAllocation>
+/// Carries all that is under way to the other side, and answers how many streams were refused for lack of memory.
+pub(crate) fn drive(world: &mut World) -> Result<RefusalCount, RefusedAllocation>
     requires { IsOpenWorld world.old }
-    ensures { IfOk result (λ no_memory. (id : ℕ) (bytes : List ℕ) → Stands id (IsComing id bytes) world.old → Stands id (IsSettled no_memory id bytes) world.new) }
+    ensures { IfOk result (λ no_memory. (id : ℕ) (bytes : List ℕ) → Stands id (IsComing id bytes) world.old → Stands id (IsDecided no_memory id bytes) world.new) }
 {
-    let settled = world.settle()?;
-    prove!(settled.quiet);
-    Ok(settled.no_memory)
+    let driven = world.drive()?;
+    prove!(driven.quiet);
+    Ok(driven.no_memory)
 }
 
 /// B accepts the stream. There is none only where B has refused it, as it had no memory for it. Then `no_memory`, which
 /// counts the streams that were refused on the way, has the evidence.
 pub(crate) fn accept(world: &mut World, no_memory: RefusalCount) -> Result<u32, RefusedAllocation>
-    requires { (id : ℕ) × (bytes : List ℕ) × Stands id (IsSettled no_memory id bytes) world.old }
-    ensures { IfOk result (λ at. (id : ℕ) (bytes : List ℕ) → Stands id (IsSettled no_memory id bytes) world.old → (at ≡ id) × Stands id (IsReadable bytes) world.new) }
+    requires { (id : ℕ) × (bytes : List ℕ) × Stands id (IsDecided no_memory id bytes) world.old }
+    ensures { IfOk result (λ at. (id : ℕ) (bytes : List ℕ) → Stands id (IsDecided no_memory id bytes) world.old → (at ≡ id) × Stands id (IsReadable bytes) world.new) }
 {
     let answer = world.step(&Step::At(Side::B, Call::Accept))?;
     match answer {

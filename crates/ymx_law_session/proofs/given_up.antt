@@ -1,3 +1,3 @@
 -- A record that was given up goes as soon as nothing of it is left to send.
-pub mod Settled
-pub mod SettledFrames
+pub mod Reaped
+pub mod ReapedFrames

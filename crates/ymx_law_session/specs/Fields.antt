@@ -30,7 +30,7 @@ ResponseFits (Reject id) = Fits id
 -- the bytes of a header are bytes; the id of a payload fits, and how much of it lacks
 abbrev pub IncomingFits : Incoming → Type 0
 IncomingFits (Head bytes) = All IsByte bytes
-IncomingFits (Payload id missing fin stray) = Fits id × Fits missing
+IncomingFits (Payload id missing fin discarded) = Fits id × Fits missing
 
 -- the ids of the records, the answers, the numbers of the pings, what has come of a frame
 pub record PartsFit (entries : List (ℕ × End)) (responses : List Response) (pending : List Ping) (coming : Incoming) : Type 0 where

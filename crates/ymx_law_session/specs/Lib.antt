@@ -1,6 +1,6 @@
 pub mod Chunks
 pub mod Limits
 pub mod Refusals
-pub mod Settled
+pub mod Reaped
 pub mod Offers
 pub mod Fields

@@ -32,7 +32,7 @@ pub record IsEndWithin (window : ℕ) (e : End) : Type 0 where
   pub offered : is_offered e.phase ≡ true → IsSilent e
 
 -- The table: a window that may be chosen, records within their limits, no two of one id, at most 1,024,
--- and the next turn at a place among them, or behind the last.
+-- and the next turn at a place among them, or after the last.
 pub record IsTableWithin (t : Table) : Type 0 where
   pub narrowest : first_credit ≤ t.window
   pub widest : t.window ≤ widest_window
@@ -67,7 +67,7 @@ pub record IsOfferedWithin (offered : List ℕ) (entries : List (ℕ × End)) : 
 abbrev pub is_in_header : Incoming → Bool
 is_in_header (Head []) = false
 is_in_header (Head (b ∷ bs)) = true
-is_in_header (Payload id missing fin stray) = false
+is_in_header (Payload id missing fin discarded) = false
 
 -- at most 1,024 answers are unsent, and fewer while a header is coming, which may ask for one
 pub record IsAnswersWithin (answers : List Response) (incoming : Incoming) : Type 0 where

@@ -21,7 +21,7 @@ pub record IsGoodSyn (h : Header) (s : Session) : Type 0 where
 abbrev pub HasCause : Session → Type 0
 HasCause s = (s.away.here ≢ Unsaid) ⊎ (most_offered ≤ length s.offered) ⊎ (most_records ≤ length s.table.entries)
 
--- it is offered, behind those that came before; its record is that of a new stream, to which the frame's
+-- it is offered, after those that came before; its record is that of a new stream, to which the frame's
 -- credit and end have come
 pub record IsOffered (h : Header) (s t : Session) : Type 0 where
   pub list : t.offered ≡ s.offered ++ h.id ∷ []

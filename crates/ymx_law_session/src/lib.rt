@@ -30,11 +30,11 @@ ghost use Rattle.ymx_law_session.specs.Fields.{Fits, NumbersFit, HalvesFit, Feed
 ghost use Rattle.ymx_law_session.specs.Chunks.{joined_fed, FedInTwo};
 ghost use Rattle.ymx_law_session.specs.Limits.{IsWithin};
 ghost use Rattle.ymx_law_session.specs.Offers.{IsGoodSyn, HasCause, IsOffered, IsRejected, LeavesNoTrace};
-ghost use Rattle.ymx_law_session.specs.Settled.{IsSettled, NoneLingers};
+ghost use Rattle.ymx_law_session.specs.Reaped.{IsReaped, NoneLingers};
 ghost use Rattle.ymx_law_session.specs.Refusals.{reply_is_refused, OthersSame, OnlyRecord, OnlyArrived, KeepsOwn, KeepsStreams};
 
 /// What is fed in two pieces is what is fed at once (framing): the bytes taken, the streams refused
-/// for want of memory and the reason are the same, wherever the input is cut.
+/// for lack of memory and the reason are the same, wherever the input is cut.
 pub fn fed_in_pieces()
     ensures bytes_join { (a b : List ℕ) (s t u : Session) (m n : ℕ) → Takes a s t m → Takes b t u n → Takes (a ++ b) s u (m + n) }
     ensures bytes_split { (a b : List ℕ) (s u : Session) (n : ℕ) → Takes (a ++ b) s u n → (t : Session) × (k : ℕ) × (m : ℕ) × (n ≡ k + m) × Takes a s t k × Takes b t u m }
@@ -100,7 +100,7 @@ pub fn nothing_else_changes()
     ensures reset { (id : ℕ) (s : Session) → OthersSame id s (outcome (call.Reset id) s).next }
     ensures forget { (id : ℕ) (s : Session) → OthersSame id s (outcome (call.Forget id) s).next }
     ensures head { (no_memory : Bool) (h : Header) (s : Session) → OthersSame h.id s (head_comes no_memory h s) }
-    ensures piece { (bytes : List ℕ) (id missing : ℕ) (fin stray : Bool) (s : Session) → OthersSame id s (piece_comes bytes id missing fin stray s) }
+    ensures piece { (bytes : List ℕ) (id missing : ℕ) (fin discarded : Bool) (s : Session) → OthersSame id s (piece_comes bytes id missing fin discarded s) }
     ensures open { (s : Session) → OthersSame s.next s (outcome call.Open s).next }
     ensures open_with { (bytes : List ℕ) (s : Session) → OthersSame s.next s (outcome (call.OpenWith bytes) s).next }
     ensures accept { (id : ℕ) (s : Session) → (outcome call.Accept s).reply ≡ Accepted (Some id) → OthersSame id s (outcome call.Accept s).next }
@@ -111,13 +111,13 @@ pub fn nothing_else_changes()
     ensures finish_alone { (id : ℕ) (s : Session) → OnlyRecord id s (outcome (call.Finish id) s).next }
     ensures reset_alone { (id : ℕ) (s : Session) → OnlyRecord id s (outcome (call.Reset id) s).next }
     ensures forget_alone { (id : ℕ) (s : Session) → OnlyRecord id s (outcome (call.Forget id) s).next }
-    ensures piece_alone { (bytes : List ℕ) (id missing : ℕ) (fin stray : Bool) (s : Session) → OnlyArrived s (piece_comes bytes id missing fin stray s) }
+    ensures piece_alone { (bytes : List ℕ) (id missing : ℕ) (fin discarded : Bool) (s : Session) → OnlyArrived s (piece_comes bytes id missing fin discarded s) }
     ensures stream_frame { (no_memory : Bool) (h : Header) (s : Session) → h.kind < 2 → KeepsOwn s (head_comes no_memory h s) }
     ensures session_frame { (no_memory : Bool) (h : Header) (s : Session) → 2 ≤ h.kind → KeepsStreams s (head_comes no_memory h s) }
 {}
 
 /// A stream that the peer opens is rejected where go away was said here, where 256 streams wait to be
-/// accepted, where 1,024 are there, or for want of memory; else it is offered (flags). One that its first
+/// accepted, where 1,024 are there, or for lack of memory; else it is offered (flags). One that its first
 /// frame resets is rejected for the same causes, and else leaves no trace.
 pub fn streams_are_offered()
     ensures offered { (h : Header) (s : Session) → IsGoodSyn h s → has_rst h ≡ false → s.away.here ≡ Unsaid → length s.offered < most_offered → length s.table.entries < most_records → IsOffered h s (head_comes false h s) }
@@ -129,8 +129,8 @@ pub fn streams_are_offered()
 /// A stream that was given up goes as soon as its last frame is out: while a session runs and has
 /// nothing due, none is left.
 pub fn given_up_goes()
-    ensures at_first { (role : Role) (window first : ℕ) → IsSettled (new_session role window first) }
-    ensures kept { (may : Choice → Session → Bool) (s t : Session) (event : Event) (reply : Reply) → Gives may s event reply t → IsWithin s → IsSettled s → IsSettled t }
-    ensures always { (may : Choice → Session → Bool) (at : ℕ) (entries : List Entry) (s t : Session) → ReplaysFrom may at entries s t → IsWithin s → IsSettled s → IsSettled t }
-    ensures none_lingers { (s : Session) → IsSettled s → is_running s.status ≡ true → is_ready s ≡ false → NoneLingers s }
+    ensures at_first { (role : Role) (window first : ℕ) → IsReaped (new_session role window first) }
+    ensures kept { (may : Choice → Session → Bool) (s t : Session) (event : Event) (reply : Reply) → Gives may s event reply t → IsWithin s → IsReaped s → IsReaped t }
+    ensures always { (may : Choice → Session → Bool) (at : ℕ) (entries : List Entry) (s t : Session) → ReplaysFrom may at entries s t → IsWithin s → IsReaped s → IsReaped t }
+    ensures none_lingers { (s : Session) → IsReaped s → is_running s.status ≡ true → is_ready s ≡ false → NoneLingers s }
 {}

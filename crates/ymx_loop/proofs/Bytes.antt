@@ -22,8 +22,8 @@ head_given None old new given e = tt
 head_given (Some xs) old new given e = ap (λ (v : List ℕ). v ++ xs) e ∙ append_assoc given new xs
 
 -- its own are given where none stands before them
-pub own_given : (left left_new : Option (List ℕ)) (head given : List ℕ) → head ≡ [] → Consumes left left_new given → Consumes (prepend_known head left) (prepend_known head left_new) given
-own_given None left_new head given e c = tt
+pub own_given : (left left_new : Option (List ℕ)) (proxy_header given : List ℕ) → proxy_header ≡ [] → Consumes left left_new given → Consumes (prepend_known proxy_header left) (prepend_known proxy_header left_new) given
+own_given None left_new proxy_header given e c = tt
 own_given (Some xs) None [] given e c = c
 own_given (Some xs) (Some ys) [] given e c = c
-own_given (Some xs) left_new (x ∷ head) given e c = cc
+own_given (Some xs) left_new (x ∷ proxy_header) given e c = cc

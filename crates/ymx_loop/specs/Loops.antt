@@ -7,7 +7,7 @@ use Rattle.ymx_engine.specs.Work.{WorksOnce, has_work}
 
 -- Nothing can be moved without an event: no connection waits for a turn, the wire can't be read, and what waits for it can't be
 -- written; no bytes of a stream wait that its connection may take; where the wire may take bytes, no stream takes bytes that its
--- connection may have; no connection that is there is still to hear that no more come, that its stream takes none any more, or that
+-- connection may have; no connection that is there is still to learn that no more come, that its stream takes none any more, or that
 -- the session is over.
 pub record NeedsEvents (t : Tunnel) : Type 0 where
   pub idle : has_work t ≡ false
@@ -28,7 +28,7 @@ pub record WaitsInNeed (old new : Tunnel) (before after : ℕ) : Type 0 where
   pub through : RunsThrough moments old new
   pub counted : after ≤ before + length moments
 
--- so many whole rounds were worked between these two, one behind another
+-- so many whole rounds were worked between these two, one after another
 abbrev pub WorksTimes : ℕ → Tunnel → Tunnel → Type 0
 WorksTimes zero old new = Runs old new
 WorksTimes (suc n) old new = (between : Tunnel) × WorksTimes n old between × Runs between new × WorksOnce between new

@@ -1,13 +1,13 @@
 //! The loop that runs one session of a tunnel: what it does between two looks at the events.
 //!
 //! All that moves is moved by calls of [`ymx_engine::Tunnel`], which owns the wire and the connections. Each function
-//! here that makes such calls says that they are all it did: `Runs`.
+//! here that makes such calls has a clause that they are all it did: `Runs`.
 
 ghost use Rattle.std.specs.Prelude.{◌≡◌, ◌⊎◌, length, true, false, None, Some, IfOk, IfErr, not};
 ghost use Rattle.ymx_engine.specs.Runs.{Runs, IsOver};
 ghost use Rattle.ymx_engine.specs.Served.{Serving};
-ghost use Rattle.ymx_engine.specs.Turns.{Line as LineValue, line_of};
-ghost use Rattle.ymx_engine.specs.Ways.{is_over};
+ghost use Rattle.ymx_engine.specs.Turns.{Connection as ConnectionValue, connection_of};
+ghost use Rattle.ymx_engine.specs.Directions.{is_over};
 ghost use Rattle.ymx_engine.specs.Work.{ServesOne, WorksOnce};
 ghost use Rattle.ymx_sockets.specs.Counts.{CountsOne};
 ghost use Rattle.ymx_loop.specs.Loops.{NeedsEvents, WaitsInNeed, WorksBetween};
@@ -25,19 +25,12 @@ use ymx_engine::{Device, NotJoined, Readiness, Registry, Tunnel};
 use ymx_header::{FIRST_EXHAUSTED, MOST_RECORDS};
 use ymx_model::{CallFault, Config, Outlet, Role, Status};
 use ymx_page::{Declined, EndedConnection, Ending, Event, Origin};
-use ymx_policy::{Endpoint, Notice, Reason, Session as Asked, SessionEnd};
+use ymx_policy::{Notice, Reason, Session as Asked, SessionEnd};
 use ymx_session::{NewFault, Session};
 use ymx_sockets::{
-    Context, Drain, Head, Host, LISTENER, NoEvents, Peer, Poll, SIGNALLED, Said, Stream,
-    TcpConnection, Users, begin_call, has_passed, shorter, time_of,
+    Context, Drain, Host, NoEvents, Peer, Poll, ProxyHeader, SocketEvent, Source, Stream,
+    TcpConnection, Users, begin_connect, has_passed, shorter, time_of,
 };
-
-/// The wire's token.
-const WIRE: usize = 0;
-
-/// The token of a stream is its id plus this. There is no stream 0, so the token 2 is free for the listener for peers.
-/// In a session no id is given twice, so an event that comes late is of a stream that is no more.
-const STREAMS: usize = 2;
 
 /// How many connections are accepted at most before bytes move again.
 const ACCEPTS: u32 = 64;
@@ -56,32 +49,32 @@ const PATIENCE: u64 = 10;
 /// How many seconds it waits for events there, and where connections may be idle for too long.
 const GLANCE: u64 = 1;
 
-/// How many seconds a session lasts at least after which the peer is called again at once.
+/// How many seconds a session lasts at least after which a reconnect comes at once.
 const LASTING: u64 = 1;
 
-/// Where connections come from, or where they go to.
+/// What a session serves.
 #[derive(Drop)]
-pub enum Side {
-    /// They come from users.
-    Local(Users),
-    /// They go to a target. Once the drain asks for that no more streams of the peer are taken.
-    Remote(Arc<Drain, Global>),
+pub enum Service {
+    /// The users of a `local`, the yamux client, and whether each stream begins with a PROXY protocol header that names its user.
+    Users(Users, bool),
+    /// The target of a `remote`, the yamux server, for so many streams at once. Once it drains, no more streams are taken.
+    Target(SocketAddrV4, u32, Arc<Drain, Global>),
 }
 
-impl Side {
+impl Service {
     /// Its role in the session.
     fn role(&self) -> Role {
         match self {
-            Side::Local(_) => Role::Client,
-            Side::Remote(_) => Role::Server,
+            Service::Users(_, _) => Role::Client,
+            Service::Target(_, _, _) => Role::Server,
         }
     }
 
-    /// Whether no more connections are to come, as that was asked for.
+    /// Whether no more connections are to come, as it drains.
     fn is_drained(&self) -> bool {
         match self {
-            Side::Local(_) => false,
-            Side::Remote(drain) => drain.is_asked(),
+            Service::Users(_, _) => false,
+            Service::Target(_, _, drain) => drain.is_asked(),
         }
     }
 }
@@ -96,7 +89,7 @@ impl<S: Stream + Drop> Registry<Socket<S>> for Tokens<'_> {
     ghost told = { λ _. None };
 
     fn register(&mut self, id: u32, device: &mut Socket<S>) -> bool {
-        device.register(self.poll, (id as usize) + STREAMS)
+        device.register(self.poll, Source::Stream(id))
     }
 }
 
@@ -107,11 +100,11 @@ enum Outcome {
     Over,
     /// The session was lost, another one follows, and nothing had moved for too long.
     Left,
-    /// The system refused to tell of events.
+    /// The system refused to report events.
     Unwatched,
 }
 
-/// Runs such a session with this peer, in this thread alone, and says how it ended. Once its side has ended it sends all
+/// Runs such a session with this peer, in this thread alone, and returns how it ended. Once its service has ended it sends all
 /// that is due, closes its writing side, and waits for the peer to close the connection.
 ///
 /// A client ends after its count of connections, or at an accept that fails. Without a count it also ends at the first
@@ -121,14 +114,14 @@ enum Outcome {
 pub fn run_session<R: Host, D: Outlet>(
     context: Context<'_, '_, R, D>,
     poll: &mut Poll,
-    side: &mut Side,
+    service: &mut Service,
     peer: Peer,
     session: Asked,
 ) -> SessionEnd {
     let began = time_of(context.rt);
     let address = peer.address;
-    let mut how = match Socket::wire(peer.into_connection(&session), poll, WIRE) {
-        Ok(wire) => run_over(context, poll, side, wire, (session, address)),
+    let mut how = match Socket::wire(peer.into_connection(&session), poll) {
+        Ok(wire) => run_over(context, poll, service, wire, (session, address)),
         Err(_) => unwatched(),
     };
     how.peer = address;
@@ -136,10 +129,10 @@ pub fn run_session<R: Host, D: Outlet>(
     how
 }
 
-/// How a session ends whose events the system refuses to tell.
+/// How a session ends whose events the system refuses to report.
 fn unwatched() -> SessionEnd {
     let mut how = SessionEnd::clean();
-    how.is_unwatched = true;
+    how.lacks_peer = true;
     how
 }
 
@@ -147,12 +140,12 @@ fn unwatched() -> SessionEnd {
 fn run_over<R: Host, D: Outlet>(
     context: Context<'_, '_, R, D>,
     poll: &mut Poll,
-    side: &mut Side,
+    service: &mut Service,
     wire: Socket,
     asked: (Asked, Option<SocketAddrV4>),
 ) -> SessionEnd {
     let (session, peer) = asked;
-    let tunnel = match new_tunnel(context.alloc, wire, side.role(), session.options.window) {
+    let tunnel = match new_tunnel(context.alloc, wire, service.role(), session.options.window) {
         Ok(tunnel) => tunnel,
         Err(NewFault::OutOfMemory(_)) => {
             let mut how = SessionEnd::clean();
@@ -164,18 +157,18 @@ fn run_over<R: Host, D: Outlet>(
     let mut session_loop = SessionLoop {
         context,
         tunnel,
-        side,
+        service,
         session,
         peer,
         how: SessionEnd::clean(),
         unwritten: 0,
         passed: (0, 0),
         rejected: 0,
-        is_end_told: false,
+        is_end_logged: false,
         is_full: false,
         watched_at: time_of(context.rt),
         pace: Pace::new(),
-        is_heard: !session.is_sounded,
+        has_first_frame: !session.needs_first_frame,
         is_leaving: false,
         still_since: None,
         silence: Silence::new(time_of(context.rt), session.options.ping),
@@ -183,8 +176,8 @@ fn run_over<R: Host, D: Outlet>(
     };
     let outcome = session_loop.run(poll);
     session_loop.note_users();
-    session_loop.tell_counts();
-    session_loop.tell_end();
+    session_loop.log_counts();
+    session_loop.log_end();
     let how = session_loop.ended(outcome);
     let limit = session_loop.close_limit();
     let SessionLoop { tunnel, .. } = session_loop;
@@ -198,7 +191,7 @@ fn run_over<R: Host, D: Outlet>(
 struct SessionLoop<'a, 's, R, D> {
     context: Context<'a, 's, R, D>,
     tunnel: Tunnel<Socket, Socket>,
-    side: &'a mut Side,
+    service: &'a mut Service,
     session: Asked,
     /// Where the peer is, if that is known.
     peer: Option<SocketAddrV4>,
@@ -206,19 +199,19 @@ struct SessionLoop<'a, 's, R, D> {
     how: SessionEnd,
     /// How many bytes connections have given since the wire was last written to.
     unwritten: u64,
-    /// How many bytes have passed to the peer, and from it, since that was told.
+    /// How many bytes have passed to the peer, and from it, since that was counted.
     passed: (u64, u64),
-    /// How many of the peer's streams were told to have been rejected for want of memory.
+    /// How many of the peer's streams were counted as rejected, as memory was out.
     rejected: u64,
-    is_end_told: bool,
-    /// It was told that users wait as all places are taken.
+    is_end_logged: bool,
+    /// It was logged that users wait as all slots are used.
     is_full: bool,
     /// When it was last looked for connections that are idle for too long.
     watched_at: Option<Duration>,
     pace: Pace,
-    /// The peer has given a sign of life, or isn't asked for one.
-    is_heard: bool,
-    /// The peer was told that no more of its streams are taken.
+    /// The peer's first frame has come, or isn't waited for.
+    has_first_frame: bool,
+    /// Go Away was sent.
     is_leaving: bool,
     /// Since when nothing has moved. None where something just did.
     still_since: Option<Duration>,
@@ -238,14 +231,14 @@ impl<R: Host, D: Outlet> SessionLoop<'_, '_, R, D> {
         // Between two looks at the events it works a whole round.
         ensures rounds { WorksBetween self.old.tunnel self.new.tunnel poll.old.looks poll.new.looks }
         // A loop that wasn't left is over: nothing is due, or the wire has failed, and no connection is left.
-        ensures over { result ≡ OutcomeOf.Over → IsOver self.new.tunnel × (length self.new.tunnel.lines.by_id ≡ 0) }
+        ensures over { result ≡ OutcomeOf.Over → IsOver self.new.tunnel × (length self.new.tunnel.connections.by_id ≡ 0) }
     {
         self.begin();
         for _ in self.context.rt.forever() {
             if self.is_over() {
                 return Outcome::Over;
             }
-            let limit = self.hear_silence();
+            let limit = self.on_silence();
             if let Err(refused) = self.await_events(poll, limit) {
                 self.give_up_wire(Cause::Unwatched(refused));
                 self.leave_all();
@@ -260,20 +253,20 @@ impl<R: Host, D: Outlet> SessionLoop<'_, '_, R, D> {
         unreachable!()
     }
 
-    /// Tells that it begins, and asks the peer for its first sign of life, if it is to give one before it is given users.
+    /// Counts that it begins, and pings the peer, if users wait for its first frame.
     fn begin(&mut self)
         ensures { Runs self.old.tunnel self.new.tunnel }
     {
         let context = self.context;
-        context.tell(Event::SessionBegan(self.places()));
-        if self.session.is_sounded {
+        context.log(Event::SessionBegan(self.slots()));
+        if self.session.needs_first_frame {
             self.ask();
         }
     }
 
-    /// Hears whether the peer is silent: then it is asked for a sign, and given up where none comes. How long it may be
+    /// Looks whether the peer is silent: then it is pinged, and given up where no answer comes. How long it may be
     /// silent yet, or None if for ever.
-    fn hear_silence(&mut self) -> Option<Duration>
+    fn on_silence(&mut self) -> Option<Duration>
         ensures { Runs self.old.tunnel self.new.tunnel }
     {
         if self.is_lost() {
@@ -282,7 +275,7 @@ impl<R: Host, D: Outlet> SessionLoop<'_, '_, R, D> {
         let now = time_of(self.context.rt);
         let mut silence = self.silence?;
         silence.note_sent(now, self.tunnel.wire().pushed);
-        silence.hear(now, self.tunnel.wire().pulled, self.tunnel.unframed());
+        silence.on_bytes(now, self.tunnel.wire().pulled, self.tunnel.unframed());
         let due = silence.due(now);
         self.silence = Some(silence);
         match due {
@@ -298,7 +291,7 @@ impl<R: Host, D: Outlet> SessionLoop<'_, '_, R, D> {
         }
     }
 
-    /// Asks the peer for a sign, unless the answer to the last ping is still to come.
+    /// Pings the peer, unless the answer to the last ping is still to come.
     fn ask(&mut self)
         ensures { Runs self.old.tunnel self.new.tunnel }
     {
@@ -325,7 +318,7 @@ impl<R: Host, D: Outlet> SessionLoop<'_, '_, R, D> {
         self.tunnel.give_up_wire();
     }
 
-    /// Waits for events for so long at most, unless something can be done without one, and notes what they say.
+    /// Waits for events for so long at most, unless something can be done without one, and notes them.
     fn await_events(&mut self, poll: &mut Poll, limit: Option<Duration>) -> Result<(), NoEvents>
         ensures runs { Runs self.old.tunnel self.new.tunnel }
         ensures waits { Serving self.old.tunnel → (poll.new.waits ≡ poll.old.waits) ⊎ (NeedsEvents self.old.tunnel × CountsOne poll.old.waits poll.new.waits) }
@@ -352,7 +345,7 @@ impl<R: Host, D: Outlet> SessionLoop<'_, '_, R, D> {
         poll.wait(shorter(self.timeout(), limit))?;
         if poll.events().next().is_some() {
             self.still_since = None;
-        } else if let Side::Local(users) = &mut *self.side {
+        } else if let Service::Users(users, _) = &mut *self.service {
             users.note_waited();
         }
         Ok(())
@@ -361,11 +354,11 @@ impl<R: Host, D: Outlet> SessionLoop<'_, '_, R, D> {
     /// How long it waits for events. None if for as long as none comes.
     fn timeout(&self) -> Option<Duration> {
         let may_idle = self.session.options.idle.is_some() && !self.tunnel.is_empty();
-        let is_left = self.session.is_followed && self.is_lost();
+        let is_left = self.session.reconnects && self.is_lost();
         let glance = (may_idle || is_left).then_some(Duration::from_secs(GLANCE));
-        match &*self.side {
-            Side::Local(users) => shorter(users.limit(), glance),
-            Side::Remote(_) => glance,
+        match &*self.service {
+            Service::Users(users, _) => shorter(users.limit(), glance),
+            Service::Target(_, _, _) => glance,
         }
     }
 
@@ -379,7 +372,7 @@ impl<R: Host, D: Outlet> SessionLoop<'_, '_, R, D> {
         self.accept_users(poll);
         self.note_users();
         self.tunnel.read_wire(LEAST_STRAIGHT);
-        self.tell_peer();
+        self.log_peer();
         self.abort_idle();
         self.heed_drain();
         self.accept_streams(poll);
@@ -388,7 +381,7 @@ impl<R: Host, D: Outlet> SessionLoop<'_, '_, R, D> {
         self.tunnel.flush();
         self.end_lost_wire();
         self.note_pace();
-        self.tell_counts();
+        self.log_counts();
     }
 
     /// Notes whether the line is slow.
@@ -411,9 +404,9 @@ impl<R: Host, D: Outlet> SessionLoop<'_, '_, R, D> {
     }
 
     /// Whether a user may wait who is to be accepted now: those that come for the next session are left to it, and others
-    /// to when there is a place, and the peer has given a sign of life.
+    /// to when there is a slot, and the peer's first frame has come.
     fn has_user(&self) -> bool {
-        let Side::Local(users) = &*self.side else {
+        let Service::Users(users, _) = &*self.service else {
             return false;
         };
         if !users.may_accept(self.tunnel.len()) || self.leaves_users() {
@@ -422,46 +415,46 @@ impl<R: Host, D: Outlet> SessionLoop<'_, '_, R, D> {
         let can_open_later = !self.is_lost()
             && !self.tunnel.is_peer_away()
             && self.tunnel.next_id() < FIRST_EXHAUSTED;
-        let has_place = self.is_heard && self.tunnel.len() < self.places();
-        !can_open_later || has_place && self.tunnel.opens_left() > 0
+        let has_slot = self.has_first_frame && self.tunnel.len() < self.slots();
+        !can_open_later || has_slot && self.tunnel.opens_left() > 0
     }
 
     /// How many connections it may have at once.
-    fn places(&self) -> usize {
-        match self.session.endpoint {
-            Endpoint::Local { .. } => MOST_RECORDS,
-            Endpoint::Remote { workers, .. } => workers as usize,
+    fn slots(&self) -> usize {
+        match &*self.service {
+            Service::Users(_, _) => MOST_RECORDS,
+            Service::Target(_, workers, _) => *workers as usize,
         }
     }
 
     /// Where a stream goes to that is accepted now. None where it has to wait, or none is accepted at all.
     fn free_target(&self) -> Option<SocketAddrV4> {
-        match self.session.endpoint {
-            Endpoint::Remote { target, .. } if self.tunnel.len() < self.places() => Some(target),
+        match &*self.service {
+            Service::Target(target, _, _) if self.tunnel.len() < self.slots() => Some(*target),
             _ => None,
         }
     }
 
-    /// Whether users wait as all places are taken: at a `remote` their streams do.
+    /// Whether users wait as all slots are used: at a `remote` their streams do.
     fn keeps_waiting(&mut self) -> bool
         ensures { self.new.tunnel ≡ self.old.tunnel }
     {
-        if self.tunnel.len() < self.places() || self.is_lost() {
+        if self.tunnel.len() < self.slots() || self.is_lost() {
             return false;
         }
-        match &mut *self.side {
-            Side::Local(users) => users.are_waiting(),
-            Side::Remote(_) => self.tunnel.offered_count() > 0,
+        match &mut *self.service {
+            Service::Users(users, _) => users.are_waiting(),
+            Service::Target(_, _, _) => self.tunnel.offered_count() > 0,
         }
     }
 
     /// Whether this side and all its connections have ended, and nothing more goes over the wire.
     fn is_over(&self) -> bool
-        ensures { result ≡ true → IsOver self.now.tunnel × (length self.now.tunnel.lines.by_id ≡ 0) }
+        ensures { result ≡ true → IsOver self.now.tunnel × (length self.now.tunnel.connections.by_id ≡ 0) }
     {
-        let is_side_over = match &*self.side {
-            Side::Local(users) => users.acceptor.is_over() || self.leaves_users(),
-            Side::Remote(_) => {
+        let is_side_over = match &*self.service {
+            Service::Users(users, _) => users.acceptor.is_over() || self.leaves_users(),
+            Service::Target(_, _, _) => {
                 (self.is_lost() || self.is_leaving) && self.tunnel.offered_count() == 0
             }
         };
@@ -479,7 +472,7 @@ impl<R: Host, D: Outlet> SessionLoop<'_, '_, R, D> {
     fn is_to_be_left(&self) -> bool
         ensures { result ≡ true → is_running self.now.tunnel.engine.session.status ≡ false }
     {
-        self.session.is_followed
+        self.session.reconnects
             && self.is_lost()
             && has_passed(
                 self.still_since,
@@ -490,48 +483,44 @@ impl<R: Host, D: Outlet> SessionLoop<'_, '_, R, D> {
 
     /// Whether users are left to the next session: another one follows, and this one is over, or its peer takes no more streams.
     fn leaves_users(&self) -> bool {
-        self.session.is_followed && (self.is_lost() || self.tunnel.is_peer_away())
+        self.session.reconnects && (self.is_lost() || self.tunnel.is_peer_away())
     }
 
     // ---- events
 
-    /// Notes what the events say that are there.
+    /// Notes the events that are there.
     fn note_all(&mut self, poll: &Poll)
         ensures { Runs self.old.tunnel self.new.tunnel }
     {
         'event: for event in poll.events() {
-            self.note(Said::of(event));
+            self.note(SocketEvent::of(event));
         }
     }
 
-    /// Notes what an event says.
-    fn note(&mut self, said: Said)
+    /// Notes an event.
+    fn note(&mut self, socket_event: SocketEvent)
         ensures { Runs self.old.tunnel self.new.tunnel }
     {
         let ready = Readiness {
-            can_pull: said.can_read,
-            can_push: said.can_write,
-            is_closing: said.is_closing,
+            can_pull: socket_event.can_read,
+            can_push: socket_event.can_write,
+            is_closing: socket_event.is_closing,
         };
-        match said.token {
-            WIRE if self.tunnel.wire().has_failed() => {}
-            WIRE => self.tunnel.note_wire(ready),
-            LISTENER | SIGNALLED => {
-                if let Side::Local(users) = &mut *self.side {
+        match socket_event.source {
+            Source::Link if self.tunnel.wire().has_failed() => {}
+            Source::Link => self.tunnel.note_wire(ready),
+            Source::Listener | Source::Signal => {
+                if let Service::Users(users, _) = &mut *self.service {
                     users.note_event();
                 }
             }
-            token => {
-                if let Ok(id) = u32::try_from(token - STREAMS) {
-                    self.tunnel.note_line(id, ready);
-                }
-            }
+            Source::Stream(id) => self.tunnel.note_connection(id, ready),
         }
     }
 
     // ---- users who come
 
-    /// Opens a stream for each user that waits, as far as there is a place.
+    /// Opens a stream for each user that waits, as far as there is a slot.
     fn accept_users(&mut self, poll: &Poll)
         ensures { Runs self.old.tunnel self.new.tunnel }
     {
@@ -540,7 +529,7 @@ impl<R: Host, D: Outlet> SessionLoop<'_, '_, R, D> {
                 return;
             }
             let open = self.tunnel.len();
-            let Side::Local(users) = &mut *self.side else {
+            let Service::Users(users, _) = &mut *self.service else {
                 return;
             };
             let Some(socket) = users.accept(open) else {
@@ -555,7 +544,7 @@ impl<R: Host, D: Outlet> SessionLoop<'_, '_, R, D> {
         ensures { self.new.tunnel ≡ self.old.tunnel }
     {
         let open = self.tunnel.len();
-        if let Side::Local(users) = &mut *self.side {
+        if let Service::Users(users, _) = &mut *self.service {
             users.note_open(self.context, open);
         }
     }
@@ -566,11 +555,11 @@ impl<R: Host, D: Outlet> SessionLoop<'_, '_, R, D> {
     {
         let context = self.context;
         let origin = context.begin(socket.peer());
-        let head = match self.session.endpoint {
-            Endpoint::Local { names_users, .. } if names_users => socket.proxy_line(),
-            _ => Head::new(),
+        let proxy_header = match &*self.service {
+            Service::Users(_, true) => socket.proxy_header(),
+            _ => ProxyHeader::new(),
         };
-        let device = Socket::connected(socket, origin, head);
+        let device = Socket::connected(socket, origin, proxy_header);
         if let Err(why) = self.tunnel.open(device, &mut Tokens { poll }) {
             self.decline(origin, why);
         }
@@ -595,28 +584,28 @@ impl<R: Host, D: Outlet> SessionLoop<'_, '_, R, D> {
             Declined::Unwatched => {
                 // he counts as one that could not be accepted
                 self.how.accept_failed = true;
-                if let Side::Local(users) = &mut *self.side {
+                if let Service::Users(users, _) = &mut *self.service {
                     users.acceptor.fail_unwatched();
                 }
             }
             Declined::BySession(_) => {}
         }
         let is_lost = self.is_lost();
-        if let Side::Local(users) = &mut *self.side {
+        if let Service::Users(users, _) = &mut *self.service {
             if is_lost && users.is_endless() {
                 users.acceptor.stop();
             }
         }
-        context.tell(Event::Declined(origin, declined));
+        context.log(Event::Declined(origin, declined));
     }
 
     // ---- streams that come
 
-    /// Tells the peer, once, that no more of its streams are taken, if that was asked for.
+    /// Sends Go Away, once, if it drains.
     fn heed_drain(&mut self)
         ensures { Runs self.old.tunnel self.new.tunnel }
     {
-        if !self.is_leaving && !self.is_lost() && self.side.is_drained() {
+        if !self.is_leaving && !self.is_lost() && self.service.is_drained() {
             let _ = self.tunnel.go_away();
             self.is_leaving = true;
         }
@@ -640,13 +629,13 @@ impl<R: Host, D: Outlet> SessionLoop<'_, '_, R, D> {
     {
         let context = self.context;
         let origin = context.begin(self.tunnel.wire().socket.peer());
-        let socket = match begin_call(context.rt, SocketAddr::V4(target)) {
+        let socket = match begin_connect(context.rt, SocketAddr::V4(target)) {
             Ok(socket) => socket,
             Err(error) => {
                 if self.tunnel.reject() {
-                    let why = Reason::of_call(&error);
-                    context.tell(Event::Unreached(target, why));
-                    self.tell_ended(origin, Ending::ConnectionFailed, Some(why));
+                    let why = Reason::of_connect(&error);
+                    context.log(Event::Unreached(target, why));
+                    self.log_ended(origin, Ending::ConnectionFailed, Some(why));
                 }
                 return;
             }
@@ -659,16 +648,16 @@ impl<R: Host, D: Outlet> SessionLoop<'_, '_, R, D> {
             Ok(_) => {}
             Err(NotJoined::OutOfMemory(_)) => {
                 self.how.lacked_memory = true;
-                self.tell_ended(origin, Ending::OutOfMemory, None);
+                self.log_ended(origin, Ending::OutOfMemory, None);
             }
-            Err(_) => self.tell_ended(origin, Ending::ConnectionFailed, None),
+            Err(_) => self.log_ended(origin, Ending::ConnectionFailed, None),
         }
     }
 
     /// A connection to the target was never there, for this reason.
-    fn tell_ended(&self, origin: Origin, ending: Ending, why: Option<Reason>) {
+    fn log_ended(&self, origin: Origin, ending: Ending, why: Option<Reason>) {
         let ended = EndedConnection::of_nothing(ending, why);
-        self.context.tell(Event::Ended(origin, ended));
+        self.context.log(Event::Ended(origin, ended));
     }
 
     // ---- bytes
@@ -686,7 +675,7 @@ impl<R: Host, D: Outlet> SessionLoop<'_, '_, R, D> {
         }
     }
 
-    /// Serves the connection whose turn it is, and lets go of it if it is over. Whether another may be served.
+    /// Serves the connection whose turn it is, and drops it if it is over. Whether another may be served.
     fn serve_next(&mut self) -> bool
         ensures runs { Runs self.old.tunnel self.new.tunnel }
         ensures turns { ServesOne self.old.tunnel self.new.tunnel }
@@ -733,45 +722,45 @@ impl<R: Host, D: Outlet> SessionLoop<'_, '_, R, D> {
             return;
         }
         self.watched_at = now;
-        'line: for place in 0..self.tunnel.len() {
-            let id = self.tunnel.id_at(place);
+        'connection: for index in 0..self.tunnel.len() {
+            let id = self.tunnel.id_at(index);
             if let Some(socket) = id.and_then(|id| self.tunnel.device(id)) {
                 socket.abort_if_idle(now, Duration::from_secs(seconds as u64));
             }
         }
     }
 
-    /// Lets go of a connection of which neither way is open.
+    /// Drops a connection of which neither direction is open.
     fn forget_if_over(&mut self, id: u32)
         ensures { Runs self.old.tunnel self.new.tunnel }
     {
-        if self.tunnel.is_line_over(id) {
+        if self.tunnel.is_connection_over(id) {
             self.forget(id);
         }
     }
 
-    /// Lets go of a connection, and says how it ended.
+    /// Drops a connection, and logs how it ended.
     fn forget(&mut self, id: u32)
         // Nothing of it is left to move.
-        requires over { (line : LineValue) → line_of id self.old.tunnel.lines ≡ Some line → (is_over line.ways ≡ true) ⊎ (is_running self.old.tunnel.engine.session.status ≡ false) }
+        requires over { (connection : ConnectionValue) → connection_of id self.old.tunnel.connections ≡ Some connection → (is_over connection.directions ≡ true) ⊎ (is_running self.old.tunnel.engine.session.status ≡ false) }
         ensures runs { Runs self.old.tunnel self.new.tunnel }
         ensures status { self.new.tunnel.engine.session.status ≡ self.old.tunnel.engine.session.status }
     {
         let context = self.context;
-        let ways = self.tunnel.ways(id);
+        let directions = self.tunnel.directions(id);
         let is_lost = self.is_lost();
-        if let (Some(socket), Some(ways)) = (self.tunnel.forget(id), ways) {
+        if let (Some(socket), Some(directions)) = (self.tunnel.forget(id), directions) {
             self.add_passed(socket.take_passed());
-            let ended = socket.ended(ways, is_lost);
+            let ended = socket.ended(directions, is_lost);
             self.how.lacked_memory |= ended.lacked_memory();
-            if let (Some(why), Endpoint::Remote { target, .. }) = (
+            if let (Some(why), Service::Target(target, _, _)) = (
                 socket.unreached(),
-                self.session.endpoint,
+                &*self.service,
             ) {
-                context.tell(Event::Unreached(target, why));
+                context.log(Event::Unreached(*target, why));
             }
             if let Some(origin) = socket.origin {
-                context.tell(Event::Ended(origin, ended));
+                context.log(Event::Ended(origin, ended));
             }
         }
     }
@@ -799,75 +788,74 @@ impl<R: Host, D: Outlet> SessionLoop<'_, '_, R, D> {
         }
     }
 
-    // ---- what is told
+    // ---- what is logged
 
-    /// Tells, once each, that the peer has come, where others follow its session, and that the session was lost. One who has
-    /// broken a rule gives no sign of life.
-    fn tell_peer(&mut self)
+    /// Logs, once each, that the peer has come, where it reconnects, and that the session was lost. A peer that has
+    /// broken a rule has sent no frame.
+    fn log_peer(&mut self)
         ensures { self.new.tunnel ≡ self.old.tunnel }
     {
         let is_broken = matches!(self.tunnel.status(), Status::Broken(_));
         let pulled = self.tunnel.wire().pulled;
         let has_spoken = !is_broken && is_sign(0, pulled, self.tunnel.unframed());
-        self.is_heard |= has_spoken;
-        let is_followed = self.session.is_followed;
-        if is_followed && has_spoken && !self.how.is_coming_told {
-            self.how.is_coming_told = true;
-            self.context
-                .tell(Event::Notice(Notice::PeerCame(self.peer)));
+        self.has_first_frame |= has_spoken;
+        let reconnects = self.session.reconnects;
+        if reconnects && has_spoken && !self.how.is_arrival_logged {
+            self.how.is_arrival_logged = true;
+            self.context.log(Event::Notice(Notice::PeerCame(self.peer)));
         }
         if self.is_lost() {
-            self.tell_end();
+            self.log_end();
         }
     }
 
-    /// Tells, once, that the session was lost or has ended, and which rule was broken. Where it was lost and none follows, users
-    /// are left to other places.
-    fn tell_end(&mut self)
+    /// Logs, once, that the session was lost or has ended, and which rule was broken. Where it was lost and none follows, users
+    /// are left to other links.
+    fn log_end(&mut self)
         ensures { self.new.tunnel ≡ self.old.tunnel }
     {
-        if self.is_end_told {
+        if self.is_end_logged {
             return;
         }
-        self.is_end_told = true;
+        self.is_end_logged = true;
         let (context, peer) = (self.context, self.peer);
         if let Status::Broken(fault) = self.tunnel.status() {
-            context.tell(Event::Reason(Notice::Broke(fault.number(), peer)));
+            context.log(Event::Reason(Notice::Broke(fault.number(), peer)));
         }
-        let is_followed = self.session.is_followed;
-        context.tell(Event::SessionEnded(self.places(), is_followed));
-        if is_followed || !self.is_lost() {
+        let reconnects = self.session.reconnects;
+        context.log(Event::SessionEnded(self.slots(), reconnects));
+        if reconnects || !self.is_lost() {
             return;
         }
-        if let Side::Local(users) = &mut *self.side {
+        if let Service::Users(users, _) = &mut *self.service {
             users.note_loss();
         }
-        context.tell(Event::Notice(match self.is_heard {
+        context.log(Event::Notice(match self.has_first_frame {
             true => Notice::PeerGone(peer),
             false => Notice::PeerGoneSilent(peer),
         }));
     }
 
-    /// Tells how many bytes have passed, where users begin to wait for a place, or wait no more, and of the streams that were
-    /// rejected for want of memory, of each once.
-    fn tell_counts(&mut self)
+    /// Counts the bytes that have passed, logs where users begin to wait for a slot, or wait no more, and the streams that were
+    /// rejected, as memory was out, each once.
+    fn log_counts(&mut self)
         ensures { self.new.tunnel ≡ self.old.tunnel }
     {
         let (context, (to_peer, from_peer)) = (self.context, self.passed);
         if to_peer > 0 || from_peer > 0 {
-            context.tell(Event::Passed(to_peer, from_peer));
+            context.log(Event::Passed(to_peer, from_peer));
             self.passed = (0, 0);
         }
         let is_full = self.keeps_waiting();
         if is_full != self.is_full {
             self.is_full = is_full;
-            context.tell(Event::Waiting(is_full, self.places()));
+            context.log(Event::Waiting(is_full, self.slots()));
         }
         let rejected = self.tunnel.no_memory();
         if rejected > self.rejected {
             let more = rejected - self.rejected;
             self.rejected = rejected;
-            context.tell(Event::Rejected(more, self.peer));
+            context.log(Event::Rejected(more, self.peer));
         }
     }
 
@@ -876,16 +864,16 @@ impl<R: Host, D: Outlet> SessionLoop<'_, '_, R, D> {
     /// How the session ended.
     fn ended(&self, outcome: Outcome) -> SessionEnd {
         let mut how = self.how;
-        if let Side::Local(users) = &*self.side {
+        if let Service::Users(users, _) = &*self.service {
             let failure = users.acceptor.failure();
-            how.accept_failed |= !self.session.is_followed && failure.is_some();
+            how.accept_failed |= !self.session.reconnects && failure.is_some();
             how.accept_reason = failure.unwrap_or(None);
         }
         if let Status::Broken(fault) = self.tunnel.status() {
             how.broken = Some(fault.number());
         }
         how.lacked_memory |= self.tunnel.no_memory() > 0;
-        how.is_unwatched = outcome == Outcome::Unwatched;
+        how.lacks_peer = outcome == Outcome::Unwatched;
         how.is_peer_away = self.tunnel.is_peer_away();
         how
     }
@@ -894,8 +882,8 @@ impl<R: Host, D: Outlet> SessionLoop<'_, '_, R, D> {
     /// that, or no more streams were to be taken, the peer isn't waited for without end.
     fn close_limit(&self) -> Option<Duration> {
         match self.session.options.ping {
-            Some(seconds) if !self.session.is_followed => Some(Duration::from_secs(seconds as u64)),
-            None if !self.session.is_followed && !self.side.is_drained() => None,
+            Some(seconds) if !self.session.reconnects => Some(Duration::from_secs(seconds as u64)),
+            None if !self.session.reconnects && !self.service.is_drained() => None,
             _ => Some(Duration::from_secs(PATIENCE)),
         }
     }

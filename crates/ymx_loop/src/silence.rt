@@ -9,14 +9,14 @@ use std::time::{Clock, Duration};
 use ymx_engine::Device;
 use ymx_sockets::{NoEvents, has_passed, time_of};
 
-/// How many bytes that come while a payload is under way are a sign: 4,096 of it, after a header at most.
+/// How many bytes that come while a payload is under way count as activity: 4,096 of it, after a header at most.
 const LONG_PART: u64 = 4_108;
 
-/// How many bytes may stand before a ping that was asked for, until the system has taken it: what a tunnel may have read
+/// How many bytes may stand before a ping that is due, until the system has taken it: what a tunnel may have read
 /// of its connections for the wire.
 const AHEAD: u64 = 262_336;
 
-/// The peer was silent for too long, though it was asked for a sign. Only [`Silence::due`] makes one.
+/// The peer was silent for too long, though it was pinged. Only [`Silence::due`] makes one.
 #[derive(Drop)]
 pub(crate) struct SilentPeer {
     seal: (),
@@ -27,7 +27,7 @@ pub(crate) struct SilentPeer {
 pub(crate) enum Cause {
     /// The peer counts as gone.
     Silent(SilentPeer),
-    /// The system refused to tell of events.
+    /// The system refused to report events.
     Unwatched(NoEvents),
 }
 
@@ -36,23 +36,23 @@ pub(crate) enum Cause {
 pub(crate) enum Due {
     /// Nothing, before so much time has gone by.
     In(Duration),
-    /// It is to be asked for a sign.
+    /// A ping is due.
     Ping,
     /// It counts as gone.
     Loss(SilentPeer),
 }
 
-/// When the peer last gave a sign of life, and whether it was asked for one since. A whole frame is a sign, and so are 4,096
-/// bytes of the payload of one: who doesn't speak yamux gives none, and a slow line is not cut within a long frame.
+/// When the peer was last active, and whether it was pinged since. A whole frame is activity, and so are 4,096
+/// bytes of the payload of one: a stranger to yamux shows none, and a slow line is not cut within a long frame.
 #[derive(Clone, Copy)]
 pub(crate) struct Silence {
     /// How long it may be silent before it is asked, and then before it counts as gone.
     pub(crate) patience: Duration,
-    /// When it last gave a sign or was asked for one, by the clock.
+    /// When it was last active or pinged, by the clock.
     since: Duration,
     was_asked: bool,
-    /// How many bytes had come of it when it last gave a sign.
-    heard: u64,
+    /// How many bytes had come of it when it was last active.
+    received: u64,
     /// How many bytes the system had taken for it when it was last looked at.
     sent: u64,
     /// With so many the ping that it was last asked by is among them.
@@ -60,30 +60,35 @@ pub(crate) struct Silence {
 }
 
 impl Silence {
-    /// It gives a sign at this time, and may be silent for so many seconds. None where nobody listens for silence, or the time
+    /// It is active at this time, and may be silent for so many seconds. None where silence doesn't matter, or the time
     /// is unknown.
     pub(crate) fn new(now: Option<Duration>, seconds: Option<u32>) -> Option<Silence> {
         Some(Silence {
             patience: Duration::from_secs(seconds? as u64),
             since: now?,
             was_asked: false,
-            heard: 0,
+            received: 0,
             sent: 0,
             sent_with_ping: 0,
         })
     }
 
     /// So many bytes have come of the peer, of which this many stand after the last whole frame, or a payload is under way.
-    /// With a sign of life the time begins anew.
-    pub(crate) fn hear(&mut self, now: Option<Duration>, heard: u64, unframed: Option<usize>) {
-        if is_sign(self.heard, heard, unframed) {
-            self.heard = heard;
+    /// With activity the time begins anew.
+    pub(crate) fn on_bytes(
+        &mut self,
+        now: Option<Duration>,
+        received: u64,
+        unframed: Option<usize>,
+    ) {
+        if is_sign(self.received, received, unframed) {
+            self.received = received;
             self.was_asked = false;
             self.since = now.unwrap_or(self.since);
         }
     }
 
-    /// The system has taken so many bytes for the peer. While the ping may stand behind these, that they go out is a sign too.
+    /// The system has taken so many bytes for the peer. While the ping may stand after these, that they go out is activity too.
     pub(crate) fn note_sent(&mut self, now: Option<Duration>, sent: u64) {
         if self.sent < sent && self.sent < self.sent_with_ping {
             self.since = now.unwrap_or(self.since);
@@ -91,7 +96,7 @@ impl Silence {
         self.sent = sent;
     }
 
-    /// What is due now. Where the time is unknown, nothing is. Who is to be asked for a sign has as long again.
+    /// What is due now. Where the time is unknown, nothing is. A peer that is pinged has as long again.
     pub(crate) fn due(&mut self, now: Option<Duration>) -> Due {
         let Some(now) = now else {
             return Due::In(self.patience);
@@ -145,7 +150,7 @@ impl Pace {
     }
 }
 
-/// Whether the peer has given a sign of life since so many bytes of it had come: `bytes` have by now, of which this many stand
+/// Whether the peer was active since so many bytes of it had come: `bytes` have by now, of which this many stand
 /// after the last whole frame, or a payload is under way.
 pub(crate) fn is_sign(before: u64, bytes: u64, unframed: Option<usize>) -> bool
     ensures { result ≡ is_sign before bytes unframed }
@@ -156,7 +161,7 @@ pub(crate) fn is_sign(before: u64, bytes: u64, unframed: Option<usize>) -> bool
     }
 }
 
-/// What is due after so long a silence. A loss only after a sign that was asked for.
+/// What is due after so long a silence. A loss only after a ping.
 fn due_after(patience: Duration, passed: Duration, was_asked: bool) -> Due
     ensures { IsDueAfter (as_nanos patience) (as_nanos passed) was_asked result }
 {

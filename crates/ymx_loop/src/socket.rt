@@ -10,10 +10,12 @@ use std::cell::Cell;
 use std::io;
 use std::io::{ErrorKind, IoSlice};
 use std::time::Duration;
-use ymx_engine::{Device, Flow, Pulled, Pushed, Readiness, Ways};
+use ymx_engine::{Device, Directions, Flow, Pulled, Pushed, Readiness};
 use ymx_page::{EndedConnection, Ending, Origin, Passed};
 use ymx_policy::Reason;
-use ymx_sockets::{Head, Host, NoEvents, Poll, Stream, TcpConnection, has_passed, time_of};
+use ymx_sockets::{
+    Host, NoEvents, Poll, ProxyHeader, Source, Stream, TcpConnection, has_passed, time_of,
+};
 
 /// How many bytes that still come are read at once.
 const DROPPED: usize = 8_192;
@@ -40,7 +42,7 @@ enum SocketFault {
     Push,
 }
 
-/// What events and calls have said of a socket.
+/// What events and calls have shown of a socket.
 #[derive(Clone, Copy)]
 struct Marks {
     /// It may have bytes now, or its end.
@@ -52,7 +54,7 @@ struct Marks {
 }
 
 impl Marks {
-    /// An event says this.
+    /// An event reports this.
     fn note(&mut self, ready: Readiness)
         ensures { self.new ≡ record { may_pull = self.old.may_pull || ready.can_pull; may_push = self.old.may_push || ready.can_push; is_closing = self.old.is_closing || ready.is_closing } }
     {
@@ -61,7 +63,7 @@ impl Marks {
         self.is_closing |= ready.is_closing;
     }
 
-    /// A call for so many bytes answered this. One that gave fewer says that none are left, unless the end is near.
+    /// A call for so many bytes answered this. One that gave fewer shows that none are left, unless the end is near.
     fn note_pulled(&mut self, pulled: Pulled, room: usize)
         ensures { self.new ≡ record self.old { may_pull = self.old.may_pull && may_have_more pulled room self.old.is_closing } }
     {
@@ -82,7 +84,7 @@ impl Marks {
     }
 }
 
-/// A socket, and what it has moved. A contract sees the bytes that its stream tells, and whether it said that no more
+/// A socket, and what it has moved. A contract sees the bytes that its stream records, and whether it said that no more
 /// come, whether its end was passed on, whether it has failed, whether it was shut, and its marks.
 #[derive(Drop)]
 pub(crate) struct Socket<S: Stream = TcpConnection> {
@@ -92,7 +94,7 @@ pub(crate) struct Socket<S: Stream = TcpConnection> {
     state: Cell<ConnectState>,
     /// What was first the matter with a call of it.
     failure: Option<SocketFault>,
-    /// Why, where the system says so.
+    /// Why, where the system gives a reason.
     reason: Option<Reason>,
     /// How many bytes it gave. It stays at the greatest `u64`.
     pub(crate) pulled: u64,
@@ -105,8 +107,8 @@ pub(crate) struct Socket<S: Stream = TcpConnection> {
     /// It was shut both ways.
     was_shut: bool,
     marks: Marks,
-    head: Head,
-    /// How many bytes it had given and taken when that was last told.
+    proxy_header: ProxyHeader,
+    /// How many bytes it had given and taken when that was last counted.
     passed: Cell<(u64, u64)>,
     /// How many had moved as it was last looked at, and since when no more have.
     still: Cell<(u64, Option<Duration>)>,
@@ -114,21 +116,26 @@ pub(crate) struct Socket<S: Stream = TcpConnection> {
 
 impl<S: Stream + Drop> Socket<S> {
     /// The connection of a user, which is there. It may be used at once, and gives these bytes before its own.
-    pub(crate) fn connected(socket: S, origin: Origin, head: Head) -> Socket<S> {
-        Socket::new(socket, Some(origin), ConnectState::Connected, head)
+    pub(crate) fn connected(socket: S, origin: Origin, proxy_header: ProxyHeader) -> Socket<S> {
+        Socket::new(socket, Some(origin), ConnectState::Connected, proxy_header)
     }
 
-    /// The connection of a session, which is there, and of which this poll tells under this token.
-    pub(crate) fn wire(socket: S, poll: &Poll, token: usize) -> Result<Socket<S>, NoEvents> {
-        let mut wire = Socket::new(socket, None, ConnectState::Connected, Head::new());
-        wire.socket.register(poll, token)?;
+    /// The connection of a session, which is there, and which this poll reports.
+    pub(crate) fn wire(socket: S, poll: &Poll) -> Result<Socket<S>, NoEvents> {
+        let mut wire = Socket::new(socket, None, ConnectState::Connected, ProxyHeader::new());
+        wire.socket.register(poll, Source::Link)?;
         Ok(wire)
     }
 
     /// A connection that was begun. It may be there at once, as on the same machine: then it may take bytes. So may one
     /// that can't be made, so that it fails.
     pub(crate) fn begun(socket: S, origin: Origin) -> Socket<S> {
-        let mut begun = Socket::new(socket, Some(origin), ConnectState::Connecting, Head::new());
+        let mut begun = Socket::new(
+            socket,
+            Some(origin),
+            ConnectState::Connecting,
+            ProxyHeader::new(),
+        );
         begun.look();
         begun.marks.may_pull = false;
         begun.marks.may_push = begun.state.get() != ConnectState::Connecting;
@@ -136,7 +143,12 @@ impl<S: Stream + Drop> Socket<S> {
     }
 
     /// One of which nothing was moved.
-    fn new(socket: S, origin: Option<Origin>, state: ConnectState, head: Head) -> Socket<S> {
+    fn new(
+        socket: S,
+        origin: Option<Origin>,
+        state: ConnectState,
+        proxy_header: ProxyHeader,
+    ) -> Socket<S> {
         Socket {
             origin,
             socket,
@@ -153,17 +165,17 @@ impl<S: Stream + Drop> Socket<S> {
                 may_push: true,
                 is_closing: false,
             },
-            head,
+            proxy_header,
             passed: Cell::new((0, 0)),
             still: Cell::new((0, None)),
         }
     }
 
-    /// From now on this poll tells of it under this token. False where the system refuses.
-    pub(crate) fn register(&mut self, poll: &Poll, token: usize) -> bool
+    /// From now on this poll reports it as this source. False where the system refuses.
+    pub(crate) fn register(&mut self, poll: &Poll, source: Source) -> bool
         ensures { ⟦<Socket<S> as Device>⟧.seen self.new ≡ ⟦<Socket<S> as Device>⟧.seen self.old }
     {
-        self.socket.register(poll, token).is_ok()
+        self.socket.register(poll, source).is_ok()
     }
 
     /// Whether no more bytes come from it, as it said so or failed.
@@ -191,7 +203,7 @@ impl<S: Stream + Drop> Socket<S> {
         )
     }
 
-    /// Aborts it where no byte has moved for so long by this time: each call of it fails then, and an event tells of that.
+    /// Aborts it where no byte has moved for so long by this time: each call of it fails then, and an event reports that.
     pub(crate) fn abort_if_idle(&self, now: Option<Duration>, limit: Duration) {
         let moved = self.pulled.saturating_add(self.pushed);
         let (before, since) = self.still.get();
@@ -203,11 +215,11 @@ impl<S: Stream + Drop> Socket<S> {
         }
     }
 
-    /// How its connection ended, whose ways stand so, in a session that was lost or wasn't.
-    pub(crate) fn ended(&self, ways: Ways, is_lost: bool) -> EndedConnection {
+    /// How its connection ended, whose directions stand so, in a session that was lost or wasn't.
+    pub(crate) fn ended(&self, directions: Directions, is_lost: bool) -> EndedConnection {
         let of_stream = if is_lost { Ending::Lost } else { Ending::Reset };
         let (to_peer, from_peer) = match self.failure {
-            _ if ways.lacked_memory => (Ending::OutOfMemory, of_stream),
+            _ if directions.lacked_memory => (Ending::OutOfMemory, of_stream),
             _ if self.state.get() == ConnectState::Idle => (Ending::Idle, Ending::Idle),
             Some(SocketFault::Pull) => (Ending::ConnectionFailed, of_stream),
             Some(SocketFault::Push) => (Ending::ConnectionFailed, Ending::ConnectionFailed),
@@ -216,11 +228,11 @@ impl<S: Stream + Drop> Socket<S> {
         EndedConnection {
             to_peer: Passed {
                 bytes: self.pulled,
-                ending: ending_of(ways.to_peer, to_peer),
+                ending: ending_of(directions.to_peer, to_peer),
             },
             from_peer: Passed {
                 bytes: self.pushed,
-                ending: ending_of(ways.from_peer, from_peer),
+                ending: ending_of(directions.from_peer, from_peer),
             },
             reason: self.reason,
         }
@@ -273,23 +285,23 @@ impl<S: Stream + Drop> Socket<S> {
     }
 
     /// Moves the first bytes that stand before its own into the front of this buffer. How many.
-    fn give_head(&mut self, buffer: &mut [u8]) -> usize
+    fn give_proxy_header(&mut self, buffer: &mut [u8]) -> usize
         ensures within { result ≤ length buffer.new }
-        ensures some { 0 < length buffer.old → 0 < length self.old.head.items → 0 < result }
-        ensures given { self.old.head.items ≡ take result buffer.new ++ self.new.head.items }
-        ensures rest { self.new ≡ record self.old { head = self.new.head } }
+        ensures some { 0 < length buffer.old → 0 < length self.old.proxy_header.items → 0 < result }
+        ensures given { self.old.proxy_header.items ≡ take result buffer.new ++ self.new.proxy_header.items }
+        ensures rest { self.new ≡ record self.old { proxy_header = self.new.proxy_header } }
     {
-        let count = self.head.len().min(buffer.len());
-        let (given, left) = self.head.as_slice().split_at(count);
+        let count = self.proxy_header.len().min(buffer.len());
+        let (given, left) = self.proxy_header.as_slice().split_at(count);
         buffer[..count].copy_from_slice(given);
-        let mut head = Head::new();
-        let _ = head.try_extend_from_slice(left);
-        self.head = head;
+        let mut proxy_header = ProxyHeader::new();
+        let _ = proxy_header.try_extend_from_slice(left);
+        self.proxy_header = proxy_header;
         count
     }
 
-    /// What came of a read into a buffer that has room. Where a failure was told by a write, a read finds an end.
-    fn hear_read(&mut self, read: io::Result<usize>) -> Pulled
+    /// What came of a read into a buffer that has room. Where a write reported a failure, a read finds an end.
+    fn on_read(&mut self, read: io::Result<usize>) -> Pulled
         ensures count { MatchResult read (λ count. pulled_count result ≡ count) (λ _. pulled_count result ≡ 0) }
         ensures some { gives result ≡ true → 0 < pulled_count result }
         ensures ok { result ≡ Pulled.Ended → IsOk read × (pulled_count result ≡ 0) }
@@ -319,7 +331,7 @@ impl<S: Stream + Drop> Socket<S> {
     }
 
     /// What came of a write. `is_empty` says whether there was nothing to write.
-    fn hear_written(&mut self, written: io::Result<usize>, is_empty: bool) -> Pushed
+    fn on_written(&mut self, written: io::Result<usize>, is_empty: bool) -> Pushed
         ensures within { (bytes : List ℕ) → WritesAtMost written bytes → pushed_count result ≤ length bytes }
         ensures some { takes result ≡ true → is_empty ≡ false → 0 < pushed_count result }
         ensures count { MatchResult written (λ count. pushed_count result ≡ count) (λ _. pushed_count result ≡ 0) }
@@ -372,7 +384,7 @@ impl<S: Stream + Drop> Device for Socket<S> {
     ghost use Rattle.std.specs.Io.KnownBytes.{prepend_known};
     ghost use Rattle.ymx_loop.specs.Sockets.{marks_of};
 
-    ghost seen = { λ s. record { left = prepend_known s.head.items (S.left s.socket); had = S.had s.socket; over = Some s.has_ended; ended = Some s.was_finished; failed = Some (is_some s.failure); shut = Some s.was_shut; marks = marks_of s.marks; calls = 0 } };
+    ghost seen = { λ s. record { left = prepend_known s.proxy_header.items (S.left s.socket); had = S.had s.socket; over = Some s.has_ended; ended = Some s.was_finished; failed = Some (is_some s.failure); shut = Some s.was_shut; marks = marks_of s.marks; calls = 0 } };
 
     #[tactic(auto, using(crate::proofs::Bytes::none_consumed, crate::proofs::Bytes::all_kept, crate::proofs::Bytes::head_given, crate::proofs::Bytes::own_given))]
     fn pull(&mut self, buffer: &mut [u8]) -> Pulled
@@ -382,10 +394,10 @@ impl<S: Stream + Drop> Device for Socket<S> {
             Some(true) => Pulled::Failed,
             Some(false) => Pulled::NotNow,
             None if buffer.is_empty() => Pulled::NotNow,
-            None if !self.head.is_empty() => Pulled::Gave(self.give_head(buffer)),
+            None if !self.proxy_header.is_empty() => Pulled::Gave(self.give_proxy_header(buffer)),
             None => {
                 let read = self.socket.read(buffer);
-                self.hear_read(read)
+                self.on_read(read)
             }
         };
         self.marks.note_pulled(pulled, buffer.len());
@@ -401,7 +413,7 @@ impl<S: Stream + Drop> Device for Socket<S> {
             Some(false) => Pushed::NotNow,
             None => {
                 let written = self.socket.write(bytes);
-                self.hear_written(written, bytes.is_empty())
+                self.on_written(written, bytes.is_empty())
             }
         };
         self.marks
@@ -418,7 +430,7 @@ impl<S: Stream + Drop> Device for Socket<S> {
             Some(false) => Pushed::NotNow,
             None => {
                 let written = self.socket.write_pieces(pieces);
-                self.hear_written(written, fit(pieces, 0))
+                self.on_written(written, fit(pieces, 0))
             }
         };
         self.marks.note_pushed(pushed, fit(pieces, pushed.count()));

@@ -102,7 +102,7 @@ pub enum Call<B> {
     Reset(u32),
     /// Give a stream up.
     Forget(u32),
-    /// Ask the peer for a sign of life.
+    /// A ping: asks the peer for an answer.
     Ping,
     /// Whether the answer to this ping is back.
     Ponged(u32),

@@ -182,7 +182,7 @@ pub fn reserve_queue<T, V>(
     }
 }
 
-/// The item goes behind those of a queue. A refusal drops it, and leaves the others: it comes only where the queue was
+/// The item goes after those of a queue. A refusal drops it, and leaves the others: it comes only where the queue was
 /// full.
 ///
 /// `RefusedAllocation` where the queue must grow and the allocator has no memory.
@@ -236,7 +236,7 @@ pub fn share<T>(whole: &Arc<T, Global>) -> Result<Arc<T, Global>, RefusedAllocat
     }
 }
 
-/// The item goes behind the others. A refusal drops it, and leaves the others.
+/// The item goes after the others. A refusal drops it, and leaves the others.
 pub fn push<T: Drop>(vec: &mut Vec<T>, item: T) -> Result<(), RefusedAllocation>
     ensures items { vec.new.items ≡ (if is_ok result then vec.old.items ++ item ∷ [] else vec.old.items) }
 {
@@ -246,7 +246,7 @@ pub fn push<T: Drop>(vec: &mut Vec<T>, item: T) -> Result<(), RefusedAllocation>
     }
 }
 
-/// The bytes go behind the others. A refusal leaves those.
+/// The bytes go after the others. A refusal leaves those.
 pub fn extend(vec: &mut Vec<u8>, bytes: &[u8]) -> Result<(), RefusedAllocation>
     ensures items { vec.new.items ≡ (if is_ok result then vec.old.items ++ bytes.now else vec.old.items) }
 {

@@ -1,4 +1,4 @@
-//! Want of memory, with its cause. A [`RefusedAllocation`] is made in this crate alone, and only where the allocator has
+//! Out-of-memory errors, with their cause. A [`RefusedAllocation`] is made in this crate alone, and only where the allocator has
 //! refused. So a function that answers with one has met a refusal, in this call or before.
 //!
 //! A function that takes a count says how much may be asked of it at most, by a number or by what is there (`Bounds`), but

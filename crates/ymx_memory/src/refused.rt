@@ -29,7 +29,7 @@ impl fmt::Debug for RefusedAllocation {
     }
 }
 
-/// Whoever asks no more than the standard library's error gets that.
+/// A caller that asks for the standard library's error alone gets that.
 impl From<RefusedAllocation> for AllocError {
     fn from(_refused: RefusedAllocation) -> AllocError {
         AllocError

@@ -11,7 +11,7 @@ use atomic_table::{Seat, Table, TableRule};
 use indexmap::{IndexMap, IndexSet};
 use std::alloc::Global;
 
-/// Puts the value under its key: in the place of the one that stood there, or behind all others where the key is new.
+/// Puts the value under its key: in the place of the one that stood there, or after all others where the key is new.
 ///
 /// `RefusedAllocation` where a new key needs memory and the allocator has none: the value is dropped, and the map is as
 /// it was.

@@ -7,7 +7,7 @@ use Rattle.std.proofs.lemmas.Bool.Decides.{nat_tests}
 use Rattle.std.proofs.Math.Seq.{take-add}
 use Rattle.ymx_model.specs.devices.Devices.{has_failed, most_failures}
 
--- all that is behind the first ones
+-- all that is after the first ones
 pub whole_end : (count : ℕ) (rest : List ℕ) → take (length rest - count) (drop count rest) ≡ drop count rest
 whole_end count rest = take_all (length rest - count) (drop count rest) (omega (arith, length-drop count rest))
 

@@ -135,6 +135,6 @@ pub enum FrameKind {
     Credit,
     /// Data: a beginning of the unsent bytes.
     Data,
-    /// A Window Update with FIN, behind the last byte (half-close).
+    /// A Window Update with FIN, after the last byte (half-close).
     Fin,
 }

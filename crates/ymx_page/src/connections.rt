@@ -86,7 +86,7 @@ pub struct EndedConnection {
     pub to_peer: Passed,
     /// From the stream to the connection.
     pub from_peer: Passed,
-    /// Why the connection failed, if it did and the system says so.
+    /// Why the connection failed, if it did and the system gives a reason.
     pub reason: Option<Reason>,
 }
 
@@ -101,7 +101,7 @@ impl EndedConnection {
         }
     }
 
-    /// Whether it ended for want of memory.
+    /// Whether it ended because memory was out.
     pub fn lacked_memory(&self) -> bool {
         self.to_peer.ending == Ending::OutOfMemory || self.from_peer.ending == Ending::OutOfMemory
     }

@@ -1,4 +1,4 @@
-//! What is counted of an end since it began.
+//! The counts of an endpoint since it began.
 
 use crate::event::Event;
 use std::alloc::Global;
@@ -15,7 +15,7 @@ pub(crate) const CAUSES: &str = "lost peer_away no_memory unwatched other";
 /// Why a connection to the target may not have been made.
 pub(crate) const REASONS: &str = "refused unreachable timed_out no_port no_descriptor other";
 
-/// What is counted of an end since it began. Each count stays at the greatest `u64`.
+/// The counts of an endpoint since it began. Each count stays at the greatest `u64`.
 #[derive(Drop)]
 pub struct Counts {
     /// When each connection began that is open, by its number.
@@ -40,9 +40,9 @@ pub(crate) struct Numbers {
     /// The last session was lost or has ended, and none follows.
     is_lost: bool,
     pub(crate) sessions_ended: u64,
-    /// The last call to the peer failed.
+    /// The last connect to the peer failed.
     is_unreachable: bool,
-    pub(crate) places: u64,
+    pub(crate) slots: u64,
     pub(crate) waiting: u64,
     pub(crate) rejected: u64,
     pub(crate) system_refusals: u64,
@@ -65,7 +65,7 @@ impl Counts {
         add(&mut self.numbers.begun, 1);
         add(&mut self.numbers.open, 1);
         if let Some(now) = now {
-            // Where there is no memory for it, this one's age is not told.
+            // Where there is no memory for it, this one's age isn't shown.
             let _ = self.open_since.insert(self.numbers.begun, now);
         }
         self.numbers.begun
@@ -97,16 +97,16 @@ impl Counts {
             }
             Event::Waiting(true, _) => add(&mut self.numbers.waiting, 1),
             Event::Waiting(false, _) => take(&mut self.numbers.waiting, 1),
-            Event::Called(has_succeeded) => self.numbers.is_unreachable = !has_succeeded,
-            Event::SessionBegan(places) => {
+            Event::Dialed(has_succeeded) => self.numbers.is_unreachable = !has_succeeded,
+            Event::SessionBegan(slots) => {
                 add(&mut self.numbers.sessions_begun, 1);
-                add(&mut self.numbers.places, *places as u64);
+                add(&mut self.numbers.slots, *slots as u64);
                 self.numbers.is_lost = false;
             }
-            Event::SessionEnded(places, is_followed) => {
+            Event::SessionEnded(slots, reconnects) => {
                 add(&mut self.numbers.sessions_ended, 1);
-                take(&mut self.numbers.places, *places as u64);
-                self.numbers.is_lost = !is_followed && self.sessions() == 0;
+                take(&mut self.numbers.slots, *slots as u64);
+                self.numbers.is_lost = !reconnects && self.sessions() == 0;
             }
             Event::Rejected(count, _) => add(&mut self.numbers.rejected, *count),
             Event::Refused(_, _) => add(&mut self.numbers.system_refusals, 1),

@@ -1,4 +1,4 @@
-//! All that is told of an end, or counted.
+//! All that an endpoint logs or counts.
 
 use crate::connections::{Declined, EndedConnection, Ending, Origin, Passed};
 use arrayvec::ArrayString;
@@ -14,7 +14,7 @@ const LINE: usize = 1_000;
 /// A line, which takes no memory.
 pub type Line = ArrayString<LINE>;
 
-/// All that is told of an end, or counted.
+/// All that an endpoint logs or counts.
 #[derive(Clone, Copy)]
 pub enum Event {
     /// What went wrong: on the device for faults.
@@ -33,25 +33,25 @@ pub enum Event {
     Unreached(SocketAddrV4, Reason),
     /// So many bytes have passed to the peer and from it.
     Passed(u64, u64),
-    /// Users begin to wait as all of so many places are taken, or wait no more.
+    /// Users begin to wait as all of so many slots are used, or wait no more.
     Waiting(bool, usize),
-    /// A call to the peer has succeeded, or failed.
-    Called(bool),
-    /// A session with a peer begins, with so many places.
+    /// A connect to the peer has succeeded, or failed.
+    Dialed(bool),
+    /// A session with a peer begins, with so many slots.
     SessionBegan(usize),
-    /// One with so many places was lost or has ended, and whether others follow it.
+    /// One with so many slots was lost or has ended, and whether another follows it.
     SessionEnded(usize, bool),
-    /// So many streams of the peer at this address, if it is known, were rejected for want of memory.
+    /// So many streams of the peer at this address, if it is known, were rejected, as memory was out.
     Rejected(u64, Option<SocketAddrV4>),
 }
 
 impl Event {
-    /// Whether it is told on the device for faults.
+    /// Whether it goes to the device for faults.
     pub fn is_fault(&self) -> bool {
         matches!(self, Event::Fault(_))
     }
 
-    /// The line that tells of it, now if the time is known. None where it isn't told.
+    /// Its line of the log, now if the time is known. None where it has none.
     pub fn line(&self, is_verbose: bool, now: Option<Instant>) -> Option<Line> {
         let mut line = Line::new();
         let _ = match self {
@@ -61,11 +61,11 @@ impl Event {
                 let refused = Notice::Refused(Named::Target(*target), *reason);
                 write!(line, "{}", notice_text(refused))
             }
-            Event::Passed(_, _) | Event::Waiting(false, _) | Event::Called(_) => return None,
+            Event::Passed(_, _) | Event::Waiting(false, _) | Event::Dialed(_) => return None,
             Event::SessionBegan(_) | Event::SessionEnded(_, _) => return None,
             _ if !is_verbose => return None,
-            Event::Waiting(true, places) => {
-                writeln!(line, "ymx: all {places} places are taken: users wait")
+            Event::Waiting(true, slots) => {
+                writeln!(line, "ymx: all {slots} stream slots are used: users wait")
             }
             Event::Notice(notice) => write!(line, "{}", notice_text(*notice)),
             Event::Refused(option, reason) => {

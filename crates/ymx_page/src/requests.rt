@@ -27,7 +27,7 @@ impl RequestLine {
 
     /// Hears these bytes. Whether the line is there: it ends before the first line feed. One of more than 8,192 bytes
     /// counts as an empty one, which is there.
-    pub fn hear(&mut self, bytes: &[u8]) -> bool {
+    pub fn feed(&mut self, bytes: &[u8]) -> bool {
         let end = bytes.iter().position(|byte| *byte == b'\n');
         let more = match end {
             Some(end) => &bytes[..end],
@@ -62,18 +62,18 @@ pub enum Answer {
     Bad,
 }
 
-/// How an end stands, beside what is counted, and whether the body of an answer is asked for.
+/// What an answer depends on beside the counts, and whether its body is wanted.
 #[derive(Clone, Copy)]
 pub struct Standing {
     /// How many seconds ago its oldest connection began that is open.
     pub age: u64,
     /// It takes no more connections.
     pub is_draining: bool,
-    /// The body is asked for, and not the head alone.
+    /// The body is wanted, and not the head alone.
     pub wants_body: bool,
 }
 
-/// The answer to a request whose first line this is, without the line feed at its end, and whether its body is asked for.
+/// The answer to a request whose first line this is, without the line feed at its end, and whether its body is wanted.
 pub fn answer_to(line: &[u8]) -> (Answer, bool) {
     match str::from_utf8(line).ok().and_then(parts_of) {
         Some((method, path)) => (answer_for(method, path), method != "HEAD"),
@@ -107,7 +107,7 @@ fn answer_for(method: &str, path: &str) -> Answer {
 }
 
 impl Answer {
-    /// The answer as it goes out, of an end that stands so. `AllocError` where there is no memory for the whole of it.
+    /// The answer as it goes out, of an endpoint in this state. `AllocError` where there is no memory for the whole of it.
     pub fn text(
         self,
         alloc: Global,
@@ -135,7 +135,7 @@ impl Answer {
     }
 }
 
-/// An answer of this status that says this, if that is asked for.
+/// An answer of this status with this text, if its body is wanted.
 fn framed(
     alloc: Global,
     status: &str,

@@ -1,3 +1,3 @@
 pub mod Keeping
 pub mod Meeting
-pub mod Sparing
+pub mod Retries

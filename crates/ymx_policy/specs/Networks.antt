@@ -1,4 +1,4 @@
--- From where peers may call (this project's own).
+-- From where peers may connect (this project's own).
 use Rattle.std.specs.Prelude.{◌-◌, ◌^◌, ◌/◌, ◌==◌, ℕ, Bool, Option, Some, None, replicate}
 use Rattle.std.specs.List.{list_any}
 use Rattle.std.specs.Net.Addr.{ipv4_bits}
@@ -20,7 +20,7 @@ has network address = first_bits (32 - network.bits) address == first_bits (32 -
 abbrev pub has_all : Network → Bool
 has_all network = network.bits == 0
 
--- Who calls from this address is let in: it is one of a network. Where it isn't known, only where a network has all.
+-- A peer at this address is admitted: it is one of a network. Where it isn't known, only where a network has all.
 abbrev pub admits : Networks → (from : Option SocketAddrV4) → Bool
 admits n (Some address) = list_any (λ network. has network (v4_ip address)) n.networks
 admits n None = list_any has_all n.networks

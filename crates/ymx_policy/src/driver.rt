@@ -1,41 +1,47 @@
-//! The loop that has done what an end asks for.
+//! The loop that executes an endpoint's commands.
 
-ghost use Rattle.std.specs.Prelude.{List, [], ◌∷◌, Option};
+ghost use Rattle.std.specs.Prelude.{◌≡◌, List, [], ◌∷◌, Option, max};
 ghost use Rattle.ymx_policy.specs.Past.{Adds, HasEnded};
-ghost use Rattle.ymx_policy.specs.Plans.{terms_of};
-ghost use Rattle.ymx_policy.specs.declared.asks.Ask.{Ask as Asked};
-ghost use Rattle.ymx_policy.specs.declared.asks.Happened.{Happened as Heard};
+ghost use Rattle.ymx_policy.specs.declared.commands.Command.{Command as Issued};
+ghost use Rattle.ymx_policy.specs.declared.commands.Outcome.{Outcome as Observed};
 
-use crate::asks::{Ask, Deed, Happened};
+use crate::commands::{Action, Command, Outcome};
 use crate::machine::State;
-use crate::options::Plan;
+use crate::plan::Terms;
 use std::sync::Wait;
 
-/// Who says and does what an end asks for.
+/// What executes commands: the system, or a test.
 pub trait World {
-    /// What it was asked for and what happened then, the newest first, if it can tell.
-    ghost log: { Self → Option (List (Asked × Heard)) };
+    /// The commands and their outcomes, the newest first, if it records them.
+    ghost log: { Self → Option (List (Issued × Observed)) };
 
-    /// Says the words of this in their order, the first and the last where `-v` asks for them, and then does its deed. What
-    /// happened.
-    fn perform(&mut self, ask: Ask) -> Happened
-        ensures { Adds ((ask, result) ∷ []) (log self.old) (log self.new) };
+    /// Logs the command's words in order (the first and the last only with `-v`), performs its action, and returns the
+    /// outcome.
+    fn perform(&mut self, command: Command) -> Outcome
+        ensures { Adds ((command, result) ∷ []) (log self.old) (log self.new) };
 }
 
-/// Runs an end: has said and done what it asks for, and tells it what happened, until it ends. Answers the exit status.
-pub fn run<R: Wait, W: World>(rt: &R, plan: Plan, world: &mut W) -> u8
-    // It has come to its end with this status, by the tables alone: whatever was said and done, they asked for.
-    ensures { HasEnded (terms_of plan) result (W.log world.old) (W.log world.new) }
+/// Runs an endpoint, or one of its links, by these terms: executes its commands, and gives it their outcomes, until it ends.
+/// Returns the exit status.
+pub fn run<R: Wait, W: World>(rt: &R, terms: &Terms, world: &mut W) -> u8
+    // It has ended with this status by the tables alone: each command was theirs.
+    ensures { HasEnded terms.now result (W.log world.old) (W.log world.new) }
 {
-    let terms = plan.terms();
-    let mut state = State::new(&terms);
+    let mut state = State::new(terms);
     for _ in rt.forever() {
-        let ask = state.asked(&terms);
-        let happened = world.perform(ask);
-        if let Deed::End(status) = ask.deed {
+        let command = state.next_command(terms);
+        let outcome = world.perform(command);
+        if let Action::End(status) = command.action {
             return status;
         }
-        state.hear(&terms, happened);
+        state.on_outcome(terms, outcome);
     }
     unreachable!()
+}
+
+/// The exit status of an endpoint whose links end with these: the greatest.
+pub fn greatest(one: u8, other: u8) -> u8
+    ensures { result ≡ max one other }
+{
+    one.max(other)
 }

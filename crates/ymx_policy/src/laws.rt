@@ -3,122 +3,122 @@
 ghost use Rattle.std.specs.Prelude.{◌≡◌, ◌≢◌, ◌⊎◌, ◌<◌, ◌≤◌, ◌||◌, ℕ, List, [], ◌∷◌, Bool, true, false, Option, Some, None, is_some, length, map};
 ghost use Rattle.std.specs.declared.net.socket_addr.SocketAddrV4.{SocketAddrV4 as Address};
 ghost use Rattle.ymx_policy.specs.Machine.{silence};
-ghost use Rattle.ymx_policy.specs.Past.{IsPast, asks, faults, reasons, with};
-ghost use Rattle.ymx_policy.specs.Plans.{address_of, asks_first, has_links, keepalive_of, places_of, terms_of};
-ghost use Rattle.ymx_policy.specs.Laws.{GoneFrom, NamesPlace, all_came_last, ends_well, failed_tries, has_opened, has_peer, is_clean, is_explained, is_local, is_port_last, is_told_there, last_deed, last_peer, pause_of, peers_of, spared_calls, status_of, tells_gone, told_by};
+ghost use Rattle.ymx_policy.specs.Past.{IsPast, command_after, faults, reasons, with};
+ghost use Rattle.ymx_policy.specs.Plans.{address_of, waits_for_first_frame, has_links, keepalive_of, link_count_of, terms_of};
+ghost use Rattle.ymx_policy.specs.Laws.{GoneFrom, NamesAddress, all_came_last, ends_well, failed_tries, has_opened, has_peer, is_clean, is_explained, is_local, is_port_last, is_logged_there, last_action, last_peer, pause_of, peers_of, retries_allowed, status_of, logs_departure, logged_by};
 ghost use Rattle.ymx_policy.specs.declared.options.Plan.{Plan as Given};
-ghost use Rattle.ymx_policy.specs.declared.plan.Terms.{Terms as Told};
-ghost use Rattle.ymx_policy.specs.declared.asks.Ask.{Ask as Asked};
-ghost use Rattle.ymx_policy.specs.declared.asks.Happened.{Happened as Heard};
-ghost use Rattle.ymx_policy.specs.declared.asks.Callee.{Callee as Called};
-ghost use Rattle.ymx_policy.specs.declared.asks.Session.{Session as Served};
-ghost use Rattle.ymx_policy.specs.declared.asks.Users.{Users as Awaited};
-ghost use Rattle.ymx_policy.specs.declared.asks.Peers.{Peers as Awaiting};
-ghost use Rattle.ymx_policy.specs.declared.asks.SessionEnd.{SessionEnd as Ended};
+ghost use Rattle.ymx_policy.specs.declared.plan.Terms.{Terms as GivenTerms};
+ghost use Rattle.ymx_policy.specs.declared.commands.Command.{Command as Issued};
+ghost use Rattle.ymx_policy.specs.declared.commands.Outcome.{Outcome as Observed};
+ghost use Rattle.ymx_policy.specs.declared.commands.Dial.{Dial as Dialed};
+ghost use Rattle.ymx_policy.specs.declared.commands.Session.{Session as Served};
+ghost use Rattle.ymx_policy.specs.declared.commands.Users.{Users as Awaited};
+ghost use Rattle.ymx_policy.specs.declared.commands.Peers.{Peers as Awaiting};
+ghost use Rattle.ymx_policy.specs.declared.commands.SessionEnd.{SessionEnd as Ended};
 ghost use Rattle.ymx_policy.specs.declared.reason.Reason.{Reason as System};
 
-use crate::asks::{Deed, Fault, Happened, Named, Notice};
+use crate::commands::{Action, Fault, Named, Notice, Outcome};
 use crate::options::{Endpoint, PeerAddress};
-use crate::plan::Role;
+use crate::plan::Mode;
 
-/// The exit status is 0 exactly where no fault was said, and else 1. It is 0 only behind a session in which nothing went
+/// The exit status is 0 exactly where no fault was logged, and else 1. It is 0 only after a session in which nothing went
 /// wrong, or where all users have come that were to.
 pub fn statuses()
-    ensures said { (t : Told) (past : List (Asked × Heard)) (n : ℕ) → IsPast t past → (asks t past).deed ≡ Deed.End n → n ≡ status_of (with (asks t past).words.fault (faults past)) }
-    ensures well { (t : Told) (past : List (Asked × Heard)) → IsPast t past → (asks t past).deed ≡ Deed.End 0 → ends_well past ≡ true }
+    ensures reported { (t : GivenTerms) (past : List (Issued × Observed)) (n : ℕ) → IsPast t past → (command_after t past).action ≡ Action.End n → n ≡ status_of (with (command_after t past).words.fault (faults past)) }
+    ensures well { (t : GivenTerms) (past : List (Issued × Observed)) → IsPast t past → (command_after t past).action ≡ Action.End 0 → ends_well past ≡ true }
 {}
 
-/// Without `--keep` no more than one fault is said.
+/// Without `--keep` no more than one fault is logged.
 pub fn one_fault()
-    ensures { (t : Told) (past : List (Asked × Heard)) → t.goes_on ≡ false → IsPast t past → length (with (asks t past).words.fault (faults past)) ≤ 1 }
+    ensures { (t : GivenTerms) (past : List (Issued × Observed)) → t.session.reconnects ≡ false → IsPast t past → length (with (command_after t past).words.fault (faults past)) ≤ 1 }
 {}
 
-/// A `remote` that calls never ends with `--keep`, but where it is to begin no more sessions.
-pub fn calls_forever()
-    ensures { (t : Told) (past : List (Asked × Heard)) (n : ℕ) → t.role ≡ Role.RemoteCalls → t.goes_on ≡ true → all_came_last past ≡ false → IsPast t past → (asks t past).deed ≢ Deed.End n }
+/// A `remote` that connects to its peer never ends with `--keep`, but where it is to begin no more sessions.
+pub fn connects_forever()
+    ensures { (t : GivenTerms) (past : List (Issued × Observed)) (n : ℕ) → t.mode ≡ Mode.RemoteDials → t.session.reconnects ≡ true → all_came_last past ≡ false → IsPast t past → (command_after t past).action ≢ Action.End n }
 {}
 
 /// Every session is with a peer that has come for it.
 pub fn serves_peers()
-    ensures { (t : Told) (past : List (Asked × Heard)) (session : Served) → IsPast t past → (asks t past).deed ≡ Deed.Serve session → has_peer past ≡ true }
+    ensures { (t : GivenTerms) (past : List (Issued × Observed)) (session : Served) → IsPast t past → (command_after t past).action ≡ Action.Serve session → has_peer past ≡ true }
 {}
 
-/// A mistake at the port for users ends nobody else: with `--keep` or `--bind` a `local` listens there before it calls its
-/// peer, or awaits it. Without them it calls first.
+/// A mistake at the port for users disturbs no peer: with `--keep` or `--bind` a `local` listens there before it connects to its
+/// peer, or awaits it. Without them it connects first.
 pub fn own_port_first()
-    ensures kept { (t : Told) (past : List (Asked × Heard)) (callee : Called) → t.role ≡ Role.LocalCalls → t.goes_on ≡ true → IsPast t past → (asks t past).deed ≡ Deed.Call callee → has_opened past ≡ true }
-    ensures bound { (t : Told) (past : List (Asked × Heard)) → t.role ≡ Role.LocalAwaits → IsPast t past → (asks t past).deed ≡ Deed.AwaitPeer → has_opened past ≡ true }
-    ensures served { (t : Told) (past : List (Asked × Heard)) (session : Served) → is_local t.role ≡ true → IsPast t past → (asks t past).deed ≡ Deed.Serve session → has_opened past ≡ true }
-    ensures called { (t : Told) (past : List (Asked × Heard)) (users : Awaited) → t.role ≡ Role.LocalCalls → t.goes_on ≡ false → IsPast t past → (asks t past).deed ≡ Deed.ListenForUsers users → has_peer past ≡ true }
+    ensures kept { (t : GivenTerms) (past : List (Issued × Observed)) (dial : Dialed) → t.mode ≡ Mode.LocalDials → t.session.reconnects ≡ true → IsPast t past → (command_after t past).action ≡ Action.Connect dial → has_opened past ≡ true }
+    ensures bound { (t : GivenTerms) (past : List (Issued × Observed)) → t.mode ≡ Mode.LocalAwaits → IsPast t past → (command_after t past).action ≡ Action.AwaitPeer → has_opened past ≡ true }
+    ensures served { (t : GivenTerms) (past : List (Issued × Observed)) (session : Served) → is_local t.mode ≡ true → IsPast t past → (command_after t past).action ≡ Action.Serve session → has_opened past ≡ true }
+    ensures called { (t : GivenTerms) (past : List (Issued × Observed)) (users : Awaited) → t.mode ≡ Mode.LocalDials → t.session.reconnects ≡ false → IsPast t past → (command_after t past).action ≡ Action.ListenForUsers users → has_peer past ≡ true }
 {}
 
-/// With `--keep` an end ends only where all have come that were to, or for what happened where users or peers come in, and
-/// never behind a call or a session. Behind a session one that awaits its peer awaits the next.
+/// With `--keep` an endpoint ends only where all have come that were to, or for what happened at a port of its own, and
+/// never after a connect or a session. After a session one that awaits its peer awaits the next.
 pub fn keeps_on()
-    ensures ends { (t : Told) (past : List (Asked × Heard)) (n : ℕ) → t.goes_on ≡ true → all_came_last past ≡ false → IsPast t past → (asks t past).deed ≡ Deed.End n → is_port_last past ≡ true }
-    ensures awaits { (t : Told) (past : List (Asked × Heard)) (session : Served) (happened : Heard) → (t.role ≡ Role.LocalAwaits) ⊎ (t.role ≡ Role.RemoteAwaits) → t.goes_on ≡ true → IsPast t past → (asks t past).deed ≡ Deed.Serve session → (asks t ((asks t past, happened) ∷ past)).deed ≡ Deed.AwaitPeer }
+    ensures ends { (t : GivenTerms) (past : List (Issued × Observed)) (n : ℕ) → t.session.reconnects ≡ true → all_came_last past ≡ false → IsPast t past → (command_after t past).action ≡ Action.End n → is_port_last past ≡ true }
+    ensures awaits { (t : GivenTerms) (past : List (Issued × Observed)) (session : Served) (outcome : Observed) → (t.mode ≡ Mode.LocalAwaits) ⊎ (t.mode ≡ Mode.RemoteAwaits) → t.session.reconnects ≡ true → IsPast t past → (command_after t past).action ≡ Action.Serve session → (command_after t ((command_after t past, outcome) ∷ past)).action ≡ Action.AwaitPeer }
 {}
 
-/// Each fault that is said has its reason in what happened just before: the rule that was broken, the place. It names the
-/// place of users, or that of the peer.
+/// Each fault has its reason in the outcome just before: the rule that was broken, the address. It names the address
+/// of users, or that of the peer.
 pub fn faults_have_reasons()
-    ensures reason { (t : Told) (past : List (Asked × Heard)) → IsPast t past → is_explained (asks t past).words.fault past ≡ true }
-    ensures users { (t : Told) (past : List (Asked × Heard)) (users : Awaited) (address : Address) → IsPast t past → (asks t past).deed ≡ Deed.ListenForUsers users → (asks t ((asks t past, Happened.Failed None) ∷ past)).words.fault ≡ Some (Fault.CannotListen t.users.address) }
-    ensures place { (t : Told) (past : List (Asked × Heard)) → IsPast t past → NamesPlace t.peer (peers_of t past) t.users.address (asks t past).words.fault }
+    ensures reason { (t : GivenTerms) (past : List (Issued × Observed)) → IsPast t past → is_explained (command_after t past).words.fault past ≡ true }
+    ensures users { (t : GivenTerms) (past : List (Issued × Observed)) (users : Awaited) (address : Address) → IsPast t past → (command_after t past).action ≡ Action.ListenForUsers users → (command_after t ((command_after t past, Outcome.Failed None) ∷ past)).words.fault ≡ Some (Fault.CannotListen t.users.address) }
+    ensures place { (t : GivenTerms) (past : List (Issued × Observed)) → IsPast t past → NamesAddress t.peer (peers_of t past) t.users.address (command_after t past).words.fault }
 {}
 
-/// Just before a fault its reason is told, with or without `-v`: why the system refuses the port, the call or the user, at
-/// the place that the option names, or which rule was broken, and from where. No other reason is told, so a good end tells
-/// none where no lines were asked for.
-pub fn reasons_are_told()
-    ensures users { (t : Told) (past : List (Asked × Heard)) (users : Awaited) (why : System) → IsPast t past → (asks t past).deed ≡ Deed.ListenForUsers users → (asks t ((asks t past, Happened.Failed (Some why)) ∷ past)).words.reason ≡ Some (Notice.Refused (Named.Listen t.users.address) why) }
-    ensures called { (t : Told) (past : List (Asked × Heard)) (callee : Called) (why : System) → t.goes_on ≡ false → IsPast t past → (asks t past).deed ≡ Deed.Call callee → (asks t ((asks t past, Happened.Failed (Some why)) ∷ past)).words.reason ≡ Some (Notice.Refused (Named.Peer t.peer) why) }
-    ensures accepted { (t : Told) (past : List (Asked × Heard)) (session : Served) (how : Ended) (why : System) → IsPast t past → (asks t past).deed ≡ Deed.Serve session → how.accept_failed ≡ true → how.accept_reason ≡ Some why → (asks t ((asks t past, Happened.SessionEnded how) ∷ past)).words.reason ≡ Some (Notice.Refused (Named.Listen t.users.address) why) }
-    ensures broke { (t : Told) (past : List (Asked × Heard)) (session : Served) (how : Ended) (rule : ℕ) → IsPast t past → (asks t past).deed ≡ Deed.Serve session → how.accept_failed ≡ false → how.broken ≡ Some rule → (asks t ((asks t past, Happened.SessionEnded how) ∷ past)).words.reason ≡ Some (Notice.Broke rule how.peer) }
-    ensures alone { (t : Told) (past : List (Asked × Heard)) → IsPast t past → (asks t past).words.fault ≡ None → (asks t past).words.reason ≡ None }
-    ensures none { (t : Told) (past : List (Asked × Heard)) → IsPast t past → (asks t past).deed ≡ Deed.End 0 → with (asks t past).words.reason (reasons past) ≡ [] }
+/// Just before a fault its reason is logged, with or without `-v`: why the system refuses the port, the connect or the user,
+/// at the address that the option names. A session logs itself which rule was broken. No other reason is logged, so an endpoint
+/// that ends well without `-v` logs nothing.
+pub fn reasons_are_logged()
+    ensures users { (t : GivenTerms) (past : List (Issued × Observed)) (users : Awaited) (why : System) → IsPast t past → (command_after t past).action ≡ Action.ListenForUsers users → (command_after t ((command_after t past, Outcome.Failed (Some why)) ∷ past)).words.reason ≡ Some (Notice.Refused (Named.Listen t.users.address) why) }
+    ensures called { (t : GivenTerms) (past : List (Issued × Observed)) (dial : Dialed) (why : System) → t.session.reconnects ≡ false → IsPast t past → (command_after t past).action ≡ Action.Connect dial → (command_after t ((command_after t past, Outcome.Failed (Some why)) ∷ past)).words.reason ≡ Some (Notice.Refused (Named.Peer t.peer) why) }
+    ensures accepted { (t : GivenTerms) (past : List (Issued × Observed)) (session : Served) (how : Ended) (why : System) → IsPast t past → (command_after t past).action ≡ Action.Serve session → how.accept_failed ≡ true → how.accept_reason ≡ Some why → (command_after t ((command_after t past, Outcome.SessionEnded how) ∷ past)).words.reason ≡ Some (Notice.Refused (Named.Listen t.users.address) why) }
+    ensures alone { (t : GivenTerms) (past : List (Issued × Observed)) → IsPast t past → (command_after t past).words.fault ≡ None → (command_after t past).words.reason ≡ None }
+    ensures none { (t : GivenTerms) (past : List (Issued × Observed)) → IsPast t past → (command_after t past).action ≡ Action.End 0 → with (command_after t past).words.reason (reasons past) ≡ [] }
 {}
 
-/// A `remote` that calls with `--keep` pauses for 1 second, and then for 2, 4, 8, 16 and 30, as many tries have failed in a
+/// A `remote` that connects with `--keep` pauses for 1 second, and then for 2, 4, 8, 16 and 30, as many tries have failed in a
 /// row.
 pub fn pauses()
-    ensures long { (t : Told) (past : List (Asked × Heard)) (n : ℕ) → t.role ≡ Role.RemoteCalls → t.goes_on ≡ true → IsPast t past → (asks t past).deed ≡ Deed.Pause n → n ≡ pause_of (failed_tries past) }
-    ensures rests { (t : Told) (past : List (Asked × Heard)) (callee : Called) → t.role ≡ Role.RemoteCalls → t.goes_on ≡ true → IsPast t past → (asks t past).deed ≡ Deed.Call callee → 0 < failed_tries past → last_deed past ≡ Some (Deed.Pause (pause_of (failed_tries past))) }
+    ensures long { (t : GivenTerms) (past : List (Issued × Observed)) (n : ℕ) → t.mode ≡ Mode.RemoteDials → t.session.reconnects ≡ true → IsPast t past → (command_after t past).action ≡ Action.Pause n → n ≡ pause_of (failed_tries past) }
+    ensures backs_off { (t : GivenTerms) (past : List (Issued × Observed)) (dial : Dialed) → t.mode ≡ Mode.RemoteDials → t.session.reconnects ≡ true → IsPast t past → (command_after t past).action ≡ Action.Connect dial → 0 < failed_tries past → last_action past ≡ Some (Action.Pause (pause_of (failed_tries past))) }
     ensures row { map pause_of (1 ∷ 2 ∷ 3 ∷ 4 ∷ 5 ∷ 6 ∷ 7 ∷ []) ≡ 1 ∷ 2 ∷ 4 ∷ 8 ∷ 16 ∷ 30 ∷ 30 ∷ [] }
 {}
 
-/// An end that is to begin no more sessions, while it calls its peer or awaits it, or is to listen for it or for users, ends at
-/// once: with status 0 where no fault was said. It says nothing of that.
+/// An endpoint that is to begin no more sessions, while it connects to its peer, awaits it or admits peers, or is to listen, ends at
+/// once: with status 0 where no fault was logged. It logs nothing of that.
 pub fn ends_where_all_came()
-    ensures called { (t : Told) (past : List (Asked × Heard)) (callee : Called) → IsPast t past → (asks t past).deed ≡ Deed.Call callee → (asks t ((asks t past, Happened.AllCame) ∷ past)) ≡ record { words = silence; deed = Deed.End (status_of (with (asks t past).words.fault (faults past))) } }
-    ensures awaited { (t : Told) (past : List (Asked × Heard)) → IsPast t past → (asks t past).deed ≡ Deed.AwaitPeer → (asks t ((asks t past, Happened.AllCame) ∷ past)) ≡ record { words = silence; deed = Deed.End (status_of (with (asks t past).words.fault (faults past))) } }
-    ensures peers { (t : Told) (past : List (Asked × Heard)) (peers : Awaiting) → IsPast t past → (asks t past).deed ≡ Deed.ListenForPeer peers → (asks t ((asks t past, Happened.AllCame) ∷ past)) ≡ record { words = silence; deed = Deed.End (status_of (with (asks t past).words.fault (faults past))) } }
-    ensures users { (t : Told) (past : List (Asked × Heard)) (users : Awaited) → IsPast t past → (asks t past).deed ≡ Deed.ListenForUsers users → (asks t ((asks t past, Happened.AllCame) ∷ past)) ≡ record { words = silence; deed = Deed.End (status_of (with (asks t past).words.fault (faults past))) } }
+    ensures called { (t : GivenTerms) (past : List (Issued × Observed)) (dial : Dialed) → IsPast t past → (command_after t past).action ≡ Action.Connect dial → (command_after t ((command_after t past, Outcome.AllCame) ∷ past)) ≡ record { words = silence; action = Action.End (status_of (with (command_after t past).words.fault (faults past))) } }
+    ensures awaited { (t : GivenTerms) (past : List (Issued × Observed)) → IsPast t past → (command_after t past).action ≡ Action.AwaitPeer → (command_after t ((command_after t past, Outcome.AllCame) ∷ past)) ≡ record { words = silence; action = Action.End (status_of (with (command_after t past).words.fault (faults past))) } }
+    ensures peers { (t : GivenTerms) (past : List (Issued × Observed)) (peers : Awaiting) → IsPast t past → (command_after t past).action ≡ Action.ListenForPeer peers → (command_after t ((command_after t past, Outcome.AllCame) ∷ past)) ≡ record { words = silence; action = Action.End (status_of (with (command_after t past).words.fault (faults past))) } }
+    ensures users { (t : GivenTerms) (past : List (Issued × Observed)) (users : Awaited) → IsPast t past → (command_after t past).action ≡ Action.ListenForUsers users → (command_after t ((command_after t past, Outcome.AllCame) ∷ past)) ≡ record { words = silence; action = Action.End (status_of (with (command_after t past).words.fault (faults past))) } }
+    ensures admits { (t : GivenTerms) (past : List (Issued × Observed)) → IsPast t past → (command_after t past).action ≡ Action.AdmitPeers → (command_after t ((command_after t past, Outcome.AllCame) ∷ past)) ≡ record { words = silence; action = Action.End (status_of (with (command_after t past).words.fault (faults past))) } }
 {}
 
-/// With `--keep` a `local` that calls its peer closes no user behind a session whose peer gave a sign of life: users wait for the
-/// next one. Behind one whose peer had gone away ten calls may fail before they are closed, with a pause of a second behind each.
+/// With `--keep` a `local` that connects to its peer rejects no user after a session with a first frame: users wait for the
+/// next one. After one whose peer sent Go Away ten connects may fail before they are rejected, with a pause of a second after each.
 pub fn users_wait_for_the_next_session()
-    ensures waits { (t : Told) (past : List (Asked × Heard)) (session : Served) (how : Ended) → t.role ≡ Role.LocalCalls → t.goes_on ≡ true → IsPast t past → (asks t past).deed ≡ Deed.Serve session → (how.is_coming_told ≡ true) ⊎ (how.is_peer_away ≡ true) → (asks t ((asks t past, Happened.SessionEnded how) ∷ past)).deed ≡ Deed.AwaitUser }
-    ensures again { (t : Told) (past : List (Asked × Heard)) (callee : Called) (happened : Heard) → t.role ≢ Role.RemoteCalls → t.goes_on ≡ true → IsPast t past → (asks t past).deed ≡ Deed.Call callee → happened ≢ Happened.PeerCame → happened ≢ Happened.AllCame → 0 < spared_calls past → (asks t ((asks t past, happened) ∷ past)).deed ≡ Deed.Pause 1 }
-    ensures calls { (t : Told) (past : List (Asked × Heard)) (happened : Heard) (n : ℕ) → IsPast t past → (asks t past).deed ≡ Deed.Pause n → (asks t ((asks t past, happened) ∷ past)).deed ≡ Deed.Call (record { address = t.peer; limit = t.limit }) }
+    ensures waits { (t : GivenTerms) (past : List (Issued × Observed)) (session : Served) (how : Ended) → t.mode ≡ Mode.LocalDials → t.session.reconnects ≡ true → IsPast t past → (command_after t past).action ≡ Action.Serve session → (how.is_arrival_logged ≡ true) ⊎ (how.is_peer_away ≡ true) → (command_after t ((command_after t past, Outcome.SessionEnded how) ∷ past)).action ≡ Action.AwaitUser }
+    ensures again { (t : GivenTerms) (past : List (Issued × Observed)) (dial : Dialed) (outcome : Observed) → t.mode ≢ Mode.RemoteDials → t.session.reconnects ≡ true → IsPast t past → (command_after t past).action ≡ Action.Connect dial → outcome ≢ Outcome.PeerCame → outcome ≢ Outcome.AllCame → 0 < retries_allowed past → (command_after t ((command_after t past, outcome) ∷ past)).action ≡ Action.Pause 1 }
+    ensures calls { (t : GivenTerms) (past : List (Issued × Observed)) (outcome : Observed) (n : ℕ) → IsPast t past → (command_after t past).action ≡ Action.Pause n → (command_after t ((command_after t past, outcome) ∷ past)).action ≡ Action.Connect (record { address = t.peer; limit = t.limit }) }
 {}
 
-/// Where something went wrong in a session, a fault is said at once. Where the peer can't be reached, for whatever reason, all
-/// users that wait are closed, unless they are spared, and so they are behind a session whose peer gave no sign of life.
-pub fn each_fault_is_said()
-    ensures said { (t : Told) (past : List (Asked × Heard)) (session : Served) (how : Ended) → IsPast t past → (asks t past).deed ≡ Deed.Serve session → is_clean how ≡ false → is_some (asks t ((asks t past, Happened.SessionEnded how) ∷ past)).words.fault ≡ true }
-    ensures unreached { (t : Told) (past : List (Asked × Heard)) (callee : Called) (happened : Heard) → t.role ≢ Role.RemoteCalls → t.goes_on ≡ true → IsPast t past → (asks t past).deed ≡ Deed.Call callee → happened ≢ Happened.PeerCame → happened ≢ Happened.AllCame → spared_calls past ≡ 0 → (asks t ((asks t past, happened) ∷ past)).deed ≡ Deed.CloseUsers }
-    ensures silent { (t : Told) (past : List (Asked × Heard)) (session : Served) (how : Ended) → t.role ≡ Role.LocalCalls → t.goes_on ≡ true → IsPast t past → (asks t past).deed ≡ Deed.Serve session → how.is_coming_told ≡ false → how.is_peer_away ≡ false → (asks t ((asks t past, Happened.SessionEnded how) ∷ past)).deed ≡ Deed.CloseUsers }
+/// Where something went wrong in a session, a fault is logged at once. If the peer can't be reached, for any reason, waiting
+/// users are rejected once no retry is left; so they are after a session without a first frame.
+pub fn each_fault_is_logged()
+    ensures reported { (t : GivenTerms) (past : List (Issued × Observed)) (session : Served) (how : Ended) → IsPast t past → (command_after t past).action ≡ Action.Serve session → is_clean how ≡ false → is_some (command_after t ((command_after t past, Outcome.SessionEnded how) ∷ past)).words.fault ≡ true }
+    ensures unreached { (t : GivenTerms) (past : List (Issued × Observed)) (dial : Dialed) (outcome : Observed) → t.mode ≢ Mode.RemoteDials → t.session.reconnects ≡ true → IsPast t past → (command_after t past).action ≡ Action.Connect dial → outcome ≢ Outcome.PeerCame → outcome ≢ Outcome.AllCame → retries_allowed past ≡ 0 → (command_after t ((command_after t past, outcome) ∷ past)).action ≡ Action.RejectUsers }
+    ensures silent { (t : GivenTerms) (past : List (Issued × Observed)) (session : Served) (how : Ended) → t.mode ≡ Mode.LocalDials → t.session.reconnects ≡ true → IsPast t past → (command_after t past).action ≡ Action.Serve session → how.is_arrival_logged ≡ false → how.is_peer_away ≡ false → (command_after t ((command_after t past, Outcome.SessionEnded how) ∷ past)).action ≡ Action.RejectUsers }
 {}
 
-/// What is done is what the plan says: the peer is called at its address, for as long as a call may take, users come to
+/// What is done is what the plan says: the connect goes to the peer's address, with the plan's timeout, users come to
 /// theirs, each session is the plan's, and a peer is awaited at its address, and from where it may call.
-pub fn does_as_told()
-    ensures calls { (t : Told) (past : List (Asked × Heard)) (callee : Called) → IsPast t past → (asks t past).deed ≡ Deed.Call callee → (callee.address ≡ t.peer) × (callee.limit ≡ t.limit) }
-    ensures listens { (t : Told) (past : List (Asked × Heard)) (users : Awaited) → IsPast t past → (asks t past).deed ≡ Deed.ListenForUsers users → users ≡ t.users }
-    ensures serves { (t : Told) (past : List (Asked × Heard)) (session : Served) → IsPast t past → (asks t past).deed ≡ Deed.Serve session → session ≡ t.session }
-    ensures awaits { (t : Told) (past : List (Asked × Heard)) (peers : Awaiting) → IsPast t past → (asks t past).deed ≡ Deed.ListenForPeer peers → (peers.address ≡ t.peer) × (peers.from ≡ t.from) }
+pub fn follows_the_plan()
+    ensures calls { (t : GivenTerms) (past : List (Issued × Observed)) (dial : Dialed) → IsPast t past → (command_after t past).action ≡ Action.Connect dial → (dial.address ≡ t.peer) × (dial.limit ≡ t.limit) }
+    ensures listens { (t : GivenTerms) (past : List (Issued × Observed)) (users : Awaited) → IsPast t past → (command_after t past).action ≡ Action.ListenForUsers users → users ≡ t.users }
+    ensures serves { (t : GivenTerms) (past : List (Issued × Observed)) (session : Served) → IsPast t past → (command_after t past).action ≡ Action.Serve session → session ≡ t.session }
+    ensures awaits { (t : GivenTerms) (past : List (Issued × Observed)) (peers : Awaiting) → IsPast t past → (command_after t past).action ≡ Action.ListenForPeer peers → (peers.address ≡ t.peer) × (peers.from ≡ t.from) }
 {}
 
 /// Each option does what it says.
@@ -126,16 +126,14 @@ pub fn options_arrive()
     ensures peer { (p : Given) → (terms_of p).peer ≡ address_of p.peer }
     ensures session { (p : Given) → (terms_of p).session.options ≡ p.session }
     ensures from { (p : Given) → (terms_of p).from ≡ p.from }
-    ensures followed { (p : Given) → (terms_of p).session.is_followed ≡ (terms_of p).goes_on }
     ensures timeout { (p : Given) (n : ℕ) → p.timeout ≡ Some n → (terms_of p).limit ≡ Some n }
-    ensures awaited { (p : Given) → p.timeout ≡ None → (p.is_kept ≡ true) ⊎ (has_links p.endpoint ≡ true) → (terms_of p).limit ≡ Some 10 }
-    ensures unlimited { (p : Given) → p.timeout ≡ None → p.is_kept ≡ false → has_links p.endpoint ≡ false → (terms_of p).limit ≡ None }
-    ensures sounded { (p : Given) → (terms_of p).session.is_sounded ≡ (is_some p.session.ping || asks_first p.endpoint p.is_kept) }
-    ensures endpoint { (p : Given) → (terms_of p).session.endpoint ≡ p.endpoint }
+    ensures awaited { (p : Given) → p.timeout ≡ None → (p.keeps ≡ true) ⊎ (has_links p.endpoint ≡ true) → (terms_of p).limit ≡ Some 10 }
+    ensures unlimited { (p : Given) → p.timeout ≡ None → p.keeps ≡ false → has_links p.endpoint ≡ false → (terms_of p).limit ≡ None }
+    ensures sounded { (p : Given) → (terms_of p).session.needs_first_frame ≡ (is_some p.session.ping || waits_for_first_frame p.endpoint p.keeps) }
     ensures local { (p : Given) (listen : Address) (count : Option ℕ) (links : ℕ) (names : Bool) → p.endpoint ≡ Endpoint.Local listen count links names →
-        ((terms_of p).users ≡ record { address = listen; count = count; is_patient = p.is_kept }) × ((terms_of p).goes_on ≡ p.is_kept) }
-    ensures remote { (p : Given) (target : Address) (workers : ℕ) (peers : Option ℕ) → p.endpoint ≡ Endpoint.Remote target workers peers → (terms_of p).goes_on ≡ (p.is_kept || is_some peers) }
-    ensures places { (p : Given) → (terms_of p).places ≡ places_of p.endpoint p.peer p.is_kept }
+        ((terms_of p).users ≡ record { address = listen; count = count; keeps_listening = p.keeps }) × ((terms_of p).session.reconnects ≡ p.keeps) }
+    ensures remote { (p : Given) (target : Address) (workers : ℕ) (peers : Option ℕ) → p.endpoint ≡ Endpoint.Remote target workers peers → (terms_of p).session.reconnects ≡ (p.keeps || is_some peers) }
+    ensures links { (p : Given) → (terms_of p).link_count ≡ link_count_of p.endpoint p.peer p.keeps }
 {}
 
 /// With `--keepalive 60` the system asks after 60 seconds of silence, and then every 15 seconds. It asks four times, and
@@ -147,16 +145,16 @@ pub fn keepalives()
     ensures most { keepalive_of 3600 ≡ Some (record { idle = 3600; interval = 900; probes = 4 }) }
 {}
 
-/// Each peer that a session has told to have come is told to have gone right behind it. A `local` that calls tells of none else
-/// that it has gone, but that it has without a sign of life; the others tell it of each. Who has gone is told by where the last
-/// session's peer was. Where users or peers can come is told.
+/// Each peer whose arrival was logged has its departure logged right after the session. A `local` that connects logs of none
+/// else that it has gone, but that it has before its first frame; the others log it of each. Its address is where the last
+/// session's peer was. Each address where it listens is logged.
 pub fn lines()
-    ensures gone { (t : Told) (past : List (Asked × Heard)) → t.session.is_followed ≡ t.goes_on → IsPast t past → told_by (asks t past).words (is_told_there past) ≡ false }
-    ensures known { (t : Told) (past : List (Asked × Heard)) → t.role ≡ Role.LocalCalls → t.session.is_followed ≡ t.goes_on → IsPast t past → tells_gone (asks t past).words ≡ true → is_told_there past ≡ true }
-    ensures parted { (t : Told) (past : List (Asked × Heard)) (session : Served) (how : Ended) → t.role ≡ Role.LocalCalls → t.goes_on ≡ true → IsPast t past → (asks t past).deed ≡ Deed.Serve session → how.is_coming_told ≡ true → (asks t ((asks t past, Happened.SessionEnded how) ∷ past)).words.first ≡ Some (Notice.PeerGone how.peer) }
-    ensures silent { (t : Told) (past : List (Asked × Heard)) (session : Served) (how : Ended) → t.role ≡ Role.LocalCalls → t.goes_on ≡ true → IsPast t past → (asks t past).deed ≡ Deed.Serve session → how.is_coming_told ≡ false → (asks t ((asks t past, Happened.SessionEnded how) ∷ past)).words.first ≡ Some (Notice.PeerGoneSilent how.peer) }
-    ensures others { (t : Told) (past : List (Asked × Heard)) (session : Served) (how : Ended) → t.role ≢ Role.LocalCalls → t.goes_on ≡ true → IsPast t past → (asks t past).deed ≡ Deed.Serve session → (asks t ((asks t past, Happened.SessionEnded how) ∷ past)).words.last ≡ Some (Notice.PeerGone how.peer) }
-    ensures from { (t : Told) (past : List (Asked × Heard)) → IsPast t past → GoneFrom (last_peer past) (asks t past).words.first × GoneFrom (last_peer past) (asks t past).words.last }
-    ensures users { (t : Told) (past : List (Asked × Heard)) (users : Awaited) (address : Address) → IsPast t past → (asks t past).deed ≡ Deed.ListenForUsers users → (asks t ((asks t past, Happened.Listening address) ∷ past)).words.first ≡ Some (Notice.Listening address) }
-    ensures peers { (t : Told) (past : List (Asked × Heard)) (peers : Awaiting) (address : Address) → IsPast t past → (asks t past).deed ≡ Deed.ListenForPeer peers → (asks t ((asks t past, Happened.Listening address) ∷ past)).words.first ≡ Some (Notice.Listening address) }
+    ensures gone { (t : GivenTerms) (past : List (Issued × Observed)) → IsPast t past → logged_by (command_after t past).words (is_logged_there past) ≡ false }
+    ensures known { (t : GivenTerms) (past : List (Issued × Observed)) → t.mode ≡ Mode.LocalDials → IsPast t past → logs_departure (command_after t past).words ≡ true → is_logged_there past ≡ true }
+    ensures end_session { (t : GivenTerms) (past : List (Issued × Observed)) (session : Served) (how : Ended) → t.mode ≡ Mode.LocalDials → t.session.reconnects ≡ true → IsPast t past → (command_after t past).action ≡ Action.Serve session → how.is_arrival_logged ≡ true → (command_after t ((command_after t past, Outcome.SessionEnded how) ∷ past)).words.first ≡ Some (Notice.PeerGone how.peer) }
+    ensures silent { (t : GivenTerms) (past : List (Issued × Observed)) (session : Served) (how : Ended) → t.mode ≡ Mode.LocalDials → t.session.reconnects ≡ true → IsPast t past → (command_after t past).action ≡ Action.Serve session → how.is_arrival_logged ≡ false → (command_after t ((command_after t past, Outcome.SessionEnded how) ∷ past)).words.first ≡ Some (Notice.PeerGoneSilent how.peer) }
+    ensures others { (t : GivenTerms) (past : List (Issued × Observed)) (session : Served) (how : Ended) → t.mode ≢ Mode.LocalDials → t.session.reconnects ≡ true → IsPast t past → (command_after t past).action ≡ Action.Serve session → (command_after t ((command_after t past, Outcome.SessionEnded how) ∷ past)).words.last ≡ Some (Notice.PeerGone how.peer) }
+    ensures from { (t : GivenTerms) (past : List (Issued × Observed)) → IsPast t past → GoneFrom (last_peer past) (command_after t past).words.first × GoneFrom (last_peer past) (command_after t past).words.last }
+    ensures users { (t : GivenTerms) (past : List (Issued × Observed)) (users : Awaited) (address : Address) → IsPast t past → (command_after t past).action ≡ Action.ListenForUsers users → (command_after t ((command_after t past, Outcome.Listening address) ∷ past)).words.first ≡ Some (Notice.Listening address) }
+    ensures peers { (t : GivenTerms) (past : List (Issued × Observed)) (peers : Awaiting) (address : Address) → IsPast t past → (command_after t past).action ≡ Action.ListenForPeer peers → (command_after t ((command_after t past, Outcome.Listening address) ∷ past)).words.first ≡ Some (Notice.Listening address) }
 {}

@@ -1,78 +1,82 @@
-//! An end of a tunnel as a machine: at each stage it asks for one thing, and what happened leads to the next.
+//! An endpoint as a state machine: at each stage it gives one command, and the outcome leads to the next.
 
 ghost use Rattle.std.specs.Prelude.{◌≡◌, Some};
-ghost use Rattle.ymx_policy.specs.Machine.{after, after_awaiting_peer, after_awaiting_user, after_calling, after_opening_peers, after_opening_users, after_refusing, after_serving, asked, begins, behind_session, cannot_meet, deed_at, ends, fails, fault_of, fresh, goes, goes_on, longer, next, parted, parting, refusal, serving, silence, unreached};
+ghost use Rattle.ymx_policy.specs.Machine.{after, after_awaiting_peer, after_awaiting_user, after_connecting, after_opening_peers, after_opening_users, after_rejecting, after_serving, next_command, begins, after_session, peer_fault, action_at, ends, fails, fault_of, fresh, goes, proceeds, longer, next, end_session, session_end_words, refusal, serving, silence, unreached};
 
-use crate::asks::{Ask, Callee, Deed, Fault, Happened, Named, Notice, Peers, SessionEnd, Words};
-use crate::plan::{Role, Terms};
+use crate::commands::{
+    Action, Command, Dial, Fault, Named, Notice, Outcome, Peers, SessionEnd, Words,
+};
+use crate::plan::{Mode, Terms};
 use crate::reason::Reason;
 use std::net::SocketAddrV4;
 
-/// What an end waits for.
+/// What an endpoint waits for.
 #[derive(Clone, Copy)]
 pub enum Stage {
     OpeningPeers,
     OpeningUsers,
-    Calling,
+    Connecting,
     AwaitingPeer,
+    AdmittingPeers,
     AwaitingUser,
     Serving,
-    /// All users that wait are closed, as their peer can't be reached.
-    Refusing,
+    /// All users that wait are rejected, as their peer can't be reached.
+    RejectingUsers,
     Pausing,
     Over,
 }
 
-/// Where an end has come to.
+/// Where an endpoint has come to.
 #[derive(Clone, Copy)]
 pub struct State {
     pub stage: Stage,
-    /// What is to be said now.
+    /// What is to be logged now.
     pub words: Words,
-    /// Where its peer is called, or calls: at port 0 the port that the system chose.
+    /// Where it meets its peer: at port 0 the port that the system chose.
     pub peers: SocketAddrV4,
-    /// How many seconds are to go by before the next call, or 0.
+    /// How many seconds are to go by before the next connect, or 0.
     pub pause: u64,
-    /// How many calls may fail before users are closed.
-    pub spares: u64,
-    /// It has said a fault, or does so now.
+    /// How many connects may fail before users are rejected.
+    pub retries_left: u64,
+    /// It has logged a fault, or does so now.
     pub has_faulted: bool,
 }
 
 // ---- where it goes
 
 /// Where it goes on once what a stage is for is there.
-fn next(stage: Stage, role: Role, is_kept: bool) -> Stage
-    ensures { result ≡ next stage role is_kept }
+fn next(stage: Stage, mode: Mode, reconnects: bool) -> Stage
+    ensures { result ≡ next stage mode reconnects }
 {
-    match (stage, role) {
-        (Stage::OpeningPeers, Role::LocalAwaits) => Stage::OpeningUsers,
-        (Stage::OpeningUsers, Role::LocalCalls) if is_kept => Stage::AwaitingUser,
-        (Stage::OpeningUsers, Role::LocalCalls) => Stage::Serving,
+    match (stage, mode) {
+        (Stage::OpeningPeers, Mode::LocalAwaits) => Stage::OpeningUsers,
+        (Stage::OpeningUsers, Mode::LocalDials) if reconnects => Stage::AwaitingUser,
+        (Stage::OpeningUsers, Mode::LocalDials) => Stage::Serving,
+        (Stage::OpeningPeers, Mode::RemoteAdmits) => Stage::AdmittingPeers,
         (Stage::OpeningPeers | Stage::OpeningUsers, _) => Stage::AwaitingPeer,
-        (Stage::Calling, Role::LocalCalls) if !is_kept => Stage::OpeningUsers,
-        (Stage::Calling | Stage::AwaitingPeer, _) => Stage::Serving,
-        (Stage::AwaitingUser | Stage::Pausing, _) => Stage::Calling,
-        (Stage::Refusing, _) => Stage::AwaitingUser,
-        (Stage::Serving | Stage::Over, _) => Stage::Over,
+        (Stage::Connecting, Mode::LocalDials) if !reconnects => Stage::OpeningUsers,
+        (Stage::Connecting | Stage::AwaitingPeer, _) => Stage::Serving,
+        (Stage::AwaitingUser | Stage::Pausing, _) => Stage::Connecting,
+        (Stage::RejectingUsers, _) => Stage::AwaitingUser,
+        (Stage::AdmittingPeers | Stage::Serving | Stage::Over, _) => Stage::Over,
     }
 }
 
-/// Where it goes on behind a session.
-fn behind_session(role: Role, is_kept: bool, is_lost: bool, pause: u64) -> Stage
-    ensures { result ≡ behind_session role is_kept is_lost pause }
+/// Where it goes on after a session.
+fn after_session(mode: Mode, reconnects: bool, is_lost: bool, pause: u64) -> Stage
+    ensures { result ≡ after_session mode reconnects is_lost pause }
 {
-    match role {
-        _ if !is_kept => Stage::Over,
-        Role::LocalCalls if is_lost => Stage::Refusing,
-        Role::LocalCalls => Stage::AwaitingUser,
-        Role::RemoteCalls if pause == 0 => Stage::Calling,
-        Role::RemoteCalls => Stage::Pausing,
-        Role::LocalAwaits | Role::RemoteAwaits => Stage::AwaitingPeer,
+    match mode {
+        _ if !reconnects => Stage::Over,
+        Mode::LocalDials if is_lost => Stage::RejectingUsers,
+        Mode::LocalDials => Stage::AwaitingUser,
+        Mode::RemoteDials if pause == 0 => Stage::Connecting,
+        Mode::RemoteDials => Stage::Pausing,
+        _ => Stage::AwaitingPeer,
     }
 }
 
-/// The pause behind a pause of so many seconds.
+/// The pause after a pause of so many seconds.
 fn longer(seconds: u64) -> u64
     ensures { result ≡ longer seconds }
 {
@@ -82,7 +86,7 @@ fn longer(seconds: u64) -> u64
     seconds.saturating_mul(2).min(30)
 }
 
-// ---- what it says
+// ---- what it logs
 
 /// Nothing.
 const SILENCE: Words = Words {
@@ -106,7 +110,7 @@ fn refusal(named: Named, why: Option<Reason>) -> Option<Notice>
     Some(Notice::Refused(named, why?))
 }
 
-/// This fault, behind its reason.
+/// This fault, after its reason.
 fn fails(reason: Option<Notice>, fault: Fault) -> Words
     ensures { result ≡ fails reason (Some fault) }
 {
@@ -117,31 +121,36 @@ fn fails(reason: Option<Notice>, fault: Fault) -> Words
     }
 }
 
-/// What it says behind a session besides this, whose peer was told to have come or wasn't, and was at this address.
-fn parting(terms: &Terms, is_coming_told: bool, peer: Option<SocketAddrV4>, words: Words) -> Words
-    ensures { result ≡ parting terms.now.role terms.now.goes_on is_coming_told peer words }
+/// What is logged after a session, besides this: whether the peer at this address had arrived.
+fn session_end_words(
+    terms: &Terms,
+    is_arrival_logged: bool,
+    peer: Option<SocketAddrV4>,
+    words: Words,
+) -> Words
+    ensures { result ≡ session_end_words terms.now.mode terms.now.session.reconnects is_arrival_logged peer words }
 {
-    match terms.role {
-        _ if !terms.goes_on => words,
-        Role::LocalCalls if is_coming_told => Words {
+    match terms.mode {
+        _ if !terms.session.reconnects => words,
+        Mode::LocalDials if is_arrival_logged => Words {
             first: Some(Notice::PeerGone(peer)),
             ..words
         },
-        Role::LocalCalls => Words {
+        Mode::LocalDials => Words {
             first: Some(Notice::PeerGoneSilent(peer)),
             ..words
         },
-        Role::LocalAwaits | Role::RemoteCalls | Role::RemoteAwaits => Words {
+        _ => Words {
             last: Some(Notice::PeerGone(peer)),
             ..words
         },
     }
 }
 
-/// What it says of a session that ended so: of a failed accept, a broken rule and want of memory the first, and behind these
-/// a peer that can't be watched.
-fn fault_of(users: SocketAddrV4, unmet: Fault, how: SessionEnd) -> Words
-    ensures { result ≡ fault_of users unmet how }
+/// What is logged of a session that ended so: of a failed accept, a broken rule and lack of memory the first, and after these
+/// a peer that can't be had. A session logs itself which rule was broken.
+fn fault_of(users: SocketAddrV4, session_fault: Fault, how: SessionEnd) -> Words
+    ensures { result ≡ fault_of users session_fault how }
 {
     if how.accept_failed {
         return fails(
@@ -150,9 +159,9 @@ fn fault_of(users: SocketAddrV4, unmet: Fault, how: SessionEnd) -> Words
         );
     }
     match how.broken {
-        Some(rule) => fails(Some(Notice::Broke(rule, how.peer)), Fault::Broken(rule)),
+        Some(rule) => fails(None, Fault::Broken(rule)),
         None if how.lacked_memory => fails(None, Fault::OutOfMemory),
-        None if how.is_unwatched => fails(None, unmet),
+        None if how.lacks_peer => fails(None, session_fault),
         None => SILENCE,
     }
 }
@@ -160,107 +169,118 @@ fn fault_of(users: SocketAddrV4, unmet: Fault, how: SessionEnd) -> Words
 // ---- the machine
 
 impl State {
-    /// An end that has done nothing yet.
+    /// An endpoint that has done nothing yet.
     pub fn new(terms: &Terms) -> State
         ensures { result ≡ fresh terms.now }
     {
-        // A mistake at a port of its own comes first, but a `local` without `--keep` calls first.
-        let stage = match terms.role {
-            Role::LocalCalls if terms.goes_on => Stage::OpeningUsers,
-            Role::LocalCalls | Role::RemoteCalls => Stage::Calling,
-            Role::LocalAwaits | Role::RemoteAwaits => Stage::OpeningPeers,
+        // A mistake at a port of its own comes first, but a `local` without `--keep` connects first.
+        let stage = match terms.mode {
+            Mode::LocalDials if terms.session.reconnects => Stage::OpeningUsers,
+            Mode::LocalDials | Mode::RemoteDials => Stage::Connecting,
+            Mode::RemoteServes => Stage::AwaitingPeer,
+            Mode::LocalAwaits | Mode::RemoteAwaits | Mode::RemoteAdmits => Stage::OpeningPeers,
         };
         State {
             stage,
             words: SILENCE,
             peers: terms.peer,
             pause: 0,
-            spares: 0,
+            retries_left: 0,
             has_faulted: false,
         }
     }
 
-    /// What is asked for now.
-    pub fn asked(&self, terms: &Terms) -> Ask
-        ensures { result ≡ asked terms.now self.now }
+    /// The command that is due now.
+    pub fn next_command(&self, terms: &Terms) -> Command
+        ensures { result ≡ next_command terms.now self.now }
     {
-        let deed = match self.stage {
-            Stage::OpeningPeers => Deed::ListenForPeer(Peers {
+        let action = match self.stage {
+            Stage::OpeningPeers => Action::ListenForPeer(Peers {
                 address: terms.peer,
                 from: terms.from,
             }),
-            Stage::OpeningUsers => Deed::ListenForUsers(terms.users),
-            Stage::Calling => Deed::Call(Callee {
+            Stage::OpeningUsers => Action::ListenForUsers(terms.users),
+            Stage::Connecting => Action::Connect(Dial {
                 address: terms.peer,
                 limit: terms.limit,
             }),
-            Stage::AwaitingPeer => Deed::AwaitPeer,
-            Stage::AwaitingUser => Deed::AwaitUser,
-            Stage::Serving => Deed::Serve(terms.session),
-            Stage::Refusing => Deed::CloseUsers,
-            Stage::Pausing => Deed::Pause(self.pause),
-            Stage::Over => Deed::End(if self.has_faulted { 1 } else { 0 }),
+            Stage::AwaitingPeer => Action::AwaitPeer,
+            Stage::AdmittingPeers => Action::AdmitPeers,
+            Stage::AwaitingUser => Action::AwaitUser,
+            Stage::Serving => Action::Serve(terms.session),
+            Stage::RejectingUsers => Action::RejectUsers,
+            Stage::Pausing => Action::Pause(self.pause),
+            Stage::Over => Action::End(if self.has_faulted { 1 } else { 0 }),
         };
-        Ask {
+        Command {
             words: self.words,
-            deed,
+            action,
         }
     }
 
-    /// Hears what happened.
-    pub fn hear(&mut self, terms: &Terms, happened: Happened)
-        ensures { self.new ≡ after terms.now self.old happened }
+    /// Takes the outcome of the last command.
+    pub fn on_outcome(&mut self, terms: &Terms, outcome: Outcome)
+        ensures { self.new ≡ after terms.now self.old outcome }
     {
-        let why = happened.why();
+        let (why, no_thread) = (outcome.why(), Some(Reason::NoThread));
         let (peers, users) = (self.peers, terms.users.address);
-        match (self.stage, happened) {
+        let no_users = Fault::CannotListen(users);
+        let no_peer = Fault::CannotReach(terms.peer);
+        match (self.stage, outcome) {
             (Stage::Over, _) => {}
-            (Stage::Serving, _) => self.hear_session(terms, happened),
+            (Stage::Serving, _) => self.on_session_end(terms, outcome),
             (Stage::Pausing, _) => self.go_on(terms, SILENCE),
-            (_, Happened::AllCame) => self.go(Stage::Over, SILENCE),
-            (Stage::OpeningPeers, Happened::Listening(address)) => {
+            (_, Outcome::AllCame) => self.go(Stage::Over, SILENCE),
+            (Stage::OpeningPeers, Outcome::Listening(address)) => {
                 self.go_on(terms, begins_with(Some(Notice::Listening(address))));
                 self.peers = address;
             }
-            (Stage::OpeningUsers, Happened::Listening(address)) => {
+            (Stage::OpeningUsers, Outcome::Listening(address)) => {
                 self.go_on(terms, begins_with(Some(Notice::Listening(address))))
             }
-            (Stage::OpeningPeers | Stage::OpeningUsers, Happened::LackedMemory) => {
+            (Stage::OpeningUsers, Outcome::Done) => self.go_on(terms, SILENCE),
+            (Stage::OpeningPeers | Stage::OpeningUsers, Outcome::LackedMemory) => {
                 self.end(None, Fault::OutOfMemory)
             }
-            (Stage::Calling | Stage::AwaitingPeer, Happened::PeerCame)
-            | (Stage::AwaitingUser, Happened::UserCame) => self.go_on(terms, SILENCE),
-            (Stage::AwaitingPeer | Stage::Refusing, Happened::NoUsers(_))
-            | (Stage::OpeningUsers | Stage::AwaitingUser, _) => {
-                self.end(
-                    refusal(Named::Listen(users), why),
-                    Fault::CannotListen(users),
-                )
+            (Stage::OpeningPeers, Outcome::NoThread) => {
+                self.end(refusal(Named::Peers, no_thread), Fault::CannotListen(peers))
             }
-            (Stage::OpeningPeers | Stage::AwaitingPeer, _) => {
+            (Stage::OpeningUsers, Outcome::NoThread) => {
+                self.end(refusal(Named::Links, no_thread), no_peer)
+            }
+            (Stage::Connecting, Outcome::NoThread) => {
+                self.on_connect_failed(terms, refusal(Named::Links, no_thread))
+            }
+            (Stage::Connecting | Stage::AwaitingPeer, Outcome::PeerCame)
+            | (Stage::AwaitingUser, Outcome::UserCame) => self.go_on(terms, SILENCE),
+            (Stage::AwaitingPeer | Stage::RejectingUsers, Outcome::NoUsers(_))
+            | (Stage::OpeningUsers | Stage::AwaitingUser, _) => {
+                self.end(refusal(Named::Listen(users), why), no_users)
+            }
+            (Stage::OpeningPeers | Stage::AwaitingPeer | Stage::AdmittingPeers, _) => {
                 self.end(refusal(Named::Bind(peers), why), Fault::CannotListen(peers))
             }
-            (Stage::Calling, _) => {
-                self.hear_no_call(terms, refusal(Named::Peer(terms.peer), why))
+            (Stage::Connecting, _) => {
+                self.on_connect_failed(terms, refusal(Named::Peer(terms.peer), why))
             }
-            (Stage::Refusing, _) => self.go_on(terms, SILENCE),
+            (Stage::RejectingUsers, _) => self.go_on(terms, SILENCE),
         }
     }
 
-    /// Where a session can't be had: the option that is named, and what is said.
-    fn unmet(&self, terms: &Terms) -> (Named, Fault)
-        ensures { result ≡ (serving terms.now.role terms.now.users.address terms.now.peer self.now.peers, cannot_meet terms.now.role terms.now.peer self.now.peers) }
+    /// Where a session can't be had: the option that is named, and the fault.
+    fn session_fault(&self, terms: &Terms) -> (Named, Fault)
+        ensures { result ≡ (serving terms.now.mode terms.now.users.address terms.now.peer self.now.peers, peer_fault terms.now.mode terms.now.peer self.now.peers) }
     {
         let users = Named::Listen(terms.users.address);
-        match terms.role {
-            Role::LocalCalls => (users, Fault::CannotReach(terms.peer)),
-            Role::LocalAwaits => (users, Fault::CannotListen(self.peers)),
-            Role::RemoteCalls => (Named::Peer(terms.peer), Fault::CannotReach(terms.peer)),
-            Role::RemoteAwaits => (Named::Bind(self.peers), Fault::CannotListen(self.peers)),
+        match terms.mode {
+            Mode::LocalDials => (users, Fault::CannotReach(terms.peer)),
+            Mode::LocalAwaits => (users, Fault::CannotListen(self.peers)),
+            Mode::RemoteDials => (Named::Peer(terms.peer), Fault::CannotReach(terms.peer)),
+            _ => (Named::Bind(self.peers), Fault::CannotListen(self.peers)),
         }
     }
 
-    /// Goes on here, and says this.
+    /// Goes on here, and logs this.
     fn go(&mut self, stage: Stage, words: Words)
         ensures { self.new ≡ goes self.old stage words }
     {
@@ -268,14 +288,17 @@ impl State {
         self.words = words;
     }
 
-    /// Goes on, as what it was to do is done, and says this.
+    /// Goes on, as its command is done, and logs this.
     fn go_on(&mut self, terms: &Terms, words: Words)
-        ensures { self.new ≡ goes_on terms.now self.old words }
+        ensures { self.new ≡ proceeds terms.now self.old words }
     {
-        self.go(next(self.stage, terms.role, terms.goes_on), words);
+        self.go(
+            next(self.stage, terms.mode, terms.session.reconnects),
+            words,
+        );
     }
 
-    /// Says this fault behind its reason, and ends.
+    /// Logs this fault after its reason, and ends.
     fn end(&mut self, reason: Option<Notice>, fault: Fault)
         ensures { self.new ≡ ends self.old reason fault }
     {
@@ -283,11 +306,11 @@ impl State {
         self.has_faulted = true;
     }
 
-    /// The peer that it called can't be reached.
-    fn hear_no_call(&mut self, terms: &Terms, reason: Option<Notice>)
-        ensures { self.new ≡ unreached terms.now.role terms.now.goes_on terms.now.peer reason self.old }
+    /// The connect failed.
+    fn on_connect_failed(&mut self, terms: &Terms, reason: Option<Notice>)
+        ensures { self.new ≡ unreached terms.now.mode terms.now.session.reconnects terms.now.peer reason self.old }
     {
-        if !terms.goes_on {
+        if !terms.session.reconnects {
             self.end(reason, Fault::CannotReach(terms.peer));
             return;
         }
@@ -296,47 +319,59 @@ impl State {
             last: Some(Notice::Unreached(terms.peer)),
             ..refused
         };
-        match terms.role {
-            Role::RemoteCalls => {
+        match terms.mode {
+            Mode::RemoteDials => {
                 self.go(Stage::Pausing, unreached);
                 self.pause = longer(self.pause);
             }
-            _ if self.spares == 0 => self.go(Stage::Refusing, refused),
+            _ if self.retries_left == 0 => self.go(Stage::RejectingUsers, refused),
             _ => {
                 self.go(Stage::Pausing, unreached);
                 self.pause = 1;
-                self.spares -= 1;
+                self.retries_left -= 1;
             }
         }
     }
 
     /// The session has ended, or could not begin.
-    fn hear_session(&mut self, terms: &Terms, happened: Happened)
-        ensures { self.new ≡ after_serving terms.now self.old happened }
+    fn on_session_end(&mut self, terms: &Terms, outcome: Outcome)
+        ensures { self.new ≡ after_serving terms.now self.old outcome }
     {
         let users = terms.users.address;
-        let (named, unmet) = self.unmet(terms);
+        let (named, session_fault) = self.session_fault(terms);
         let clean = SessionEnd::clean();
-        match happened {
-            Happened::SessionEnded(how) => self.part(terms, how, fault_of(users, unmet, how)),
-            Happened::LackedMemory => self.part(terms, clean, fails(None, Fault::OutOfMemory)),
-            _ => self.part(terms, clean, fails(refusal(named, happened.why()), unmet)),
+        match outcome {
+            Outcome::SessionEnded(how) => self.end_session(
+                terms,
+                how,
+                fault_of(users, session_fault, how),
+            ),
+            Outcome::LackedMemory => self.end_session(
+                terms,
+                clean,
+                fails(None, Fault::OutOfMemory),
+            ),
+            _ => self.end_session(
+                terms,
+                clean,
+                fails(refusal(named, outcome.why()), session_fault),
+            ),
         }
     }
 
-    /// Goes on behind a session that ended so, of which it says this.
-    fn part(&mut self, terms: &Terms, how: SessionEnd, words: Words)
-        ensures { self.new ≡ parted terms.now self.old how words }
+    /// Goes on after a session that ended so, and logs this of it.
+    fn end_session(&mut self, terms: &Terms, how: SessionEnd, words: Words)
+        ensures { self.new ≡ end_session terms.now self.old how words }
     {
-        let is_lost = !(how.is_coming_told || how.is_peer_away);
+        let is_lost = !(how.is_arrival_logged || how.is_peer_away);
         self.pause = if how.has_lasted {
             0
         } else {
             longer(self.pause)
         };
-        self.spares = if how.is_peer_away { 10 } else { 0 };
-        self.stage = behind_session(terms.role, terms.goes_on, is_lost, self.pause);
-        self.words = parting(terms, how.is_coming_told, how.peer, words);
+        self.retries_left = if how.is_peer_away { 10 } else { 0 };
+        self.stage = after_session(terms.mode, terms.session.reconnects, is_lost, self.pause);
+        self.words = session_end_words(terms, how.is_arrival_logged, how.peer, words);
         self.has_faulted = self.has_faulted || words.fault.is_some();
     }
 }

@@ -1,4 +1,4 @@
-//! What the two ends of a tunnel are told to do, as the words of a command line gave it.
+//! What the command line asks of the two endpoints of a tunnel.
 
 ghost use Rattle.std.specs.Prelude.{◌≡◌};
 ghost use Rattle.std.specs.List.{list_any};
@@ -6,7 +6,7 @@ ghost use Rattle.ymx_policy.specs.Networks.{admits, all, has, has_all};
 
 use std::net::{Ipv4Addr, SocketAddrV4};
 
-/// Where an end of the tunnel meets its peer.
+/// Where an endpoint meets its peer.
 #[derive(Clone, Copy)]
 pub enum PeerAddress {
     /// It connects to the peer at this address.
@@ -24,10 +24,10 @@ pub struct Network {
     pub bits: u8,
 }
 
-/// How many networks there are at most from which peers may call.
+/// The most networks that --from may name.
 pub const NETWORKS: usize = 8;
 
-/// From where peers may call: from the networks here, in any order, one of which may stand here several times.
+/// From where peers may connect: these networks, in any order, one of which may stand here several times.
 #[derive(Clone, Copy)]
 pub struct Networks {
     pub networks: [Network; NETWORKS],
@@ -44,7 +44,7 @@ impl Network {
 }
 
 impl Networks {
-    /// Whether who calls from this address is let in. Where it isn't known, only where all are.
+    /// Whether a peer at this address is admitted. Where it isn't known, only where all are.
     pub fn admits(&self, from: Option<SocketAddrV4>) -> bool
         ensures { result ≡ admits self.now from }
     {
@@ -82,7 +82,7 @@ fn any_is_all(networks: &[Network]) -> bool
     networks.iter().any(|network| network.bits == 0)
 }
 
-/// What an endpoint of a tunnel is told to do, as the words of a command line gave it.
+/// What the command line asks of an endpoint of a tunnel.
 #[derive(Clone, Copy)]
 pub struct Plan {
     pub endpoint: Endpoint,
@@ -90,21 +90,21 @@ pub struct Plan {
     pub peer: PeerAddress,
     /// What each of its sessions is like.
     pub session: SessionOptions,
-    /// Whether it meets a peer again once one has gone: a `local` that calls does at the next connection.
-    pub is_kept: bool,
-    /// How many seconds a call to the peer may take, 1 to 3,600. None if the command line doesn't say.
+    /// Whether it reconnects after the link is lost: a `local` that connects does so for the next user.
+    pub keeps: bool,
+    /// Connect timeout in seconds, 1 to 3,600. None if the command line names none.
     pub timeout: Option<u32>,
-    /// From where its peer may call, where it listens for it.
+    /// From where its peer may connect, where it listens for it.
     pub from: Networks,
     /// Where it answers requests for what it counts. None if nowhere.
     pub status: Option<SocketAddrV4>,
-    /// Whether it says that it is ready, and how each connection ended.
+    /// Whether it logs listening addresses, peers and connections.
     pub is_verbose: bool,
     /// Whether each line on standard error begins with the time.
     pub has_times: bool,
 }
 
-/// Which endpoint it is, and what only that one is told.
+/// Which endpoint it is, with the options of that one alone.
 #[derive(Clone, Copy)]
 pub enum Endpoint {
     /// `ymx local`: each connection becomes a stream.
@@ -115,7 +115,7 @@ pub enum Endpoint {
         count: Option<u32>,
         /// How many connections to its peer it keeps, 1 to 64: one where it listens for its peer.
         links: u32,
-        /// Whether each stream begins with the line of PROXY protocol, version 1, that says who its user is.
+        /// Whether each stream begins with a PROXY protocol v1 header, which names its user.
         names_users: bool,
     },
     /// `ymx remote`: each stream becomes a connection to the target.
@@ -124,7 +124,7 @@ pub enum Endpoint {
         target: SocketAddrV4,
         /// How many streams are served at once, 1 to 1,024.
         workers: u32,
-        /// How many peers it serves at once, 1 to 256. None if the command line doesn't say.
+        /// How many peers it serves at once, 1 to 256. None if the command line names none.
         peers: Option<u32>,
     },
 }
@@ -134,9 +134,9 @@ pub enum Endpoint {
 pub struct SessionOptions {
     /// How many bytes of a stream may be unread here, 262,144 to 16,777,216.
     pub window: u32,
-    /// After how many seconds without a sign of the peer it is asked for one, 1 to 3,600. None if it never is.
+    /// After how many seconds of silence the peer is pinged, 1 to 3,600. None if it never is.
     pub ping: Option<u32>,
-    /// After how many seconds of silence the system asks the other side of each connection for a sign, 1 to 3,600. 0 if it
+    /// TCP keepalive: after how many seconds of silence the system sends the first probe, 1 to 3,600. 0 if it
     /// never does.
     pub keepalive: u32,
     /// After how many seconds in which no byte moved a connection is aborted, 1 to 86,400. None if never.

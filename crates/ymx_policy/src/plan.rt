@@ -1,52 +1,54 @@
-//! What an end is told to do, and what follows of it.
+//! What follows from the command line.
 
 ghost use Rattle.std.specs.Prelude.{◌≡◌};
-ghost use Rattle.ymx_policy.specs.Plans.{address_of, call_limit, keepalive_of, places_of, role_of, terms_of};
+ghost use Rattle.ymx_policy.specs.Plans.{address_of, connect_limit, keepalive_of, link_count_of, mode_of, of_link, reconnects_of, terms_of};
 
-use crate::asks::{Keepalive, Session, Users};
+use crate::commands::{Keepalive, Session, Users};
 use crate::options::{Endpoint, Networks, PeerAddress, Plan};
 use std::net::SocketAddrV4;
 
-/// How many peers a `remote` with `--keep` serves at once where the command line says nothing.
+/// How many peers a `remote` with `--keep` serves at once by default.
 const PEERS: u32 = 16;
 
-/// How many seconds a call may take where others wait for its end, and the command line says nothing.
+/// The default connect timeout in seconds, where others wait for the connect.
 const TIMEOUT: u32 = 10;
 
-/// How often the system asks for a sign before a connection fails.
+/// After how many unanswered probes a connection fails.
 const PROBES: u32 = 4;
 
-/// Which end of a tunnel it is, and whether it calls its peer or awaits it.
+/// Which endpoint it is, and whether it connects to its peer or awaits it.
 #[derive(Clone, Copy)]
-pub enum Role {
+pub enum Mode {
     /// `ymx local --peer`
-    LocalCalls,
+    LocalDials,
     /// `ymx local --bind`
     LocalAwaits,
     /// `ymx remote --peer`
-    RemoteCalls,
+    RemoteDials,
     /// `ymx remote --bind`
     RemoteAwaits,
+    /// `ymx remote --bind` with `--keep` or `--peers`: it admits peers to its links
+    RemoteAdmits,
+    /// One of these links, to which peers are handed
+    RemoteServes,
 }
 
-/// What follows of a plan: all that an end decides by, and asks with.
+/// What follows from a plan: all that an endpoint decides by.
 #[derive(Clone, Copy)]
 pub struct Terms {
-    pub role: Role,
-    /// Another session follows one that is lost.
-    pub goes_on: bool,
-    /// Where the peer is called, or calls.
+    pub mode: Mode,
+    /// Where the peer is met.
     pub peer: SocketAddrV4,
-    /// From where it may call.
+    /// From where it may connect.
     pub from: Networks,
-    /// How many seconds a call to it may take. None for as long as the system tries.
+    /// Connect timeout in seconds. None is the system's own.
     pub limit: Option<u32>,
     /// Where users come from.
     pub users: Users,
     /// What its sessions are like.
     pub session: Session,
-    /// How many sessions it may have at once, each in a place of its own.
-    pub places: u32,
+    /// How many sessions it may have at once, each on a link of its own.
+    pub link_count: u32,
 }
 
 impl PeerAddress {
@@ -60,7 +62,7 @@ impl PeerAddress {
     }
 }
 
-/// How the system asks for signs after so many seconds of silence, and then after each quarter of them. None for 0.
+/// TCP keepalive: the first probe after so many seconds of silence, and then one after each quarter of them. None for 0.
 pub fn keepalive_of(seconds: u32) -> Option<Keepalive>
     ensures { result ≡ keepalive_of seconds }
 {
@@ -74,9 +76,9 @@ pub fn keepalive_of(seconds: u32) -> Option<Keepalive>
     })
 }
 
-/// How long a call may take, where others wait for its end or not.
-fn call_limit(is_awaited: bool, timeout: Option<u32>) -> Option<u32>
-    ensures { result ≡ call_limit is_awaited timeout }
+/// The connect timeout, where others wait for the connect or not.
+fn connect_limit(is_awaited: bool, timeout: Option<u32>) -> Option<u32>
+    ensures { result ≡ connect_limit is_awaited timeout }
 {
     timeout.or(is_awaited.then_some(TIMEOUT))
 }
@@ -86,51 +88,75 @@ impl Plan {
     pub fn terms(self) -> Terms
         ensures { result ≡ terms_of self }
     {
-        let (is_kept, peer) = (self.is_kept, self.peer.address());
-        let (role, places) = self.role_and_places();
+        let (keeps, peer) = (self.keeps, self.peer.address());
+        let (mode, link_count) = self.mode_and_link_count();
+        let (address, count, has_links) = match self.endpoint {
+            Endpoint::Local {
+                listen,
+                count,
+                links,
+                ..
+            } => (listen, count, links > 1),
+            Endpoint::Remote { .. } => (peer, None, false),
+        };
         let has_users = matches!(self.endpoint, Endpoint::Local { .. });
-        let (count, has_links) = match self.endpoint {
-            Endpoint::Local { count, links, .. } => (count, links > 1),
-            Endpoint::Remote { .. } => (None, false),
-        };
-        let (address, goes_on) = match self.endpoint {
-            Endpoint::Local { listen, .. } => (listen, is_kept),
-            Endpoint::Remote { peers, .. } => (peer, is_kept || peers.is_some()),
-        };
-        let is_awaited = is_kept || has_links;
+        let is_awaited = keeps || has_links;
         Terms {
-            role,
-            goes_on,
+            mode,
             peer,
             from: self.from,
-            limit: call_limit(is_awaited, self.timeout),
+            limit: connect_limit(is_awaited, self.timeout),
             users: Users {
                 address,
                 count,
-                is_patient: is_kept,
+                keeps_listening: keeps,
             },
             session: Session {
-                endpoint: self.endpoint,
                 options: self.session,
-                is_sounded: self.session.ping.is_some() || has_users && is_awaited,
-                is_followed: goes_on,
+                needs_first_frame: self.session.ping.is_some() || has_users && is_awaited,
+                reconnects: self.reconnects(),
             },
-            places,
+            link_count,
         }
     }
 
-    /// Which end it is, and how many sessions it may have at once.
-    fn role_and_places(self) -> (Role, u32)
-        ensures { result ≡ (role_of self.endpoint self.peer, places_of self.endpoint self.peer self.is_kept) }
+    /// Whether another session follows one that is lost.
+    fn reconnects(self) -> bool
+        ensures { result ≡ reconnects_of self.endpoint self.keeps }
+    {
+        match self.endpoint {
+            Endpoint::Local { .. } => self.keeps,
+            Endpoint::Remote { peers, .. } => self.keeps || peers.is_some(),
+        }
+    }
+
+    /// Which endpoint it is, and how many sessions it may have at once.
+    fn mode_and_link_count(self) -> (Mode, u32)
+        ensures { result ≡ (mode_of self.endpoint self.peer self.keeps, link_count_of self.endpoint self.peer self.keeps) }
     {
         match (self.endpoint, self.peer) {
-            (Endpoint::Local { links, .. }, PeerAddress::Connect(_)) => (Role::LocalCalls, links),
-            (Endpoint::Local { .. }, PeerAddress::Listen(_)) => (Role::LocalAwaits, 1),
-            (Endpoint::Remote { .. }, PeerAddress::Connect(_)) => (Role::RemoteCalls, 1),
+            (Endpoint::Local { links, .. }, PeerAddress::Connect(_)) => (Mode::LocalDials, links),
+            (Endpoint::Local { .. }, PeerAddress::Listen(_)) => (Mode::LocalAwaits, 1),
+            (Endpoint::Remote { .. }, PeerAddress::Connect(_)) => (Mode::RemoteDials, 1),
+            (Endpoint::Remote { .. }, PeerAddress::Listen(_)) if !self.reconnects() => {
+                (Mode::RemoteAwaits, 1)
+            }
             (Endpoint::Remote { peers, .. }, PeerAddress::Listen(_)) => {
-                let usual = if self.is_kept { PEERS } else { 1 };
-                (Role::RemoteAwaits, peers.unwrap_or(usual))
+                (Mode::RemoteAdmits, peers.unwrap_or(PEERS))
             }
         }
+    }
+}
+
+impl Terms {
+    /// Those of each of its links.
+    pub fn of_link(self) -> Terms
+        ensures { result ≡ of_link self }
+    {
+        let mode = match self.mode {
+            Mode::RemoteAdmits => Mode::RemoteServes,
+            mode => mode,
+        };
+        Terms { mode, ..self }
     }
 }

@@ -1,9 +1,9 @@
-//! Why the system refused, as `-v` tells it.
+//! Why the system refused, as the log says it.
 
 use std::io::ErrorKind;
 use std::{fmt, io};
 
-/// Why the system refused. It prints as `-v` tells it.
+/// Why the system refused. It prints as the log says it.
 #[derive(Clone, Copy, PartialEq, Eq)]
 pub enum Reason {
     InUse,
@@ -13,12 +13,12 @@ pub enum Reason {
     Unreachable,
     TimedOut,
     Reset,
-    /// No port of this machine is left for a call.
+    /// No port of this machine is left to connect from.
     NoPort,
     NoDescriptor,
     NoMemory,
     NoThread,
-    /// The system has this number for it, or 0 where it says none.
+    /// The system has this number for it, or 0 where it gives none.
     Other(i32),
 }
 
@@ -46,8 +46,8 @@ impl Reason {
         }
     }
 
-    /// The reason of this error of a call: an address that can't be had is a port there.
-    pub fn of_call(error: &io::Error) -> Reason {
+    /// The reason of this error of a connect: an address that can't be had is a port there.
+    pub fn of_connect(error: &io::Error) -> Reason {
         match Reason::of(error) {
             Reason::NotHere => Reason::NoPort,
             reason => reason,

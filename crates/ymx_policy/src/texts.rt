@@ -1,6 +1,6 @@
 //! The texts of faults and notices. They take no memory.
 
-use crate::asks::{Fault, Named, Notice};
+use crate::commands::{Fault, Named, Notice};
 use arrayvec::ArrayString;
 use std::fmt::{self, Write};
 use std::net::SocketAddrV4;
@@ -32,11 +32,17 @@ pub fn notice_text(notice: Notice) -> Text {
         Notice::PeerGone(peer) => writeln!(text, "ymx: the peer has gone{}", source_text(peer)),
         Notice::PeerGoneSilent(peer) => {
             let from = source_text(peer);
-            writeln!(text, "ymx: the peer has gone without a sign of life{from}")
+            writeln!(text, "ymx: the peer has gone before its first frame{from}")
         }
         Notice::Unreached(address) => writeln!(text, "ymx: cannot reach {address}"),
-        Notice::Stranger(from) => writeln!(text, "ymx: closed a stranger{}", source_text(from)),
-        Notice::Crowded(from) => writeln!(text, "ymx: closed a peer too many{}", source_text(from)),
+        Notice::Denied(from) => {
+            let from = source_text(from);
+            writeln!(text, "ymx: rejected a peer{from}: --from denies it")
+        }
+        Notice::OverLimit(from) => {
+            let from = source_text(from);
+            writeln!(text, "ymx: rejected a peer{from}: --peers reached")
+        }
         Notice::Refused(option, reason) => writeln!(text, "ymx: {option}: {reason}"),
         Notice::Rejected(peer) => {
             let from = source_text(peer);
@@ -50,7 +56,7 @@ pub fn notice_text(notice: Notice) -> Text {
     text
 }
 
-/// From where it came, as it stands behind what came: nothing where that isn't known.
+/// From where it came, as it ends a line: nothing where that isn't known.
 pub fn source_text(from: Option<SocketAddrV4>) -> Text {
     let mut text = Text::new();
     if let Some(address) = from {

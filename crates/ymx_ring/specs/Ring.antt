@@ -7,7 +7,7 @@ pub record Contents : Type 0 where
   pub items : List ℕ
   pub capacity : ℕ
 
--- the ring's bytes are those of the buffer behind it, and so is its capacity
+-- the ring's bytes are those of its buffer, and so is its capacity
 abbrev pub contents_of : Buffer ℕ → Contents
 contents_of buffer = record { items = buffer.items; capacity = buffer.capacity }
 

@@ -6,16 +6,16 @@
 ghost use Rattle.std.specs.Prelude.{◌≡◌, ◌+◌, ◌*◌, ◌^◌, ◌<◌, ◌≤◌, ◌↔◌, [], ◌++◌, length, take, drop, min, IsTrue, MatchBool, IfOk, OnOk, OnErr};
 ghost use Rattle.ymx_memory.specs.Bounds.{widest_ring, most_written};
 
-mod warm;
+mod pool;
 
 use circular_buffer::HeapCircularBuffer;
+pub use pool::Pool;
 use std::alloc::Global;
 use std::marker::Model;
 use std::mem;
-pub use warm::Warm;
 use ymx_memory::RefusedAllocation;
 
-/// A block through which at most so many bytes went is not worn. Its memory is in use for so many at most.
+/// A block through which at most so many bytes went is not used. Its memory is in use for so many at most.
 const MOST_UNWORN: usize = 16_384;
 
 /// A queue of bytes in one block of memory. Its capacity is set when it is made, and only `grow` changes it.
@@ -27,7 +27,7 @@ const MOST_UNWORN: usize = 16_384;
 pub struct Ring {
     bytes: HeapCircularBuffer<u8>,
     /// How many bytes were put into the block since it was taken. So much of its memory is in use, or all of it.
-    worn: usize,
+    used: usize,
 }
 
 impl Model for Ring {
@@ -53,7 +53,7 @@ impl Ring {
         ensures of_capacity { IfOk result (λ ring. ring.capacity ≡ capacity) }
     {
         let bytes = ymx_memory::ring(alloc, capacity)?;
-        Ok(Ring { bytes, worn: 0 })
+        Ok(Ring { bytes, used: 0 })
     }
 
     /// Puts all of `bytes` in at the back. They have to fit: at most `room` of them. Takes no memory.
@@ -65,7 +65,7 @@ impl Ring {
         ensures same_capacity { self.new.capacity ≡ self.old.capacity }
     {
         self.bytes.fill_from_slice(bytes);
-        self.worn = self.worn.saturating_add(bytes.len());
+        self.used = self.used.saturating_add(bytes.len());
     }
 
     /// Moves the first bytes out into `buffer`, as many as are there and fit, and returns their number.
@@ -82,20 +82,20 @@ impl Ring {
         self.bytes.read_into(buffer)
     }
 
-    /// As `put`. An empty ring first exchanges its block for the one of `warm` that was used last.
-    pub fn put_warm(&mut self, warm: &mut Warm, bytes: &[u8])
+    /// As `put`. An empty ring first exchanges its block for the one of `pool` that was used last.
+    pub fn put_pooled(&mut self, pool: &mut Pool, bytes: &[u8])
         requires { length self.old.items + length bytes.now ≤ self.old.capacity }
         ensures at_back { self.new.items ≡ self.old.items ++ bytes.now }
         ensures same_capacity { self.new.capacity ≡ self.old.capacity }
     {
         if !bytes.is_empty() {
-            warm.lend(self);
+            pool.lend(self);
         }
         self.put(bytes);
     }
 
-    /// As `take`. A ring that gets empty gives its block to `warm`, for one that was used longer ago.
-    pub fn take_warm(&mut self, warm: &mut Warm, buffer: &mut [u8]) -> usize
+    /// As `take`. A ring that gets empty gives its block to `pool`, for one that was used longer ago.
+    pub fn take_pooled(&mut self, pool: &mut Pool, buffer: &mut [u8]) -> usize
         ensures count { result ≡ min (length buffer.old) (length self.old.items) }
         ensures taken { buffer.new ≡ take result self.old.items ++ drop result buffer.old }
         ensures left { self.new.items ≡ drop result self.old.items }
@@ -110,12 +110,12 @@ impl Ring {
         let cut = first.len();
         buffer[..cut].copy_from_slice(first);
         buffer[cut..count].copy_from_slice(wrapped);
-        self.cool(warm);
+        self.go_idle(pool);
         count
     }
 
-    /// As `skip`. A ring that gets empty gives its block to `warm`, for one that was used longer ago.
-    pub fn skip_warm(&mut self, warm: &mut Warm, count: usize)
+    /// As `skip`. A ring that gets empty gives its block to `pool`, for one that was used longer ago.
+    pub fn skip_pooled(&mut self, pool: &mut Pool, count: usize)
         requires { count ≤ length self.old.items }
         ensures left { self.new.items ≡ drop count self.old.items }
         ensures same_capacity { self.new.capacity ≡ self.old.capacity }
@@ -123,41 +123,41 @@ impl Ring {
         if count < self.len() {
             self.skip(count);
         } else if count > 0 {
-            self.cool(warm);
+            self.go_idle(pool);
         }
     }
 
-    /// As `clear`. The block goes to `warm`, for one that was used longer ago.
-    pub fn cool(&mut self, warm: &mut Warm)
+    /// As `clear`. The block goes to `pool`, for one that was used longer ago.
+    pub fn go_idle(&mut self, pool: &mut Pool)
         ensures empty { self.new.items ≡ [] }
         ensures same_capacity { self.new.capacity ≡ self.old.capacity }
     {
         self.clear();
-        warm.give_back(self);
+        pool.give_back(self);
     }
 
-    /// As `new`, but with a block of this capacity that `warm` kept of a ring that is gone, where it has one.
-    pub fn new_warm(
+    /// As `new`, but with a block of this capacity that `pool` kept of a ring that is gone, where it has one.
+    pub fn new_pooled(
         alloc: Global,
-        warm: &mut Warm,
+        pool: &mut Pool,
         capacity: usize,
     ) -> Result<Ring, RefusedAllocation>
         requires at_most { capacity ≤ widest_ring }
         ensures empty { IfOk result (λ ring. ring.items ≡ []) }
         ensures of_capacity { IfOk result (λ ring. ring.capacity ≡ capacity) }
     {
-        match warm.kept(capacity) {
+        match pool.kept(capacity) {
             Some(ring) => Ok(ring),
             None => Ring::new(alloc, capacity),
         }
     }
 
-    /// Ends the ring. Its block is kept for the next one, if there is room for it in `warm`.
-    pub fn end(self, warm: &mut Warm) {
-        warm.keep(self);
+    /// Ends the ring. Its block is kept for the next one, if there is room for it in `pool`.
+    pub fn end(self, pool: &mut Pool) {
+        pool.keep(self);
     }
 
-    /// Returns all bytes, as they lie in the ring's block: those up to its end, and behind them those that wrap round
+    /// Returns all bytes, as they lie in the ring's block: those up to its end, and after them those that wrap round
     /// it. None is taken out.
     ///
     /// Example: `abc` and nothing for a ring that holds `abc`, none of which wraps.
@@ -167,7 +167,7 @@ impl Ring {
         self.bytes.as_slices()
     }
 
-    /// Drops the first `count` bytes, of which there have to be so many, and keeps those behind them. The ring
+    /// Drops the first `count` bytes, of which there have to be so many, and keeps those after them. The ring
     /// keeps its memory.
     ///
     /// Example: `skip(1)` on a ring that holds `abc` leaves `bc`.
@@ -190,7 +190,7 @@ impl Ring {
         self.bytes.clear();
     }
 
-    /// Keeps the first `count` bytes, of which there have to be so many, and drops those behind them.
+    /// Keeps the first `count` bytes, of which there have to be so many, and drops those after them.
     /// The ring keeps its memory.
     ///
     /// Example: `keep(1)` on a ring that holds `abc` leaves `a`.
@@ -261,39 +261,39 @@ impl Ring {
         wider.fill_from_slice(front);
         wider.fill_from_slice(wrapped);
         self.bytes = wider;
-        self.worn = self.len();
+        self.used = self.len();
         Ok(())
     }
 
     /// Whether enough bytes went through the ring's block, since it was taken, that a fresh one would take less memory:
     /// more than 16,384.
-    pub(crate) fn is_worn(&self) -> bool {
-        self.worn > MOST_UNWORN
+    pub(crate) fn is_used(&self) -> bool {
+        self.used > MOST_UNWORN
     }
 
-    /// Exchanges a block that is worn and empty for a fresh one of its capacity, and hands the worn one out. `None` where
+    /// Exchanges a block that is used and empty for a fresh one of its capacity, and hands the used one out. `None` where
     /// it isn't, or there is no memory for another.
     pub(crate) fn refresh(&mut self) -> Option<Ring>
         ensures same { self.new ≡ self.old }
     {
-        if !self.is_worn() || !self.is_empty() {
+        if !self.is_used() || !self.is_empty() {
             return None;
         }
         let bytes = ymx_memory::wider_ring(&self.bytes, self.capacity()).ok()?;
-        Some(mem::replace(self, Ring { bytes, worn: 0 }))
+        Some(mem::replace(self, Ring { bytes, used: 0 }))
     }
 
-    /// Exchanges a block that is worn, or has another capacity, for a fresh one of this capacity, of which no memory is
+    /// Exchanges a block that is used, or has another capacity, for a fresh one of this capacity, of which no memory is
     /// in use but for the bytes that are there. It has to hold them, and it is at most twice what it was, and
     /// 4,294,967,295 more.
     ///
-    /// True where it did; else nothing has changed: the block isn't worn, or there was no memory for another.
+    /// True where it did; else nothing has changed: the block isn't used, or there was no memory for another.
     pub fn renew(&mut self, capacity: usize) -> bool
         requires holds_all { length self.old.items ≤ capacity }
         requires at_most { capacity ≤ 2 * self.old.capacity + most_written }
         ensures { MatchBool result (self.new ≡ record { items = self.old.items; capacity = capacity }) (self.new ≡ self.old) }
     {
-        let is_worth_it = self.is_worn() || self.capacity() != capacity;
+        let is_worth_it = self.is_used() || self.capacity() != capacity;
         is_worth_it && self.grow(capacity).is_ok()
     }
 }

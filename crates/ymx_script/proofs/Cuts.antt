@@ -1,4 +1,4 @@
--- The first word of a line, and those behind it.
+-- The first word of a line, and those after it.
 use Rattle.std.proofs.Common.{◌≡◌, ℕ, ◌+◌, ◌==◌, List, [], ◌∷◌, length, take, drop, Bool, true, false, not, nat_lt, Option, None, Some, cond, refl, sym, ap, ◌∙◌, arith}
 use Rattle.std.proofs.lemmas.Grind.{common_steps}
 use Rattle.std.specs.List.{position, position_or_len}
@@ -9,7 +9,7 @@ use Rattle.ymx_script.proofs.Feeds.{not_found, found_at}
 abbrev pub word_len : List ℕ → ℕ
 word_len bytes = position_or_len (λ b. b == 32) bytes
 
--- the words behind the first space, if there is one
+-- the words after the first space, if there is one
 abbrev pub words_behind : List ℕ → ℕ → List (List ℕ)
 words_behind bytes n = cond (nat_lt n (length bytes)) (words (drop (n + 1) bytes)) []
 
@@ -28,7 +28,7 @@ cut_step b bs false e =
     ap (onto b) e ∙ ap (λ zs. (b ∷ take (word_len bs) bs) ∷ zs) (sym (behind_step b bs (word_len bs)))
     ∙ ap (λ zs. zs ∷ words_behind (b ∷ bs) (1 + word_len bs)) (sym front)
 
--- the words of a line are what stands before its first space, and the words behind it
+-- the words of a line are what stands before its first space, and the words after it
 pub cut_at : (bytes : List ℕ) → words bytes ≡ take (word_len bytes) bytes ∷ words_behind bytes (word_len bytes)
 cut_at [] = refl
 cut_at (b ∷ bs) = cut_step b bs (b == 32) (cut_at bs)
@@ -43,7 +43,7 @@ cut_none bytes found is none =
     cut_at bytes ∙ ap (λ t. take (word_len bytes) bytes ∷ cond t (words (drop (word_len bytes + 1) bytes)) []) short
     ∙ ap (λ zs. zs ∷ []) (take_short bytes (word_len bytes) short)
 
--- at a space the first word ends, and the others stand behind it
+-- at a space the first word ends, and the others stand after it
 pub cut_some : (bytes : List ℕ) (found : Option ℕ) (i : ℕ) → found ≡ position (λ b. b == 32) bytes → found ≡ Some i →
     words bytes ≡ take i bytes ∷ words (drop (i + 1) bytes)
 cut_some bytes found i is some =

@@ -6,7 +6,7 @@ use Rattle.ymx_script.specs.declared.lines.Lines.{Lines}
 use Rattle.ymx_script.specs.declared.lines.ScriptEnd.{ScriptEnd}
 use Rattle.ymx_script.specs.declared.lines.ScriptEnd.TheVariants.{Good, Line, Reading, Writing, Memory}
 use Rattle.ymx_script.specs.Printing.{error_line}
-use Rattle.ymx_script.specs.Scripts.{Place, IsBad, PrintsFirstLines}
+use Rattle.ymx_script.specs.Scripts.{Position, IsBad, PrintsFirstLines}
 use Rattle.ymx_script.specs.Scripts.IsBad.{TooLong, Mistaken, LastMistaken}
 use Rattle.ymx_script.specs.Reading.{IsAtMistake}
 use Rattle.ymx_script.specs.Outputs.{PrintsByEnd, PrintsBeginning, Tells}
@@ -14,7 +14,7 @@ use Rattle.ymx_script.specs.Outputs.{PrintsByEnd, PrintsBeginning, Tells}
 pub starts_itself : (text : List ℕ) → StartsWith text text
 starts_itself text = grind (arith, common_steps)
 
-pub bad_if : (bytes after : List ℕ) (p : Place) (ended other : Type 0) → (ended → other) → IsBad bytes after p ended → IsBad bytes after p other
+pub bad_if : (bytes after : List ℕ) (p : Position) (ended other : Type 0) → (ended → other) → IsBad bytes after p ended → IsBad bytes after p other
 bad_if bytes after p ended other f (TooLong one long) = TooLong one long
 bad_if bytes after p ended other f (Mistaken one mistake rest ends) = Mistaken one mistake rest ends
 bad_if bytes after p ended other f (LastMistaken end one mistake last) = LastMistaken (f end) one mistake last

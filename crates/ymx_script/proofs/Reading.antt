@@ -4,17 +4,17 @@ use Rattle.std.proofs.lemmas.Grind.{common_steps}
 use Rattle.ymx_script.specs.declared.lines.Lines.{Lines}
 use Rattle.ymx_script.specs.declared.player.Player.{Player}
 use Rattle.ymx_script.specs.Language.{command}
-use Rattle.ymx_script.specs.Players.{place_of}
-use Rattle.ymx_script.specs.Scripts.{EndsLine, Place, IsPlayed, Plays, PrintsWhole, last_line, first_place, with_feeds, line_number, has_feed, longest, is_mistake}
+use Rattle.ymx_script.specs.Players.{position_of}
+use Rattle.ymx_script.specs.Scripts.{EndsLine, Position, IsPlayed, Plays, PrintsWhole, last_line, first_position, with_feeds, line_number, has_feed, longest, is_mistake}
 use Rattle.ymx_script.specs.Scripts.IsBad.{TooLong, Mistaken}
 use Rattle.ymx_script.specs.Reading.{IsReading, IsAtMistake, IsFront}
 use Rattle.ymx_script.proofs.Feeds.{one_of_parts}
 
 -- one more line
-pub plays_more : (lines : List (List ℕ)) (bytes : List ℕ) (p q r : Place) (text now : List ℕ) →
+pub plays_more : (lines : List (List ℕ)) (bytes : List ℕ) (p q r : Position) (text now : List ℕ) →
     Plays lines p text q → IsPlayed bytes q now r → Plays (lines ++ bytes ∷ []) p (text ++ now) r
 plays_more [] bytes p q r text now h one =
-    (now, [], r, subst (λ (z : Place). IsPlayed bytes z now r) h.1 one, (refl, refl), grind (arith, common_steps))
+    (now, [], r, subst (λ (z : Position). IsPlayed bytes z now r) h.1 one, (refl, refl), grind (arith, common_steps))
 plays_more (l ∷ ls) bytes p q r text now h one =
     (h.0, h.1 ++ now, h.2, h.3, plays_more ls bytes h.2 q r h.1 now h.4 one, grind (arith, common_steps))
 
@@ -36,7 +36,7 @@ more_of_line text done piece part old new is_part now player number one short r 
     whole = ap (λ (zs : List ℕ). zs ++ piece) r.played.whole ∙ append_assoc (with_feeds r.before) old.part.items piece ∙ ap (λ (zs : List ℕ). with_feeds r.before ++ zs) (sym is_part ∙ sym now);
     one = subst (λ (zs : List ℕ). has_feed zs ≡ false) (sym is_part ∙ sym now) (one_of_parts old.part.items piece r.played.one one);
     short = subst (λ (zs : List ℕ). length zs ≤ longest) (sym now) short;
-    plays = subst (λ (z : Player). Plays r.before first_place (done ++ z.text.items) (place_of z)) (sym player) r.played.plays;
+    plays = subst (λ (z : Player). Plays r.before first_position (done ++ z.text.items) (position_of z)) (sym player) r.played.plays;
   };
   numbered = number ∙ r.numbered;
 }
@@ -48,9 +48,9 @@ too_long text done piece more part old new is_part player number one long r = re
   before = r.before;
   bytes = part;
   after = more;
-  p = place_of new.player;
+  p = position_of new.player;
   whole = ap (λ (zs : List ℕ). zs ++ (piece ++ more)) r.played.whole ∙ grind (arith, common_steps);
-  plays = subst (λ (z : Player). Plays r.before first_place (done ++ z.text.items) (place_of z)) (sym player) r.played.plays;
+  plays = subst (λ (z : Player). Plays r.before first_position (done ++ z.text.items) (position_of z)) (sym player) r.played.plays;
   bad = TooLong (subst (λ (zs : List ℕ). has_feed zs ≡ false) (sym is_part) (one_of_parts old.part.items piece r.played.one one)) long;
   numbered = number ∙ r.numbered;
 }
@@ -60,19 +60,19 @@ pub front_of : (text done more : List ℕ) (old new : Lines) → new.player.text
 front_of text done more old new same r = record {
   before = r.before;
   after = old.part.items ++ more;
-  p = place_of old.player;
+  p = position_of old.player;
   whole = ap (λ (zs : List ℕ). zs ++ more) r.played.whole ∙ append_assoc (with_feeds r.before) old.part.items more;
-  plays = subst (λ (zs : List ℕ). Plays r.before first_place (done ++ zs) (place_of old.player)) (sym same) r.played.plays;
+  plays = subst (λ (zs : List ℕ). Plays r.before first_position (done ++ zs) (position_of old.player)) (sym same) r.played.plays;
 }
 
 -- the line has ended
 pub line_ends : (text done now : List ℕ) (old new : Lines) → new.part.items ≡ [] → new.number ≡ min (old.number + 1) (2 ^ 64 - 1) →
-    IsPlayed old.part.items (place_of old.player) now (place_of new.player) → new.player.text.items ≡ old.player.text.items ++ now →
+    IsPlayed old.part.items (position_of old.player) now (position_of new.player) → new.player.text.items ≡ old.player.text.items ++ now →
     IsReading text done old → IsReading (text ++ 10 ∷ []) done new
 line_ends text done now old new none number played printed r =
     let before = r.before ++ old.part.items ∷ [] in
-    let plays : Plays before first_place ((done ++ old.player.text.items) ++ now) (place_of new.player) =
-    plays_more r.before old.part.items first_place (place_of old.player) (place_of new.player) (done ++ old.player.text.items) now r.played.plays played in
+    let plays : Plays before first_position ((done ++ old.player.text.items) ++ now) (position_of new.player) =
+    plays_more r.before old.part.items first_position (position_of old.player) (position_of new.player) (done ++ old.player.text.items) now r.played.plays played in
     let out : (done ++ old.player.text.items) ++ now ≡ done ++ new.player.text.items =
     append_assoc done old.player.text.items now ∙ ap (λ (zs : List ℕ). done ++ zs) (sym printed) in
     let text_is : text ++ 10 ∷ [] ≡ with_feeds before ++ [] =
@@ -84,21 +84,21 @@ line_ends text done now old new none number played printed r =
         whole = text_is ∙ ap (λ (zs : List ℕ). with_feeds before ++ zs) (sym none);
         one = subst (λ (zs : List ℕ). has_feed zs ≡ false) (sym none) refl;
         short = subst (λ (zs : List ℕ). length zs ≤ longest) (sym none) (omega arith);
-        plays = subst (λ (zs : List ℕ). Plays before first_place zs (place_of new.player)) out plays;
+        plays = subst (λ (zs : List ℕ). Plays before first_position zs (position_of new.player)) out plays;
       };
       numbered = number ∙ ap (λ n. min (n + 1) (2 ^ 64 - 1)) r.numbered ∙ sym (number_more r.before old.part.items);
     }
 
 -- the line has ended, and is a mistake
-pub line_mistaken : (text done more : List ℕ) (old new : Lines) → new.number ≡ old.number → is_mistake (command old.part.items) (place_of old.player) ≡ true →
+pub line_mistaken : (text done more : List ℕ) (old new : Lines) → new.number ≡ old.number → is_mistake (command old.part.items) (position_of old.player) ≡ true →
     new.player.text.items ≡ old.player.text.items → IsReading text done old → IsAtMistake (text ++ 10 ∷ more) done ⊥ new
 line_mistaken text done more old new number mistake same r = record {
   before = r.before;
   bytes = old.part.items;
   after = 10 ∷ more;
-  p = place_of old.player;
+  p = position_of old.player;
   whole = ap (λ (zs : List ℕ). zs ++ 10 ∷ more) r.played.whole ∙ append_assoc (with_feeds r.before) old.part.items (10 ∷ more);
-  plays = subst (λ (zs : List ℕ). Plays r.before first_place (done ++ zs) (place_of old.player)) (sym same) r.played.plays;
+  plays = subst (λ (zs : List ℕ). Plays r.before first_position (done ++ zs) (position_of old.player)) (sym same) r.played.plays;
   bad = Mistaken r.played.one mistake more refl;
   numbered = number ∙ r.numbered;
 }
@@ -129,13 +129,13 @@ taken_more piece rest end old mid new h ends goes =
       goes = λ text done r. subst (λ (zs : List ℕ). IsReading zs done new) (append_assoc text h.taken line) (goes (text ++ h.taken) done (h.goes text done r));
     }
 
--- what holds behind the rest holds behind the piece
+-- what holds after the rest holds after the piece
 pub taken_to : (P : List ℕ → List ℕ → Type 0) (piece rest : List ℕ) (old mid : Lines) → HasTaken piece rest old mid →
     ((text done : List ℕ) → IsReading text done mid → P (text ++ rest) done) → (text done : List ℕ) → IsReading text done old → P (text ++ piece) done
 taken_to P piece rest old mid h f text done r =
     subst (λ (zs : List ℕ). P zs done) (append_assoc text h.taken rest ∙ ap (λ (zs : List ℕ). text ++ zs) (sym h.cut)) (f (text ++ h.taken) done (h.goes text done r))
 
--- what holds behind the line feed of a line holds behind the bytes in which it is the first
+-- what holds after the line feed of a line holds after the bytes in which it is the first
 pub next_to : (P : List ℕ → List ℕ → Type 0) (bytes : List ℕ) (end : ℕ) (old mid : Lines) → EndsLine bytes end →
     ((text done : List ℕ) → IsReading text done old → IsReading (text ++ take end bytes) done mid) →
     ((text done more : List ℕ) → IsReading text done mid → P (text ++ 10 ∷ more) done) → (text done : List ℕ) → IsReading text done old → P (text ++ bytes) done
@@ -165,37 +165,37 @@ pub all_without_last : (text done : List ℕ) (l : Lines) → l.part.items ≡ [
 all_without_last text done l none r = (
   r.before,
   [],
-  place_of l.player,
+  position_of l.player,
   r.played.whole ∙ ap (λ (zs : List ℕ). with_feeds r.before ++ zs) none,
   refl,
-  subst (λ (zs : List (List ℕ)). Plays zs first_place (done ++ l.player.text.items) (place_of l.player)) (grind (arith, common_steps)) r.played.plays,
+  subst (λ (zs : List (List ℕ)). Plays zs first_position (done ++ l.player.text.items) (position_of l.player)) (grind (arith, common_steps)) r.played.plays,
 )
 
 last_is : (part : List ℕ) → 0 < length part → last_line part ≡ part ∷ []
 last_is [] h = absurd (omega (arith, h))
 last_is (b ∷ bs) h = refl
 
-pub all_with_last : (text done now : List ℕ) (old : Lines) (new : Player) → 0 < length old.part.items → IsPlayed old.part.items (place_of old.player) now (place_of new) →
+pub all_with_last : (text done now : List ℕ) (old : Lines) (new : Player) → 0 < length old.part.items → IsPlayed old.part.items (position_of old.player) now (position_of new) →
     new.text.items ≡ old.player.text.items ++ now → IsReading text done old → PrintsWhole text (done ++ new.text.items)
 all_with_last text done now old new some played printed r =
     let out : (done ++ old.player.text.items) ++ now ≡ done ++ new.text.items =
     append_assoc done old.player.text.items now ∙ ap (λ (zs : List ℕ). done ++ zs) (sym printed) in (
       r.before,
       old.part.items,
-      place_of new,
+      position_of new,
       r.played.whole,
       r.played.one,
-      subst (λ (zs : List (List ℕ)). Plays (r.before ++ zs) first_place (done ++ new.text.items) (place_of new)) (sym (last_is old.part.items some))
-          (subst (λ (zs : List ℕ). Plays (r.before ++ old.part.items ∷ []) first_place zs (place_of new)) out
-          (plays_more r.before old.part.items first_place (place_of old.player) (place_of new) (done ++ old.player.text.items) now r.played.plays played)),
+      subst (λ (zs : List (List ℕ)). Plays (r.before ++ zs) first_position (done ++ new.text.items) (position_of new)) (sym (last_is old.part.items some))
+          (subst (λ (zs : List ℕ). Plays (r.before ++ old.part.items ∷ []) first_position zs (position_of new)) out
+          (plays_more r.before old.part.items first_position (position_of old.player) (position_of new) (done ++ old.player.text.items) now r.played.plays played)),
     )
 
 pub all_if_last : {E : Type 0} (result : Result Bool E) (old : Lines) (new : Player) (line : List ℕ) → line ≡ old.part.items → 0 < length old.part.items →
-    IfOk result (λ good. good ≡ true → (now : List ℕ) × IsPlayed line (place_of old.player) now (place_of new) × (new.text.items ≡ old.player.text.items ++ now)) →
+    IfOk result (λ good. good ≡ true → (now : List ℕ) × IsPlayed line (position_of old.player) now (position_of new) × (new.text.items ≡ old.player.text.items ++ now)) →
     IfOk result (λ good. good ≡ true → (text done : List ℕ) → IsReading text done old → PrintsWhole text (done ++ new.text.items))
 all_if_last (Ok good) old new line is some f = λ yes text done r.
     let h = f yes in
-    all_with_last text done h.0 old new some (subst (λ (zs : List ℕ). IsPlayed zs (place_of old.player) h.0 (place_of new)) is h.1) h.2 r
+    all_with_last text done h.0 old new some (subst (λ (zs : List ℕ). IsPlayed zs (position_of old.player) h.0 (position_of new)) is h.1) h.2 r
 all_if_last (Err e) old new line is some f = f
 
 pub on_err_any : {X E : Type 0} (result : Result Bool E) → X → OnErr result X

@@ -10,16 +10,16 @@ use Rattle.ymx_script.specs.declared.lines.ScriptEnd.{ScriptEnd}
 use Rattle.ymx_script.specs.declared.lines.ScriptEnd.TheVariants.{Good, Line, Reading, Writing, Memory}
 use Rattle.ymx_model.specs.devices.Devices.{has_failed}
 use Rattle.ymx_script.specs.Outputs.{BlamesNoDevice, Leaves, PrintsByEnd, PrintsBeginning, PrintsSome}
-use Rattle.ymx_script.specs.Players.{place_of}
+use Rattle.ymx_script.specs.Players.{position_of}
 use Rattle.ymx_script.specs.Rounds.{HasEnded, RoundsHavePlayed}
 use Rattle.ymx_script.specs.Reading.{IsReading}
-use Rattle.ymx_script.specs.Scripts.{Place, Plays, PrintsFirstLines, PrintsMistake, IsTextPart, first_place, with_feeds, has_feed, longest}
+use Rattle.ymx_script.specs.Scripts.{Position, Plays, PrintsFirstLines, PrintsMistake, IsTextPart, first_position, with_feeds, has_feed, longest}
 use Rattle.ymx_script.proofs.Ends.{bad_if, front_part}
 
 -- ---- before anything is read
 
 pub nothing_printed_of_nothing : (ended : Type 0) → PrintsBeginning [] ended []
-nothing_printed_of_nothing ended = front_part [] [] ended (record { before = []; after = []; p = first_place; whole = refl; plays = (refl, refl) })
+nothing_printed_of_nothing ended = front_part [] [] ended (record { before = []; after = []; p = first_position; whole = refl; plays = (refl, refl) })
 
 -- ---- a beginning of what would be printed
 
@@ -61,7 +61,7 @@ prints_if text output ended other (Memory _) f h = part_if text output ended oth
 
 -- the lines that were played are the first of the text
 reading_front : (text done : List ℕ) (l : Lines) → IsReading text done l → PrintsFirstLines text (done ++ l.player.text.items)
-reading_front text done l r = record { before = r.before; after = l.part.items; p = place_of l.player; whole = r.played.whole; plays = r.played.plays }
+reading_front text done l r = record { before = r.before; after = l.part.items; p = position_of l.player; whole = r.played.whole; plays = r.played.plays }
 
 left_short : (text piece done part : List ℕ) (l : Lines) (end : Option ScriptEnd) (ended : Type 0) → (piece ≡ [] → ended) → Leaves text piece done l end → StartsWith l.player.text.items part →
     PrintsBeginning (text ++ piece) ended (done ++ part)
@@ -72,20 +72,20 @@ left_short text piece done part l (Some e) ended f h s =
     (cut_short (text ++ piece) (done ++ l.player.text.items) (done ++ part) (piece ≡ []) e h (starts_more done l.player.text.items part s))
 
 -- what was printed was written, and no longer kept
-pub written : (text done : List ℕ) (old new : Lines) → place_of new.player ≡ place_of old.player → new.player.text.items ≡ [] → new.part.items ≡ old.part.items → new.number ≡ old.number →
+pub written : (text done : List ℕ) (old new : Lines) → position_of new.player ≡ position_of old.player → new.player.text.items ≡ [] → new.part.items ≡ old.part.items → new.number ≡ old.number →
     IsReading text done old → IsReading text (done ++ old.player.text.items) new
-written text done old new place none part number r =
+written text done old new position none part number r =
     let out : done ++ old.player.text.items ≡ (done ++ old.player.text.items) ++ new.player.text.items =
     sym (append-nil (done ++ old.player.text.items)) ∙ ap (λ (zs : List ℕ). (done ++ old.player.text.items) ++ zs) (sym none) in
-    let plays : Plays r.before first_place ((done ++ old.player.text.items) ++ new.player.text.items) (place_of old.player) =
-    subst (λ (zs : List ℕ). Plays r.before first_place zs (place_of old.player)) out r.played.plays in
+    let plays : Plays r.before first_position ((done ++ old.player.text.items) ++ new.player.text.items) (position_of old.player) =
+    subst (λ (zs : List ℕ). Plays r.before first_position zs (position_of old.player)) out r.played.plays in
     record {
       before = r.before;
       played = record {
         whole = r.played.whole ∙ ap (λ (zs : List ℕ). with_feeds r.before ++ zs) (sym part);
         one = subst (λ (zs : List ℕ). has_feed zs ≡ false) (sym part) r.played.one;
         short = subst (λ (zs : List ℕ). length zs ≤ longest) (sym part) r.played.short;
-        plays = subst (λ (z : Place). Plays r.before first_place ((done ++ old.player.text.items) ++ new.player.text.items) z) (sym place) plays;
+        plays = subst (λ (z : Position). Plays r.before first_position ((done ++ old.player.text.items) ++ new.player.text.items) z) (sym position) plays;
       };
       numbered = number ∙ r.numbered;
     }

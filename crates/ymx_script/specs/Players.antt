@@ -3,11 +3,11 @@ use Rattle.std.specs.Prelude.{Bool, true, false}
 use Rattle.ymx_script.specs.declared.command.Command.{Command}
 use Rattle.ymx_script.specs.declared.command.Command.TheVariants.{Nothing, First, Window, Do, Skip, Quiet, Due, Show}
 use Rattle.ymx_script.specs.declared.player.Player.{Player}
-use Rattle.ymx_script.specs.Scripts.{Place}
+use Rattle.ymx_script.specs.Scripts.{Position}
 
 -- the place of a player
-abbrev pub place_of : Player → Place
-place_of s = record { a = s.settings.a; b = s.settings.b; world = s.world }
+abbrev pub position_of : Player → Position
+position_of s = record { a = s.settings.a; b = s.settings.b; world = s.world }
 
 -- a command that asks something of the world
 abbrev pub asks_world : Command → Bool

@@ -38,7 +38,7 @@ abbrev pub yes_or_no : Bool → List ℕ
 yes_or_no true = codes "yes"
 yes_or_no false = codes "no"
 
--- bytes in hexadecimal behind a space, if there are any
+-- bytes in hexadecimal after a space, if there are any
 abbrev pub digits_text : List ℕ → List ℕ
 digits_text bytes = if length bytes == 0 then [] else codes " " ++ encode_lower bytes
 

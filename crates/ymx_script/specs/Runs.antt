@@ -6,7 +6,7 @@ use Rattle.ymx_model.specs.world.Worlds.{World}
 use Rattle.ymx_script.specs.declared.command.Command.{Command}
 use Rattle.ymx_script.specs.declared.command.Command.TheVariants.{Nothing, First, Window, Do, Skip, Quiet, Due, Show}
 use Rattle.ymx_script.specs.Language.{command}
-use Rattle.ymx_script.specs.Scripts.{Place, world_or_new}
+use Rattle.ymx_script.specs.Scripts.{Position, world_or_new}
 
 -- the step that a line says, if it says one
 abbrev pub steps_of : Option Command → List Step
@@ -25,5 +25,5 @@ abbrev pub steps_said : List (List ℕ) → List Step
 steps_said lines = flat_map (λ bytes. steps_of (command bytes)) lines
 
 -- the new world of the settings at a place
-abbrev pub world_of_settings : Place → World
+abbrev pub world_of_settings : Position → World
 world_of_settings p = world_or_new p.a p.b None

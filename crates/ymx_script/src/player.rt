@@ -8,8 +8,8 @@ ghost use Rattle.ymx_model.specs.session.Emissions.{in_turn};
 ghost use Rattle.ymx_model.specs.world.Worlds.{Steps};
 ghost use Rattle.ymx_script.specs.Language.{command};
 ghost use Rattle.ymx_script.specs.Printing.{error_line, with_line_feed, yes_or_no, answer_text};
-ghost use Rattle.ymx_script.specs.Players.{place_of, asks_world};
-ghost use Rattle.ymx_script.specs.Scripts.{EndsLine, IsPlayed, Says, SaysAt, SaysIn, has_feed, is_bad_setting, is_mistake, longest, first_place, unless_late, with_config, world_or_new};
+ghost use Rattle.ymx_script.specs.Players.{position_of, asks_world};
+ghost use Rattle.ymx_script.specs.Scripts.{EndsLine, IsPlayed, Says, SaysAt, SaysIn, has_feed, is_bad_setting, is_mistake, longest, first_position, unless_late, with_config, world_or_new};
 
 use crate::command::{Command, command_of};
 use crate::printing::{append_answer, append_pipe, append_yes_or_no};
@@ -29,7 +29,7 @@ pub(crate) struct Player {
     text: Vec<u8>,
 }
 
-/// Takes back what was appended behind `start` if not all of it was.
+/// Takes back what was appended after `start` if not all of it was.
 fn whole_or_none(
     text: &mut Vec<u8>,
     start: usize,
@@ -111,7 +111,7 @@ fn perform(
 impl Player {
     /// At the start of a script.
     pub(crate) fn new(alloc: Global) -> Player
-        ensures place { place_of result ≡ first_place }
+        ensures position { position_of result ≡ first_position }
         ensures text { result.text.items ≡ [] }
     {
         Player {
@@ -131,7 +131,7 @@ impl Player {
 
     /// What is kept was written.
     pub(crate) fn clear(&mut self)
-        ensures place { place_of self.new ≡ place_of self.old }
+        ensures position { position_of self.new ≡ position_of self.old }
         ensures text { self.new.text.items ≡ [] }
     {
         self.text.clear();
@@ -139,8 +139,8 @@ impl Player {
 
     /// Sets the config of a side, if the world isn't there and a session can be made with it.
     fn set(&mut self, side: Side, config: Config) -> bool
-        ensures good { result ≡ true → unless_late self.old.world (with_config side config (place_of self.old)) ≡ Some (place_of self.new) }
-        ensures bad { result ≡ false → is_none (unless_late self.old.world (with_config side config (place_of self.old))) ≡ true }
+        ensures good { result ≡ true → unless_late self.old.world (with_config side config (position_of self.old)) ≡ Some (position_of self.new) }
+        ensures bad { result ≡ false → is_none (unless_late self.old.world (with_config side config (position_of self.old))) ≡ true }
         ensures same { self.new.text ≡ self.old.text }
     {
         if self.world.is_some() {
@@ -153,7 +153,7 @@ impl Player {
     /// nothing where there is no memory.
     fn ask(&mut self, command: &Command) -> Result<(), RefusedAllocation>
         requires { asks_world command.now ≡ true }
-        ensures ok { OnOk result ((now : List ℕ) × SaysAt command.now (place_of self.old) now (place_of self.new) × (self.new.text.items ≡ self.old.text.items ++ now)) }
+        ensures ok { OnOk result ((now : List ℕ) × SaysAt command.now (position_of self.old) now (position_of self.new) × (self.new.text.items ≡ self.old.text.items ++ now)) }
         ensures err { OnErr result (self.new.text.items ≡ self.old.text.items) }
     {
         let mut world = world_or_new(self.alloc, self.settings, self.world.take())?;
@@ -166,8 +166,8 @@ impl Player {
 
     /// Does what a line says. Answers `false` for a bad setting.
     fn play(&mut self, command: &Command) -> Result<bool, RefusedAllocation>
-        ensures said { IfOk result (λ good. good ≡ true → (now : List ℕ) × Says command.now (place_of self.old) now (place_of self.new) × (self.new.text.items ≡ self.old.text.items ++ now)) }
-        ensures bad { IfOk result (λ good. good ≡ false → (is_bad_setting command.now (place_of self.old) ≡ true) × (self.new.text.items ≡ self.old.text.items)) }
+        ensures said { IfOk result (λ good. good ≡ true → (now : List ℕ) × Says command.now (position_of self.old) now (position_of self.new) × (self.new.text.items ≡ self.old.text.items ++ now)) }
+        ensures bad { IfOk result (λ good. good ≡ false → (is_bad_setting command.now (position_of self.old) ≡ true) × (self.new.text.items ≡ self.old.text.items)) }
         ensures err { OnErr result (self.new.text.items ≡ self.old.text.items) }
     {
         match command {
@@ -212,8 +212,8 @@ impl Player {
     pub(crate) fn play_line(&mut self, line: &[u8]) -> Result<bool, RefusedAllocation>
         requires one { has_feed line.now ≡ false }
         requires short { length line.now ≤ longest }
-        ensures played { IfOk result (λ good. good ≡ true → (now : List ℕ) × IsPlayed line.now (place_of self.old) now (place_of self.new) × (self.new.text.items ≡ self.old.text.items ++ now)) }
-        ensures mistake { IfOk result (λ good. good ≡ false → (is_mistake (command line.now) (place_of self.old) ≡ true) × (self.new.text.items ≡ self.old.text.items)) }
+        ensures played { IfOk result (λ good. good ≡ true → (now : List ℕ) × IsPlayed line.now (position_of self.old) now (position_of self.new) × (self.new.text.items ≡ self.old.text.items ++ now)) }
+        ensures mistake { IfOk result (λ good. good ≡ false → (is_mistake (command line.now) (position_of self.old) ≡ true) × (self.new.text.items ≡ self.old.text.items)) }
         ensures err { OnErr result (self.new.text.items ≡ self.old.text.items) }
     {
         let Some(command) = command_of(self.alloc, line)? else {
@@ -248,10 +248,10 @@ fn world_or_new(
 
 /// Where the first line of these bytes ends.
 pub(crate) fn feed_in(bytes: &[u8]) -> Option<usize>
-    ensures { MatchOption result (has_feed bytes.now ≡ false) (λ place. EndsLine bytes.now place) }
+    ensures { MatchOption result (has_feed bytes.now ≡ false) (λ position. EndsLine bytes.now position) }
 {
     match first_feed(bytes) {
-        Some(place) => Some(place),
+        Some(position) => Some(position),
         None => None,
     }
 }

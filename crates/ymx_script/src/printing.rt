@@ -90,7 +90,7 @@ fn append_read(
     Ok(())
 }
 
-/// Appends bytes in hexadecimal behind a space, if there are any.
+/// Appends bytes in hexadecimal after a space, if there are any.
 fn append_digits(alloc: Global, text: &mut Vec<u8>, bytes: &[u8]) -> Result<(), RefusedAllocation>
     ensures ok { OnOk result (text.new.items ≡ text.old.items ++ digits_text bytes.now) }
     ensures kept { StartsWith text.new.items text.old.items }

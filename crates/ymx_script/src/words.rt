@@ -54,11 +54,11 @@ impl<'a> Words<'a> {
 }
 
 /// The bytes from this place on.
-pub(crate) fn bytes_from(bytes: &[u8], place: usize) -> &[u8]
-    requires { place ≤ length bytes.now }
-    ensures { result.now ≡ drop place bytes.entry.now }
+pub(crate) fn bytes_from(bytes: &[u8], position: usize) -> &[u8]
+    requires { position ≤ length bytes.now }
+    ensures { result.now ≡ drop position bytes.entry.now }
 {
-    &bytes[place..]
+    &bytes[position..]
 }
 
 /// The place of the first space.

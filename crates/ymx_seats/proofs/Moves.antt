@@ -29,7 +29,7 @@ others_too P views id w others mine j u e =
     (λ (x : (j ≢ id) × (get_elem? views j ≡ some u)). others j u x.0 x.1)
     (at_set views id j w u e)
 
--- and of one that comes behind all
+-- and of one that comes after all
 behind_too : (P : ℕ → Knowledge → Type 0) (views : List Knowledge) (w : Knowledge) → ((j : ℕ) (u : Knowledge) → get_elem? views j ≡ some u → P j u) → P (length views) w → (j : ℕ) (u : Knowledge) → get_elem? (views ++ w ∷ []) j ≡ some u → P j u
 behind_too P [] w others mine zero u e = subst (P 0) (some-injective w u e) mine
 behind_too P [] w others mine (suc j) u e = absurd (some-ne-none u (sym e))

@@ -36,7 +36,7 @@ misses (s ∷ ss) from x w n h =
     let d : (x == s.number) ≡ false = grind (arith, nat_tests) in
     rw d i
 
--- at the first seat, or behind it
+-- at the first seat, or after it
 hits_by : (b : Bool) (s : SeatView) (ss : List SeatView) (from x w : ℕ) → (x == s.number) ≡ b → s.number ≡ from → NumberedFrom (from + 1) ss → (from + 1 ≤ x → sum_by (λ s. cond (x == s.number) w 0) ss ≡ w) → from ≤ x → sum_by (λ s. cond (x == s.number) w 0) (s ∷ ss) ≡ w
 hits_by true s ss from x w d e n i h =
     let q : x ≡ s.number = grind (arith, nat_tests) in
@@ -149,7 +149,7 @@ rises_at : (es : List Entry) (e : Entry) (fs : List Entry) (from : ℕ) → Rise
 rises_at [] e fs from r = r.0
 rises_at (x ∷ xs) e fs from r = rises_at xs e fs (x.position + 1) r.1
 
--- the next position is not below what is behind the positions so far
+-- the next position is not below what is after the positions so far
 pub rises_next : (xs : List Entry) (i : ℕ) (d : Entry) (from : ℕ) → i < length xs → d ≡ get_or xs i d → RisesFrom from xs → behind_all from (take i xs) ≤ d.position
 rises_next xs i d from h e r = rises_at (take i xs) d (drop (i + 1) xs) from (subst (RisesFrom from) (sym (split_at xs i d h e)) r)
 
@@ -164,7 +164,7 @@ numbered_next xs i d h e n = omega (arith, numbered_at (take i xs) d (drop (i + 
 part_at : (es : List Entry) (e : Entry) (fs : List Entry) (n : ℕ) → e.seat ≡ n → part n (es ++ e ∷ fs) ≡ part n es ++ e ∷ part n fs
 part_at es e fs n q = filter-append (λ (e : Entry). e.seat == n) es (e ∷ fs) ∙ ap (λ b. part n es ++ cond b (e ∷ part n fs) (part n fs)) (let t : (e.seat == n) ≡ true = grind (arith, nat_tests) in t)
 
--- what stands in a part behind the entries so far is the next entry of the seat
+-- what stands in a part after the entries so far is the next entry of the seat
 pub part_next : (mine all : List Entry) (at i n : ℕ) (e : Entry) → at ≤ length mine → take at mine ≡ part n (take i all) → i < length all → e ≡ get_or all i e → e.seat ≡ n → mine ≡ part n all → (at < length mine) × ((d : Entry) → get_or mine at d ≡ e)
 part_next mine all at i n e w t h k q m =
     let rest = part n (drop (i + 1) all) in

@@ -1,4 +1,4 @@
--- What stands at a place of a list, as one more comes behind it or another takes a place.
+-- What stands at a place of a list, as one more comes after it or another takes a place.
 use Rattle.std.proofs.Common.{◌≡◌, ◌≢◌, ◌⊎◌, ◌<◌, ◌==◌, ℕ, List, [], ◌∷◌, ◌++◌, length, set, Bool, true, false, refl, sym, ap, ◌∙◌, inl, inr, arith}
 use Rattle.std.specs.Prelude.{slice_get, get_or, Some}
 use Rattle.std.proofs.Math.Seq.{get_or-append_seam}

@@ -21,5 +21,5 @@ pub use journal::{Journal, NewJournal, Witness};
 pub use log::Log;
 pub use plays::{EntryName, Knowledge, Naming, NoHalf, ReadsOf, Right, RightName};
 pub use recorder::{Full, Off, Recorder, Witnessed};
-pub use seat::{Seat, Sight, discard};
+pub use seat::{Parked, Seat, discard};
 pub use transcript::Transcript;

@@ -72,7 +72,7 @@ impl<R: Recorder> Log<R> {
     }
 
     /// A new seat of this number, which is how many were given where there is a journal, and then may do what this names. Its
-    /// entries come behind those that are there, and it has seen the whole history, of which no entry is its own. Takes no memory.
+    /// entries come after those that are there, and it has seen the whole history, of which no entry is its own. Takes no memory.
     pub fn seat<D: RightName>(&mut self, alloc: Global, number: u32) -> Seat<R>
         requires next { HasNumbered number self.old.journal }
         requires history { IsWitnessed R.WITNESSED R.role R.config (whole_of self.old.journal) }

@@ -17,7 +17,7 @@ impl RecorderKey {
 }
 
 /// Whether each event becomes an entry at run time, as contracts see by `KEEPS`, and whether it becomes one in proofs, by
-/// `WITNESSED`. All recorders share all bodies: only the keeping differs. Whoever holds a session can't ask which one it
+/// `WITNESSED`. All recorders share all bodies: only the keeping differs. The caller that holds a session can't ask which one it
 /// has, so nothing else depends on it.
 pub trait Recorder: Naming + Drop {
     ghost use Rattle.std.specs.Prelude.{Bool, ◌≡◌};

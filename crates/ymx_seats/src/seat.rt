@@ -32,16 +32,16 @@ impl<R: Recorder> Model for Seat<R> {
     ghost invariant = { λ s. IsOf s.number s.witness × IsWitnessed R.WITNESSED R.role R.config (seen_by s.witness) };
 }
 
-/// What is left of a seat that was let go: its number, its start, and the history as it had seen it. It may be dropped, and
+/// What is left of a seat that was dropped: its number, its start, and the history as it had seen it. It may be dropped, and
 /// taken to another thread, where the seat goes on. A contract sees it as a seat with no entries.
 #[derive(Drop)]
-pub struct Sight<R: Recorder> {
+pub struct Parked<R: Recorder> {
     number: u32,
     start: u64,
     witness: Option<Witness<R>>,
 }
 
-impl<R: Recorder> Model for Sight<R> {
+impl<R: Recorder> Model for Parked<R> {
     ghost use Rattle.std.specs.Prelude.{[]};
     ghost use Rattle.ymx_seats.specs.Views.{SeatView, right_by, seen_by, IsOf, IsWitnessed};
 
@@ -52,12 +52,12 @@ impl<R: Recorder> Model for Sight<R> {
     ghost invariant = { λ s. IsOf s.number s.witness × IsWitnessed R.WITNESSED R.role R.config (seen_by s.witness) };
 }
 
-impl<R: Recorder> Sight<R> {
+impl<R: Recorder> Parked<R> {
     /// The seat goes on, with no entries. Takes no memory.
     pub fn into_seat(self, alloc: Global) -> Seat<R>
         ensures { result ≡ self }
     {
-        let Sight {
+        let Parked {
             number,
             start,
             witness,
@@ -142,7 +142,7 @@ impl<R: Recorder> Seat<R> {
         ymx_memory::reserve(&mut self.entries, count)
     }
 
-    /// Adds an entry behind the others, in memory that was found before.
+    /// Adds an entry after the others, in memory that was found before.
     pub fn add(&mut self, entry: Entry)
         requires { 0 < self.old.room }
         ensures number { self.new.number ≡ self.old.number }
@@ -163,7 +163,7 @@ impl<R: Recorder> Seat<R> {
     }
 
     /// Lets the seat go, with its entries. What it has seen stays known.
-    pub fn into_sight(self) -> Sight<R>
+    pub fn into_parked(self) -> Parked<R>
         ensures { result ≡ record self { entries = []; room = 0 } }
     {
         let Seat {
@@ -173,7 +173,7 @@ impl<R: Recorder> Seat<R> {
             witness,
             kind: _,
         } = self;
-        Sight {
+        Parked {
             number,
             start,
             witness,

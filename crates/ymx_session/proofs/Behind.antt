@@ -1,4 +1,4 @@
--- Payload of further frames, which may be passed on behind that which comes.
+-- Payload of further frames, which may be passed on after that which comes.
 use Rattle.std.proofs.Common.{◌≡◌, ℕ, ◌+◌, ◌-◌, ◌<◌, ◌≤◌, ◌==◌, nat_lt, nat_le, List, [], ◌∷◌, ◌++◌, length, take, drop, Bool, true, false, not, ◌&&◌, if◌then◌else◌, Option, None, Some, ◌⊎◌, inl, inr, refl, sym, ap, ◌∙◌, subst, arith, rules, append_assoc, length-append}
 use Rattle.std.specs.Prelude.{IfSome, is_none}
 use Rattle.std.specs.Option.{ForSome}
@@ -56,7 +56,7 @@ record Open (id left : ℕ) (s : Session) : Type 0 where
   there : look id s.table.entries ≡ Some at
   stream : Stream left at
 
--- its payload comes, and no end behind it
+-- its payload comes, and no end after it
 record IsOpen (id missing left : ℕ) (s : Session) : Type 0 where
   opened : Open id left s
   comes : s.incoming ≡ Payload id missing false false
@@ -367,7 +367,7 @@ header-fed id count left header fed s t o inc p few f =
     let no_memory : fed.no_memory ≡ 0 = let m = f.took.2 in omega arith in
     (fed-is fed (length header) 0 All all no_memory why, after)
 
--- ---- a whole payload, and the header behind it
+-- ---- a whole payload, and the header after it
 
 pub follows : (id missing behind count : ℕ) (bytes header : List ℕ) (fed : Fed) (s t u : Session) → PassesBehind id missing behind s → 0 < missing → length bytes ≡ missing → Passes id bytes s t → IsPlainHeader id count header →
     count ≤ behind → Gives in_turn t (event.Feed header) (reply.Fed fed) u → (fed ≡ all_fed header) × PassesBehind id count (behind - count) u

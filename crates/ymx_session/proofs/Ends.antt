@@ -17,7 +17,7 @@ use Rattle.ymx_model.specs.declared.types.Status.TheVariants.{Running, Lost, Bro
 use Rattle.ymx_model.specs.declared.types.Event.TheVariants as event
 use Rattle.ymx_model.specs.session.Records.{End, end_read, end_finish, end_forget}
 use Rattle.ymx_model.specs.session.Tables.{with_record, remove_record}
-use Rattle.ymx_model.specs.session.Sessions.{Session, is_running, is_closed, is_lost, is_spent, on_stream, settle}
+use Rattle.ymx_model.specs.session.Sessions.{Session, is_running, is_closed, is_lost, is_spent, on_stream, reap}
 use Rattle.ymx_model.specs.session.Calls.{outcome, at_record, read_from, finish, forget, read_outcome, finish_outcome, forget_outcome}
 use Rattle.ymx_model.specs.session.Histories.{CallGives}
 use Rattle.ymx_model.specs.session.Histories.CallGives.{Outcome as HasOutcome}
@@ -155,8 +155,8 @@ lingers lost e =
 not-held : (e : End) → e.phase ≡ Lingering → is_held e ≡ false
 not-held e l = rw l refl
 
-settled-gone : (id : ℕ) (t : Session) → Distinct t.table.entries → held_at (look id t.table.entries) ≡ false → has_stream id (settle id t) ≡ false
-settled-gone id t d none =
+reaped-gone : (id : ℕ) (t : Session) → Distinct t.table.entries → held_at (look id t.table.entries) ≡ false → has_stream id (reap id t) ≡ false
+reaped-gone id t d none =
     split (λ (u : Session). has_stream id u ≡ false) (is_spent t.table.window t.outgoing id (look id t.table.entries)) (record t { table = remove_record id t.table }) t
     (λ e. rw (look-without_same id t.table.entries d) refl) (λ e. none)
 
@@ -169,11 +169,11 @@ forgotten id s d running = rw running (of (look id s.table.entries) refl)
     of : (o : Option End) → look id s.table.entries ≡ o → has_stream id (at_record (forget_outcome id s) s o).next ≡ false
     of None l = rw l refl
     of (Some e) l =
-        split (λ (u : Session). has_stream id u ≡ false) (is_done (forget_reply e.phase)) (settle id (on_stream id (end_forget (is_lost s.status)) s)) s
+        split (λ (u : Session). has_stream id u ≡ false) (is_done (forget_reply e.phase)) (reap id (on_stream id (end_forget (is_lost s.status)) s)) s
         (λ t.
         let f = end_forget (is_lost s.status) in
         let there : look id (on_stream id f s).table.entries ≡ Some (f e) = look-change_there id f s.table.entries e l in
-        settled-gone id (on_stream id f s) (distinct-change id f s.table.entries d) (rw there (not-held (f e) (lingers (is_lost s.status) e))))
+        reaped-gone id (on_stream id f s) (distinct-change id f s.table.entries d) (rw there (not-held (f e) (lingers (is_lost s.status) e))))
         (λ n. rw l (sym (held-done e.phase) ∙ n))
 
 call-of : (id : ℕ) (s : Session) (b : Bool) → goes_on id s ≡ b → tended id s ≡ (outcome (if b then call.Read id (length (waiting id s)) else call.Forget id) s).next
@@ -252,7 +252,7 @@ all-others j ids [] s h n = refl
 all-others j ids (x ∷ xs) s h n =
     all-others j ids xs (tended x s) (among-rest x xs ids h) n ∙ tended-others x s j (apart j x ids (h x (self-is x xs)) n)
 
--- whoever is among these, and is still there in the end, or none was forgotten, is quiet in the end
+-- an id among these that is still there in the end, or where none was forgotten, is quiet in the end
 all-quiet : (id : ℕ) (xs : List ℕ) (s : Session) → Distinct s.table.entries → is_closed s.status ≡ false → is_among id xs ≡ true →
     (has_stream id (tended_all xs s) ≡ true) ⊎ (forgets xs s ≡ false) → is_quiet (look id (tended_all xs s).table.entries) ≡ true
 all-quiet id [] s d running m left = cc
@@ -320,15 +320,15 @@ filter-among p x (y ∷ ys) h = of (p y) refl (filter-among p x ys)
         by false f = let g : is_among x (y ∷ filter p ys) ≡ true = rw e at h in let k : is_among x (filter p ys) ≡ true = rw f at g in rw f (more k)
     of false e more = let g : is_among x (filter p ys) ≡ true = rw e at h in rw (more g) (or_true (nat_eq x y))
 
--- whoever is left, and was looked at, is still there, or none was forgotten
+-- an id that is left, and was looked at, is still there, or none was forgotten
 left-there : (forgot : Bool) (id : ℕ) (ids : List ℕ) (t : Session) → is_among id (left_of forgot ids t) ≡ true → (has_stream id t ≡ true) ⊎ (forgot ≡ false)
 left-there true id ids t h = inl (filter-passes (λ x. has_stream x t) id ids h)
 left-there false id ids t h = inr refl
 
 -- what is left of these, and was looked at, is quiet
-pub settle-quiet : (ids xs : List ℕ) (s t : Session) (left : List ℕ) (id : ℕ) → t ≡ tended_all xs s → left ≡ left_of (forgets xs s) ids t → Distinct s.table.entries → is_closed s.status ≡ false →
+pub purge-quiet : (ids xs : List ℕ) (s t : Session) (left : List ℕ) (id : ℕ) → t ≡ tended_all xs s → left ≡ left_of (forgets xs s) ids t → Distinct s.table.entries → is_closed s.status ≡ false →
     is_among id xs ≡ true → is_among id left ≡ true → is_quiet (look id t.table.entries) ≡ true
-settle-quiet ids xs s t left id e f d running m h =
+purge-quiet ids xs s t left id e f d running m h =
     let k : is_among id (left_of (forgets xs s) ids t) ≡ true = ap (is_among id) (sym f) ∙ h in
     subst (λ (u : Session). is_quiet (look id u.table.entries) ≡ true) (sym e) (all-quiet id xs s d running m (to (left-there (forgets xs s) id ids t k)))
   where
@@ -355,7 +355,7 @@ release-quiets id s u e g = subst (λ (t : Session). is_quiet (look id t.table.e
 
 -- ---- one of some streams after another
 
--- behind these comes x
+-- after these comes x
 pub tends-more : (xs ys : List ℕ) (x : ℕ) (t s u : Session) → ys ≡ xs ++ x ∷ [] → t ≡ tended_all xs s → u ≡ tended x t → u ≡ tended_all ys s
 tends-more xs ys x t s u e f g = g ∙ ap (tended x) f ∙ sym (tended-on xs x s) ∙ ap (λ (zs : List ℕ). tended_all zs s) (sym e)
 
@@ -388,7 +388,7 @@ touched-none p xs ys x forgot t s e h k =
     let same = filter-none p xs ys x e h in
     record { tends = k.tends ∙ ap (λ (zs : List ℕ). tended_all zs s) (sym same); forgets = k.forgets ∙ ap (λ (zs : List ℕ). forgets zs s) (sym same) }
 
--- ---- what was settled
+-- ---- what was purged
 
 pub some-calls : (ids xs : List ℕ) (s u : Session) → u ≡ tended_all xs s → AreAmong xs ids → OnlyEnds ids s u
 some-calls ids xs s u e h = subst (OnlyEnds ids s) (sym e) (all-end ids xs s h)

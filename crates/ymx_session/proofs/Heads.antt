@@ -9,7 +9,7 @@ use Rattle.ymx_machine.specs.shared.Phases.{is_offered, takes}
 use Rattle.ymx_model.specs.session.Records.{End, receive_ack, receive_rst, receive_head as head_of}
 use Rattle.ymx_model.specs.session.Tables.{Table, with_record, insert_record, remove_record}
 use Rattle.ymx_machine.specs.shared.Lists.{look, change, without, drop_id}
-use Rattle.ymx_model.specs.session.Sessions.{Session, Incoming, is_own, on_stream, settle, is_spent}
+use Rattle.ymx_model.specs.session.Sessions.{Session, Incoming, is_own, on_stream, reap, is_spent}
 use Rattle.ymx_model.specs.session.Sessions.Incoming.{Head, Payload}
 use Rattle.ymx_model.specs.session.Arrivals.{expects, payload, delta, ends_now, acknowledges, take_head, reset_comes, meets, offer, syn_comes, syn_fault, session_refuses}
 use Rattle.ymx_law_session.specs.Limits.{IsWithin}
@@ -38,8 +38,8 @@ change-none id f (p ∷ ps) same = let h = change-none id f ps same in let k = s
 -- ---- the payload that is awaited
 
 -- a payload that is dropped was awaited so
-expects-stray : (h : Header) (s : Session) → s.incoming ≡ awaited h → expects h true (record s { incoming = Head [] }) ≡ s
-expects-stray h s w = of (payload h == 0) refl
+expects-discarded : (h : Header) (s : Session) → s.incoming ≡ awaited h → expects h true (record s { incoming = Head [] }) ≡ s
+expects-discarded h s w = of (payload h == 0) refl
   where
     of : (b : Bool) → (payload h == 0) ≡ b → expects h true (record s { incoming = Head [] }) ≡ s
     of true e = let i : s.incoming ≡ Head [] = w ∙ rw e refl in rw e (ap (λ (x : Incoming). record s { incoming = x }) (sym i))
@@ -67,8 +67,8 @@ reset-meets h e s rst w =
     let f = acknowledges (is_own s.role h.id) h in
     let t = on_stream h.id f s in
     let u = on_stream h.id receive_rst t in
-    let gone = expects-stray h (record t { table = remove_record h.id t.table; offered = drop_id h.id t.offered }) w in
-    let over = same-if (expects h true) (is_spent u.table.window u.outgoing h.id (look h.id u.table.entries)) _ _ _ _ (expects-stray h (record u { table = remove_record h.id u.table }) w) (expects-stray h u w) in
+    let gone = expects-discarded h (record t { table = remove_record h.id t.table; offered = drop_id h.id t.offered }) w in
+    let over = same-if (expects h true) (is_spent u.table.window u.outgoing h.id (look h.id u.table.entries)) _ _ _ _ (expects-discarded h (record u { table = remove_record h.id u.table }) w) (expects-discarded h u w) in
     let all = same-if (expects h true) (is_offered e.phase) _ _ _ _ gone over in
     sym (rw rst all)
 
@@ -79,14 +79,14 @@ reset-offered h own e v s w o =
     rw (o, removed-on h.id (acknowledges own h) s.table) (ap (λ (x : Session). record x { table = remove_record h.id x.table; offered = drop_id h.id x.offered }) w)
 
 -- any other is over, and goes if nothing of it is left to send
-pub reset-over : (id : ℕ) (e : End) (s : Session) → is_offered e.phase ≡ false → settle id (on_stream id receive_rst s) ≡ reset_comes id e s
+pub reset-over : (id : ℕ) (e : End) (s : Session) → is_offered e.phase ≡ false → reap id (on_stream id receive_rst s) ≡ reset_comes id e s
 reset-over id e s o = rw o refl
 
 pub reset-rest : (id : ℕ) (e : End) (f : End → End) (v u s t : Session) (table : Table) → v ≡ u → u ≡ on_stream id f s → table ≡ with_record id receive_rst v.table →
-    t ≡ settle id (record v { table = table }) → is_offered e.phase ≡ false → t ≡ reset_comes id e (on_stream id f s)
+    t ≡ reap id (record v { table = table }) → is_offered e.phase ≡ false → t ≡ reset_comes id e (on_stream id f s)
 reset-rest id e f v u s t table w a k b o =
     let m : record v { table = table } ≡ on_stream id receive_rst (on_stream id f s) = rw k (ap (on_stream id receive_rst) (w ∙ a)) in
-    b ∙ ap (settle id) m ∙ reset-over id e (on_stream id f s) o
+    b ∙ ap (reap id) m ∙ reset-over id e (on_stream id f s) o
 
 -- where it was acknowledged it is there as before
 found : {X : Type 0} (o : Option X) (f : X → X) → IsSome o → IsSome (option_map f o)
@@ -173,4 +173,4 @@ resets-at-once h s good within rst taken w =
     let own = syn-free h s good in
     let table = gone h.id (acknowledges (is_own s.role h.id) h) (offer s) s.table own.1 within.table.turn in
     let list = drop-last h.id s.offered (unlisted h.id start within own.1) in
-    sym (rw (good, taken, rst, table, list) (expects-stray h s w))
+    sym (rw (good, taken, rst, table, list) (expects-discarded h s w))

@@ -64,7 +64,7 @@ or-first : (a b : Bool) → (a || b) ≡ false → a ≡ false
 or-first true b e = e
 or-first false b e = refl
 
--- what isn't noted behind was not noted before
+-- what isn't noted after was not noted before
 pub stays-missed : (s t : Noted) (j : ℕ) → StaysNoted s t → is_noted j t ≡ false → is_noted j s ≡ false
 stays-missed s t j a n = of s.all refl
   where
@@ -103,7 +103,7 @@ note-missed j id t =
     (λ room n same. let e = list_any-append (nat_eq j) t.ids (id ∷ []) in grind (arith, nat_tests))
     (λ full n same. cc))
 
--- the records and the pings behind a head, but for whom it touches
+-- the records and the pings after a head, but for whom it touches
 head-same : (no_memory : Bool) (h : Header) (u : Session) (m : Noted) (j : ℕ) → is_noted j (note_head h m) ≡ false → look j (head_comes no_memory h u).table.entries ≡ look j u.table.entries
 head-same no_memory h u m j =
     let P : Noted → Type 0 = λ x. is_noted j x ≡ false → look j (head_comes no_memory h u).table.entries ≡ look j u.table.entries in

@@ -34,7 +34,7 @@ module _ (head : Header → Bool) (stream : ℕ → Bool) where
     came = c.came;
   }
 
-  -- and among those behind others
+  -- and among those after others
   pub came-later : (front bytes : List ℕ) (s t : Session) (k : ℕ) → Takes front s t k → Came head stream bytes t → Came head stream (front ++ bytes) s
   came-later front bytes s t k took c = record {
     before = front ++ c.before;
@@ -70,9 +70,9 @@ module _ (head : Header → Bool) (stream : ℕ → Bool) where
       (came-now bytes v (subst (λ (i : Incoming). IsPartOf head stream v.table.window bytes i) (sym g.was) (g.whole, fault, passes)))
 
   -- bytes of a payload
-  pub piece-came : (id : ℕ) (end stray : Bool) (bytes : List ℕ) (v s : Session) (now : Incoming) → v ≡ s → GoesIn id end stray v.incoming now bytes → stray ≡ false →
+  pub piece-came : (id : ℕ) (end discarded : Bool) (bytes : List ℕ) (v s : Session) (now : Incoming) → v ≡ s → GoesIn id end discarded v.incoming now bytes → discarded ≡ false →
       stream id ≡ true → Came head stream bytes s
-  piece-came id end stray bytes v s now e g kept t =
+  piece-came id end discarded bytes v s now e g kept t =
       subst (λ (x : Session). Came head stream bytes x) e
       (came-now bytes v (subst (λ (i : Incoming). IsPartOf head stream v.table.window bytes i) (sym g.was) (g.some, kept, t)))
 
@@ -106,9 +106,9 @@ only-head limit h bytes v s t e w g =
 itself : (id : ℕ) → nat_eq id id ≡ true
 itself id = grind (arith, nat_tests)
 
-pub only-piece : (id : ℕ) (end stray : Bool) (bytes : List ℕ) (v s : Session) (now : Incoming) (t : Noted) → v ≡ s → GoesIn id end stray v.incoming now bytes → stray ≡ false →
+pub only-piece : (id : ℕ) (end discarded : Bool) (bytes : List ℕ) (v s : Session) (now : Incoming) (t : Noted) → v ≡ s → GoesIn id end discarded v.incoming now bytes → discarded ≡ false →
     NotesOnly bytes s t (note id t)
-only-piece id end stray bytes v s now t e g kept = only-note bytes s id t (piece-came (is_head_of id) (nat_eq id) id end stray bytes v s now e g kept (itself id))
+only-piece id end discarded bytes v s now t e g kept = only-note bytes s id t (piece-came (is_head_of id) (nat_eq id) id end discarded bytes v s now e g kept (itself id))
 
 -- ---- a feed goes on
 

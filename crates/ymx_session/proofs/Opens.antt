@@ -1,4 +1,4 @@
--- `opens_left` counts the streams that may be opened one behind another.
+-- `opens_left` counts the streams that may be opened one after another.
 use Rattle.std.proofs.Common.{◌≡◌, ℕ, ◌+◌, ◌<◌, List, [], ◌∷◌, ◌++◌, length, take, Bool, true, false, ◌||◌, nat_le, if◌then◌else◌, refl, sym, ap, ◌∙◌, arith}
 use Rattle.std.specs.Prelude.{count_by, min}
 use Rattle.std.proofs.lemmas.List.{length-append}

@@ -23,7 +23,7 @@ use Rattle.ymx_model.specs.session.Emissions.{in_turn}
 use Rattle.ymx_model.specs.session.Histories.{Gives, CallGives}
 use Rattle.ymx_model.specs.session.Histories.CallGives.{Outcome as HasOutcome, NoMemory}
 use Rattle.ymx_law_session.proofs.limits.HistoriesKeep.{gives-keep, new-keeps}
-use Rattle.ymx_law_session.proofs.given_up.SettledFrames.{gives-settled, new-settled}
+use Rattle.ymx_law_session.proofs.given_up.ReapedFrames.{gives-reaped, new-reaped}
 use Rattle.ymx_law_session.specs.Refusals.{reply_is_refused}
 use Rattle.ymx_law_session.proofs.nothing_else.Refusals.{refusals}
 use Rattle.ymx_machine.proofs.Tests.{split}
@@ -31,14 +31,14 @@ use Rattle.ymx_session.specs.Sound.{IsSound}
 use Rattle.ymx_session.specs.Replies.{is_out_of_memory}
 
 pub gives-sound : (s t : Session) (ev : Event) (told : Reply) → Gives in_turn s ev told t → IsSound s → IsSound t
-gives-sound s t ev told g h = record { within = gives-keep in_turn s t ev told g h.within; settled = gives-settled in_turn s t ev told g h.within h.settled }
+gives-sound s t ev told g h = record { within = gives-keep in_turn s t ev told g h.within; reaped = gives-reaped in_turn s t ev told g h.within h.reaped }
 
 -- a call whose next state is that of its outcome
 pub call-sound : (c : Call) (s t : Session) → t ≡ (outcome c s).next → IsSound s → IsSound t
 call-sound c s t e h = gives-sound s t (event.Call c) (outcome c s).reply (HasOutcome refl e) h
 
 pub new-sound : (role : Role) (window first : ℕ) → first_credit ≤ window → window ≤ 16777216 → is_own role first ≡ true → 0 < first → first < 2 ^ 32 → IsSound (new_session role window first)
-new-sound role window first low high own some small = record { within = new-keeps role window first low high own some small; settled = new-settled role window first }
+new-sound role window first low high own some small = record { within = new-keeps role window first low high own some small; reaped = new-reaped role window first }
 
 -- ---- a call that may take memory
 

@@ -25,7 +25,7 @@ use Rattle.ymx_model.specs.session.FramesDue.{is_empty, is_due, credit_due, fin_
 use Rattle.ymx_model.specs.session.Tables.{Table, with_record, pass_turn, any_due, due_ids, round}
 use Rattle.ymx_model.specs.session.Pings.{first_asked}
 use Rattle.ymx_model.specs.session.GoAway.{away_due}
-use Rattle.ymx_model.specs.session.Sessions.{Session, Outgoing, nothing_outgoing, settle, is_running, is_broken, is_lost, is_closed, on_stream}
+use Rattle.ymx_model.specs.session.Sessions.{Session, Outgoing, nothing_outgoing, reap, is_running, is_broken, is_lost, is_closed, on_stream}
 use Rattle.ymx_model.specs.session.Emissions.{Flows, Emits, is_ready, no_answers, in_turn, is_first}
 use Rattle.ymx_model.specs.session.Histories.{CallGives}
 use Rattle.ymx_model.specs.session.Histories.CallGives.{Outcome as HasOutcome}
@@ -84,7 +84,7 @@ has-room id s h = of s.status refl
 -- nothing is due of a session that runs
 record IsQuiet (s : Session) : Type 0 where
   outgoing : is_empty s.outgoing.bytes ≡ true
-  alarm : (s.alarm && is_broken s.status) ≡ false
+  error_due : (s.error_due && is_broken s.status) ≡ false
   away : away_due s.away.here ≡ false
   answers : no_answers s.answers ≡ true
   pings : is_some (first_asked s.pings.pending) ≡ false
@@ -106,13 +106,13 @@ none-of-six a b c d f g e =
 
 quiet : (s : Session) → s.status ≡ Running → is_ready s ≡ false → IsQuiet s
 quiet s run e =
-    let own = s.alarm && is_broken s.status in
+    let own = s.error_due && is_broken s.status in
     let due = away_due s.away.here || not (no_answers s.answers) || is_some (first_asked s.pings.pending) || any_due s.table.window s.table.entries in
     let a = none_of (not (is_empty s.outgoing.bytes) || own) (is_running s.status && due) e in
     let b = none_of (not (is_empty s.outgoing.bytes)) own a.0 in
     let c : due ≡ false = rw run at a.1 in
     let d = none-of-four (away_due s.away.here) (not (no_answers s.answers)) (is_some (first_asked s.pings.pending)) (any_due s.table.window s.table.entries) c in
-    record { outgoing = unless _ b.0; alarm = b.1; away = d.0; answers = unless _ d.1; pings = d.2; streams = d.3 }
+    record { outgoing = unless _ b.0; error_due = b.1; away = d.0; answers = unless _ d.1; pings = d.2; streams = d.3 }
 
 -- ---- the stream's record
 
@@ -347,7 +347,7 @@ module _ (id : ℕ) (bytes : List ℕ) (size : ℕ) (s : Session) (k : Through i
   none : NoneOfSession mid
   none = record {
     outgoing = k.quiet_now.outgoing;
-    alarm = k.quiet_now.alarm;
+    error_due = k.quiet_now.error_due;
     away = λ r. k.quiet_now.away;
     answers = λ r. k.quiet_now.answers;
     pings = λ r. k.quiet_now.pings;
@@ -357,8 +357,8 @@ module _ (id : ℕ) (bytes : List ℕ) (size : ℕ) (s : Session) (k : Through i
   begun = record mid { table = pass_turn id (with_record id (begin_frame s.table.window data_limit Data) mid.table); outgoing = nothing_outgoing }
 
   -- the record stays, as the caller has it
-  settled : settle id begun ≡ begun
-  settled =
+  reaped : reap id begun ≡ begun
+  reaped =
       let one = look-change_there id (end_write bytes) s.table.entries k.stream k.there in
       let two = look-change_there id (begin_frame s.table.window data_limit Data) mid.table.entries (end_write bytes k.stream) one in
       let live = k.live in
@@ -376,17 +376,17 @@ module _ (id : ℕ) (bytes : List ℕ) (size : ℕ) (s : Session) (k : Through i
   goes-out room rest w =
       straight-flows next room rest mid after is-next first running none
       (w ∙ ap (λ (x : List ℕ). x ++ rest) (sym (spelled-is s.table.window id bytes k.stream k.idle_now k.some k.one_frame)))
-      (sym (settled ∙ begun-after))
+      (sym (reaped ∙ begun-after))
 
   still-quiet : is_ready after ≡ false
   still-quiet =
-      let alarm = k.quiet_now.alarm in
+      let error_due = k.quiet_now.error_due in
       let away = k.quiet_now.away in
       let answers = k.quiet_now.answers in
       let pings = k.quiet_now.pings in
       let streams = any-change s.table.window id (sent bytes) s.table.entries k.stream k.quiet_now.streams k.there
       (idle-after s.table.window id bytes k.stream k.idle_now k.some k.one_frame) in
-      rw (alarm, running, away, answers, pings, streams) refl
+      rw (error_due, running, away, answers, pings, streams) refl
 
   room-left : room_of id after + length bytes ≡ room_of id s
   room-left =

@@ -16,8 +16,8 @@ use Rattle.ymx_model.specs.session.GoAway.{away_due, begin_away}
 use Rattle.ymx_model.specs.session.Tables.{remove_record, round}
 use Rattle.ymx_machine.specs.shared.Lists.{look, Distinct}
 use Rattle.ymx_model.specs.session.Sessions.{Session, Outgoing, is_running, is_broken, is_spent, belongs_to, nothing_outgoing}
-use Rattle.ymx_model.specs.session.Emissions.{Choice, begin, begins, begin_answer, begin_stream, begin_kind, alarm_frame, go_away_frame, ping_frame, answer_frame, moves_on, settles, in_turn, is_first, no_answers}
-use Rattle.ymx_model.specs.session.Emissions.Choice.{TheAlarm, TheGoAway, TheAnswer, ThePing, AStream}
+use Rattle.ymx_model.specs.session.Emissions.{Choice, begin, begins, begin_answer, begin_stream, begin_kind, error_frame, go_away_frame, ping_frame, answer_frame, moves_on, reaps, in_turn, is_first, no_answers}
+use Rattle.ymx_model.specs.session.Emissions.Choice.{TheErrorDue, TheGoAway, TheAnswer, ThePing, AStream}
 use Rattle.ymx_law_session.specs.Limits.{IsWithin}
 use Rattle.ymx_machine.proofs.Tests.{split, both_of, agrees, differs, same_or_not}
 use Rattle.ymx_machine.proofs.Lists.{look-change_other, look-without_other}
@@ -103,9 +103,9 @@ stream-nearer id other limit (Some e) s t d h n first l b =
 -- ---- any frame but the stream's own
 
 pub nearer : (id : ℕ) (c : Choice) (s t : Session) → Distinct s.table.entries → HasDue id s → in_turn c s ≡ true → is_of_stream id c ≡ false → begin c s ≡ Some t → Nearer id s t
-nearer id TheAlarm s t d h i n b =
-    let p = some_if (s.alarm && is_broken s.status) (begins alarm_frame (record s { alarm = false })) t b in
-    let q = (both_of s.alarm (is_broken s.status) p.0).1 in
+nearer id TheErrorDue s t d h i n b =
+    let p = some_if (s.error_due && is_broken s.status) (begins error_frame (record s { error_due = false })) t b in
+    let q = (both_of s.error_due (is_broken s.status) p.0).1 in
     let r = not_broken s.status h.running in
     let x : true ≡ false = sym q ∙ r in absurd cc
 nearer id TheGoAway s t d h i n b =
@@ -137,7 +137,7 @@ own-next id c s t d h z i b = of c (is_of_stream id c) refl i b
   where
     of : (x : Choice) (m : Bool) → is_of_stream id x ≡ m → in_turn x s ≡ true → begin x s ≡ Some t → x ≡ AStream id data_limit
     of x false m j g = let k = (nearer id x s t d h j m g).less in absurd (omega (arith, k, z))
-    of TheAlarm true m j g = cc
+    of TheErrorDue true m j g = cc
     of TheGoAway true m j g = cc
     of TheAnswer true m j g = cc
     of (ThePing k) true m j g = cc
@@ -180,9 +180,9 @@ removed-near id j e s d h l none =
     apart (inl x) = absurd (clash x)
     apart (inr x) = x
 
-settles-near : (id : ℕ) (of : Option ℕ) (s : Session) → Distinct s.table.entries → HasDue id s → AsNear id s (settles of s)
-settles-near id None s d h = record { same = refl; due = h }
-settles-near id (Some j) s d h =
+reaps-near : (id : ℕ) (of : Option ℕ) (s : Session) → Distinct s.table.entries → HasDue id s → AsNear id s (reaps of s)
+reaps-near id None s d h = record { same = refl; due = h }
+reaps-near id (Some j) s d h =
     split (AsNear id s) (is_spent s.table.window s.outgoing j (look j s.table.entries)) (record s { table = remove_record j s.table }) s
     (λ t. let p = spent s.table.window j s.outgoing (look j s.table.entries) t in removed-near id j p.0 s d h p.1 p.2) (λ f. record { same = refl; due = h })
 
@@ -190,8 +190,8 @@ pub moves-near : (id n : ℕ) (s : Session) → Distinct s.table.entries → Has
 moves-near id n s d h =
     let u = record s { outgoing = nothing_outgoing } in
     let g : HasDue id u = record { running = h.running; end = h.end; there = h.there; due = h.due } in
-    let m = settles-near id s.outgoing.of u d g in
-    split (AsNear id s) (nat_lt n (length s.outgoing.bytes)) _ (settles s.outgoing.of u)
+    let m = reaps-near id s.outgoing.of u d g in
+    split (AsNear id s) (nat_lt n (length s.outgoing.bytes)) _ (reaps s.outgoing.of u)
     (λ t. record { same = refl; due = record { running = h.running; end = h.end; there = h.there; due = h.due } }) (λ f. record { same = m.same; due = m.due })
 
 -- ---- an emission

@@ -20,7 +20,7 @@ use Rattle.ymx_session.specs.declared.arriving.Part.{Part}
 use Rattle.ymx_session.specs.declared.arriving.Part.TheVariants as part
 use Rattle.ymx_session.specs.declared.passing.Passing.{Passing}
 
--- ---- one run behind another
+-- ---- one run after another
 
 unpassed-join : (a b : List ℕ) (s t u : Session) → TakesUnpassed a s t → TakesUnpassed b t u → TakesUnpassed (a ++ b) s u
 unpassed-join [] b s t u p q = subst (λ (x : Session). TakesUnpassed b x u) p q
@@ -82,7 +82,7 @@ and-false false b = refl
 not-none : (b : ℕ) (xs : List ℕ) → (length (xs ++ b ∷ []) == 0) ≡ false
 not-none b xs = grind (arith, nat_tests, common_steps)
 
--- a stream that may not pass its payload on may not do so behind a byte more
+-- a stream that may not pass its payload on may not do so after a byte more
 grown : (b : ℕ) (e : End) → is_read_up (Some e) ≡ false → is_read_up (Some (receive_data (b ∷ []) e)) ≡ false
 grown b e h = of (takes_payload e) refl
   where
@@ -103,12 +103,12 @@ more-only true = refl
 more-only false = refl
 
 -- what a byte of a payload leaves, of which more lack
-record StillNone (id n : ℕ) (fin stray : Bool) (t : Session) : Type 0 where
+record StillNone (id n : ℕ) (fin discarded : Bool) (t : Session) : Type 0 where
   run : t.status ≡ Running
-  inc : t.incoming ≡ Payload id n fin stray
+  inc : t.incoming ≡ Payload id n fin discarded
   none : passing t ≡ None
 
-still-none : (no_memory : Bool) (b id n : ℕ) (fin stray : Bool) (s : Session) → s.status ≡ Running → s.incoming ≡ Payload id n fin stray → 1 < n → passing s ≡ None → StillNone id (n - 1) fin stray (byte_comes no_memory b s)
+still-none : (no_memory : Bool) (b id n : ℕ) (fin discarded : Bool) (s : Session) → s.status ≡ Running → s.incoming ≡ Payload id n fin discarded → 1 < n → passing s ≡ None → StillNone id (n - 1) fin discarded (byte_comes no_memory b s)
 still-none no_memory b id n fin true s run inc more none =
     let two : nat_lt 1 n ≡ true = grind (arith, nat_tests) in
     let next : byte_comes no_memory b s ≡ record s { incoming = Payload id (n - 1) fin true } = rw (run, inc, two) refl in
@@ -123,12 +123,12 @@ still-none no_memory b id n fin false s run inc more none =
     let still : is_read_up (look id (change id (receive_data (b ∷ [])) s.table.entries)) ≡ false = rw same (grown-at b (look id s.table.entries) shut) in
     subst (λ (x : Session). StillNone id (n - 1) fin false x) (sym next) (record { run = run; inc = refl; none = rw (run, still) refl })
 
-payload-unpassed : (bytes : List ℕ) (id n : ℕ) (fin stray : Bool) (s t : Session) (k : ℕ) → s.status ≡ Running → s.incoming ≡ Payload id n fin stray → length bytes ≤ n → passing s ≡ None → Takes bytes s t k → TakesUnpassed bytes s t
-payload-unpassed [] id n fin stray s t k run inc few none took = took.0
-payload-unpassed (b ∷ []) id n fin stray s t k run inc few none took = (took.0, none, took.4.0)
-payload-unpassed (b ∷ c ∷ bs) id n fin stray s t k run inc few none took =
-    let next = still-none took.0 b id n fin stray s run inc (omega arith) none in
-    (took.0, none, payload-unpassed (c ∷ bs) id (n - 1) fin stray (byte_comes took.0 b s) t took.1 next.run next.inc (omega arith) next.none took.4)
+payload-unpassed : (bytes : List ℕ) (id n : ℕ) (fin discarded : Bool) (s t : Session) (k : ℕ) → s.status ≡ Running → s.incoming ≡ Payload id n fin discarded → length bytes ≤ n → passing s ≡ None → Takes bytes s t k → TakesUnpassed bytes s t
+payload-unpassed [] id n fin discarded s t k run inc few none took = took.0
+payload-unpassed (b ∷ []) id n fin discarded s t k run inc few none took = (took.0, none, took.4.0)
+payload-unpassed (b ∷ c ∷ bs) id n fin discarded s t k run inc few none took =
+    let next = still-none took.0 b id n fin discarded s run inc (omega arith) none in
+    (took.0, none, payload-unpassed (c ∷ bs) id (n - 1) fin discarded (byte_comes took.0 b s) t took.1 next.run next.inc (omega arith) next.none took.4)
 
 -- ---- a part of either
 
@@ -136,7 +136,7 @@ here-unpassed : (limit : ℕ) (p : Part) (bytes : List ℕ) (now : Incoming) (s 
 here-unpassed limit part.More bytes now s t k run is none took = head-unpassed bytes is.seen s t k run is.was (let few = is.few in omega arith) took
 here-unpassed limit (part.Head h) bytes now s t k run is none took = head-unpassed bytes is.0.seen s t k run is.0.was (let whole = is.0.whole in omega arith) took
 here-unpassed limit (part.Fault fault) bytes now s t k run is none took = head-unpassed bytes is.1.seen s t k run is.1.was (let whole = is.1.whole in omega arith) took
-here-unpassed limit (part.Piece id end stray) bytes now s t k run is none took = payload-unpassed bytes id is.missing is.fin stray s t k run is.was is.within none took
+here-unpassed limit (part.Piece id end discarded) bytes now s t k run is none took = payload-unpassed bytes id is.missing is.fin discarded s t k run is.was is.within none took
 
 pub part-unpassed : (limit : ℕ) (p : Part) (bytes : List ℕ) (now : Incoming) (v s t : Session) (k : ℕ) → v ≡ s → s.status ≡ Running → IsPart limit v.incoming now bytes p → Takes bytes s t k → passing s ≡ None → TakesUnpassed bytes s t
 part-unpassed limit p bytes now v s t k e run is took none =

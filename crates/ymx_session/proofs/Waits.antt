@@ -98,7 +98,7 @@ module _ (w : ℕ) where
   abbrev round-at : ℕ → List (ℕ × End) → List ℕ
   round-at k ps = due_ids w (drop k ps) ++ due_ids w (take k ps)
 
-  -- from a place up to the record, and from one behind it
+  -- from a place up to the record, and from one after it
   round-front : (k id : ℕ) (e : End) (front back : List (ℕ × End)) → k ≤ length front →
       round-at k (front ++ (id, e) ∷ back) ≡ due_ids w (drop k front) ++ due_ids w ((id, e) ∷ back) ++ due_ids w (take k front)
   round-front k id e front back l = rw (drop-append-le k front ((id, e) ∷ back) l, take-append-le k front ((id, e) ∷ back) l, due-append (drop k front) ((id, e) ∷ back)) refl

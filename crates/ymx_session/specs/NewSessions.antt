@@ -26,6 +26,6 @@ new_fault role config =
     else if not (is_own role (first_id role config.first)) then Some BadFirst
     else None
 
--- this fault is that one, or else want of memory
+-- this fault is that one, or else lack of memory
 abbrev pub IsNewFault : Role → Config → NewFault → Type 0
 IsNewFault role config fault = MatchOption (new_fault role config) (fault ≡ OutOfMemory evidence) (λ (why : NewFault). fault ≡ why)

@@ -16,7 +16,7 @@ unacknowledged_left s = most_unacknowledged - count_by (is_unacknowledged s.role
 abbrev pub records_left : Session → ℕ
 records_left s = most_records - length s.table.entries
 
--- how many streams may be opened one behind another, while nothing else happens: none where the session isn't running, or
+-- how many streams may be opened one after another, while nothing else happens: none where the session isn't running, or
 -- the peer is away
 abbrev pub opens_left : Session → ℕ
 opens_left s =

@@ -24,7 +24,7 @@ use Rattle.ymx_session.specs.declared.passing.Passing.{Passing}
 -- the payload that comes is one that a record takes: of which stream, and how many bytes of it are missing
 abbrev pub kept_payload : Incoming → Option Passing
 kept_payload (Head bytes) = None
-kept_payload (Payload id missing fin stray) = if stray then None else Some (record { id = id; missing = missing })
+kept_payload (Payload id missing fin discarded) = if discarded then None else Some (record { id = id; missing = missing })
 
 -- the caller has the stream, its end hasn't come, and nothing of it is unread
 abbrev pub is_read_up : Option End → Bool
@@ -63,26 +63,26 @@ pub record FeedsSome (s : Session) (input : List ℕ) (fed : Fed) (t : Session) 
   pub within : count ≤ length input
   pub feeds : Gives in_turn s (event.Feed (take count input)) (reply.Fed fed) t
 
--- ---- what may be passed on behind it
+-- ---- what may be passed on after it
 
--- the end of its stream stands behind the payload that comes
+-- the end of its stream stands after the payload that comes
 abbrev pub is_ending : Incoming → Bool
 is_ending (Head bytes) = false
-is_ending (Payload id missing fin stray) = fin
+is_ending (Payload id missing fin discarded) = fin
 
 -- how many bytes the peer may still send on a stream
 abbrev pub granted_of : Option End → ℕ
 granted_of None = 0
 granted_of (Some e) = e.reader.granted
 
--- the header of Data of this stream, without flags, behind which so many bytes of payload stand (framing)
+-- the header of Data of this stream, without flags, after which so many bytes of payload stand (framing)
 abbrev pub plain_header : (id count : ℕ) → Header
 plain_header id count = record { version = 0; kind = 0; flags = 0; id = id; length = count }
 
 abbrev pub is_plain : (id : ℕ) → Header → Bool
 is_plain id h = h.version == 0 && h.kind == 0 && h.flags == 0 && h.id == id
 
--- The payload of this header's frame may be passed on behind the payload that comes and `ahead` bytes of further frames: it
+-- The payload of this header's frame may be passed on after the payload that comes and `ahead` bytes of further frames: it
 -- is Data of the same stream without flags, and has at least one byte; its stream doesn't end before; the window allows it;
 -- and the row of answers isn't full.
 abbrev pub may_follow : (ahead : ℕ) → Header → Passing → Session → Bool
@@ -94,11 +94,11 @@ abbrev pub following : (ahead : ℕ) → Header → Session → Option Passing �
 following ahead h s None = None
 following ahead h s (Some p) = if may_follow ahead h p s then Some h.length else None
 
--- how many bytes of payload the frame of this header has, where they may be passed on behind that which comes
+-- how many bytes of payload the frame of this header has, where they may be passed on after that which comes
 abbrev pub passing_behind : (ahead : ℕ) → (header : List ℕ) → Session → Option ℕ
 passing_behind ahead header s = following ahead (header_of header) s (passing s)
 
--- these bytes are the header of Data of this stream, without flags, behind which so many bytes of payload stand
+-- these bytes are the header of Data of this stream, without flags, after which so many bytes of payload stand
 pub record IsPlainHeader (id count : ℕ) (bytes : List ℕ) : Type 0 where
   pub whole : length bytes ≡ 12
   pub spells : header_of bytes ≡ plain_header id count
@@ -113,7 +113,7 @@ pub record MayCome (id left : ℕ) (s : Session) : Type 0 where
   pub credit : ForSome (look id s.table.entries) (λ e. e.writer.credit ≤ greatest_number)
   pub answers : length s.answers < most_answers
 
--- Payload of this stream comes that may be passed on, `missing` bytes of it are missing, and behind them `behind` bytes of
+-- Payload of this stream comes that may be passed on, `missing` bytes of it are missing, and after them `behind` bytes of
 -- further frames may come.
 pub record PassesBehind (id missing behind : ℕ) (s : Session) : Type 0 where
   pub passes : passing s ≡ Some (record { id = id; missing = missing })

@@ -80,12 +80,12 @@ is_acknowledged id s = if is_some (stream_fault id s) then false else acknowledg
 abbrev pub stream_ids : Session → List ℕ
 stream_ids s = held_ids [] s.table.entries
 
--- how many bytes have come of a header that isn't whole: 0 right behind a whole frame, and none is said while a payload is under way
+-- how many bytes have come of a header that isn't whole: 0 right after a whole frame, and none is said while a payload is under way
 abbrev pub header_begun : Incoming → Option ℕ
 header_begun (Head bytes) = Some (length bytes)
-header_begun (Payload id missing fin stray) = None
+header_begun (Payload id missing fin discarded) = None
 
 -- how many bytes are still to come of the payload that is under way
 abbrev pub payload_left : Incoming → ℕ
 payload_left (Head bytes) = 0
-payload_left (Payload id missing fin stray) = missing
+payload_left (Payload id missing fin discarded) = missing

@@ -40,7 +40,7 @@ note_head h t =
     else if h.kind == 3 then t
     else note h.id t
 
--- What was noted stays so, ids are added behind the others, and `all` is said only where 1,024 are there.
+-- What was noted stays so, ids are added after the others, and `all` is said only where 1,024 are there.
 pub record StaysNoted (old new : Noted) : Type 0 where
   pub ids : (more : List ℕ) × (new.ids ≡ old.ids ++ more)
   pub all : old.all ≡ true → new.all ≡ true
@@ -61,7 +61,7 @@ is_pong h = h.kind == 2 && not (has_syn h)
 abbrev pub IsPartOf : (head : Header → Bool) (stream : ℕ → Bool) (window : ℕ) → List ℕ → Incoming → Type 0
 IsPartOf head stream window bytes (Head seen) =
     (length seen + length bytes ≡ 12) × (fault_of window (header_of (seen ++ bytes)) ≡ None) × (head (header_of (seen ++ bytes)) ≡ true)
-IsPartOf head stream window bytes (Payload id missing fin stray) = (0 < length bytes) × (stray ≡ false) × (stream id ≡ true)
+IsPartOf head stream window bytes (Payload id missing fin discarded) = (0 < length bytes) × (discarded ≡ false) × (stream id ≡ true)
 
 -- Such a part came among the bytes that s takes.
 pub record Came (head : Header → Bool) (stream : ℕ → Bool) (bytes : List ℕ) (s : Session) : Type 0 where

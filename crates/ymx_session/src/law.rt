@@ -32,15 +32,15 @@ pub fn turns_are_bounded()
     ensures among { (id : ℕ) (bytes : List ℕ) (frames : ℕ) (s t : Session) → IsWithin s → HasDue id s → FlowsPast id bytes frames s t → IsNearerBy frames id s t }
 {}
 
-/// What was looked at may be passed on. Once a part of a payload was passed on, the rest of it may be, and as much behind it
-/// as before. Once a payload was passed on whole, a feed of the plain header behind it takes all of it; then the payload of
-/// that header may be passed on, and behind it what is left.
+/// What was looked at may be passed on. Once a part of a payload was passed on, the rest of it may be, and as much after it
+/// as before. Once a payload was passed on whole, a feed of the plain header after it takes all of it; then the payload of
+/// that header may be passed on, and after it what is left.
 pub fn payload_follows()
     ensures part { (id missing behind : ℕ) (bytes : List ℕ) (s t : Session) → PassesBehind id missing behind s → 0 < length bytes → length bytes < missing → Passes id bytes s t → PassesBehind id (missing - length bytes) behind t }
     ensures follows { (id missing behind count : ℕ) (bytes header : List ℕ) (fed : Fed) (s t u : Session) → PassesBehind id missing behind s → 0 < missing → length bytes ≡ missing → Passes id bytes s t → IsPlainHeader id count header → count ≤ behind → Gives in_turn t (event.Feed header) (reply.Fed fed) u → (fed ≡ all_fed header) × PassesBehind id count (behind - count) u }
 {}
 
-/// `opens_left` is just how many streams may be opened one behind another. At 0 an opening is refused, and changes
+/// `opens_left` is just how many streams may be opened one after another. At 0 an opening is refused, and changes
 /// nothing. Above 0 it opens the next stream, if it finds memory, and then one less is left; with first bytes or without.
 pub fn opens_count_down()
     ensures none { (s : Session) → opens_left s ≡ 0 → (fault : CallFault) × (open_stream s ≡ refused fault s) }

@@ -47,7 +47,7 @@ impl State {
         Some(payload)
     }
 
-    /// How many bytes of payload the frame of this header has, where they may be passed on behind the payload that comes
+    /// How many bytes of payload the frame of this header has, where they may be passed on after the payload that comes
     /// and `ahead` bytes of further frames.
     pub(crate) fn passing_behind(&self, ahead: u32, header: &[u8; 12]) -> Option<u32>
         ensures value { result ≡ passing_behind ahead header.now self.now }

@@ -44,7 +44,7 @@ impl Session {
         if first.is_empty() { wrapped } else { first }
     }
 
-    /// All bytes that wait to be read on a stream, as they lie in its ring: those up to its end, and behind them those
+    /// All bytes that wait to be read on a stream, as they lie in its ring: those up to its end, and after them those
     /// that wrap round it. None is copied, and none is taken out.
     ///
     /// Where `read` would be refused, or would answer `End` or `Wait`, there are none.
@@ -69,7 +69,7 @@ impl Session {
     }
 
     /// How many bytes a `write` to a stream would take now, exactly: its credit (flow control). 0 where `write`
-    /// would be refused. Want of memory, for which `write` may be refused too, is not looked for.
+    /// would be refused. Lack of memory, for which `write` may be refused too, is not looked for.
     pub fn room(&self, id: u32) -> usize
         ensures exact { result ≡ room_of id self.now }
         ensures takes { (bytes : List ℕ) → bytes_moved (write_to id bytes self.now).reply ≡ min (length bytes) result }
@@ -163,7 +163,7 @@ impl Session {
     /// reset, credit, data, end. So each that comes before it in this order has begun, or isn't due, and `None` says that
     /// of all of them. What has begun is out, but for the rest that `has_rest` tells of.
     ///
-    /// It is told of each stream that the session still knows, also of one that was forgotten and has something to send.
+    /// It answers for each stream that the session still knows, also of one that was forgotten and has something to send.
     /// `None` where there is none, and in a session that isn't running, in which no frame begins. One look-up.
     pub fn next_of(&self, id: u32) -> Option<FrameKind>
         ensures { result ≡ next_of id self.now }

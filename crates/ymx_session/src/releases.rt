@@ -16,7 +16,7 @@ use ymx_memory::RefusedAllocation;
 use ymx_model::{CallFault, Status};
 
 /// The streams of one session that were released: their users are done with them, and what was written to them is still
-/// to arrive, as after `Close` of Go's package. Whoever has it lends it the session.
+/// to arrive, as after `Close` of Go's package. Its owner lends it the session.
 ///
 /// A stream that is released is finished. What still comes of it is read and dropped, so that the peer gets its credit
 /// back, and it is forgotten once the peer's end is there, or it was reset, or the session runs no more. So its record
@@ -50,7 +50,7 @@ impl Releases {
         Ok(Releases { ids })
     }
 
-    /// Whether no stream is released, so that there is nothing to settle.
+    /// Whether no stream is released, so that there is nothing to purge.
     pub fn is_empty(&self) -> bool
         ensures { result ≡ (length self.now == 0) }
     {
@@ -102,8 +102,8 @@ impl Releases {
 
     /// Looks at the released streams that were touched: what came of them is read and dropped, and those of which
     /// nothing more can come are forgotten, and are released no more. Where any stream may have been touched, or the
-    /// session runs no more, all are looked at. To be called behind each `feed_touching`, and behind `feed_end`.
-    pub fn settle(&mut self, session: &mut Session, touched: &Touched)
+    /// session runs no more, all are looked at. To be called after each `feed_touching`, and after `feed_end`.
+    pub fn purge(&mut self, session: &mut Session, touched: &Touched)
         ensures tends { session.new ≡ tended_all (looked_at self.old touched.now session.old) session.old }
         ensures left { self.new ≡ left_of (forgets (looked_at self.old touched.now session.old) session.old) self.old session.new }
         ensures calls { OnlyEnds self.old session.old session.new }
@@ -112,14 +112,14 @@ impl Releases {
     {
         session.ids_differ();
         if looks_at_all(session, touched) {
-            self.settle_all(session);
+            self.purge_all(session);
         } else if self.tend_touched(session, touched.ids()) {
-            self.purge(session);
+            self.forget_gone(session);
         }
     }
 
-    /// Looks at all released streams, as `settle` does. To be called behind a `feed` that notes nothing.
-    pub fn settle_all(&mut self, session: &mut Session)
+    /// Looks at all released streams, as `purge` does. To be called after a `feed` that notes nothing.
+    pub fn purge_all(&mut self, session: &mut Session)
         ensures tends { session.new ≡ tended_all self.old session.old }
         ensures left { self.new ≡ left_of (forgets self.old session.old) self.old session.new }
         ensures calls { OnlyEnds self.old session.old session.new }
@@ -128,7 +128,7 @@ impl Releases {
     {
         session.ids_differ();
         if tend_all(session, self.ids.as_slice()) {
-            self.purge(session);
+            self.forget_gone(session);
         }
     }
 
@@ -172,7 +172,7 @@ impl Releases {
     }
 
     /// Those are released no more that the caller of the session has no more.
-    fn purge(&mut self, session: &Session)
+    fn forget_gone(&mut self, session: &Session)
         ensures { self.new ≡ filter (λ x. has_stream x session.now) self.old }
     {
         self.ids.retain(|id| session.has_stream(*id));

@@ -25,7 +25,7 @@ pub(crate) struct State {
     pub(crate) offered: Backlog,
     pub(crate) pings: Pings,
     pub(crate) away: Away,
-    pub(crate) alarm: bool,
+    pub(crate) error_due: bool,
     pub(crate) answers: Answers,
     pub(crate) outgoing: FrameBuffer,
     pub(crate) arriving: Arriving,
@@ -37,7 +37,7 @@ impl Model for State {
 
     ghost Value = { Session };
 
-    ghost view = { λ s. record { role = s.role; status = s.status; next = s.next; table = s.table; offered = s.offered; pings = s.pings; away = s.away; alarm = s.alarm; answers = s.answers; outgoing = s.outgoing; incoming = s.arriving.incoming } };
+    ghost view = { λ s. record { role = s.role; status = s.status; next = s.next; table = s.table; offered = s.offered; pings = s.pings; away = s.away; error_due = s.error_due; answers = s.answers; outgoing = s.outgoing; incoming = s.arriving.incoming } };
 
     ghost invariant = { λ s. s.arriving.limit ≡ s.table.window };
 }
@@ -68,7 +68,7 @@ impl State {
             offered,
             pings,
             away: Away::new(),
-            alarm: false,
+            error_due: false,
             answers,
             outgoing,
             arriving: Arriving::new(window),
@@ -80,7 +80,7 @@ impl State {
         ensures { self.new ≡ breaks fault self.old }
     {
         self.status = Status::Broken(fault);
-        self.alarm = !matches!(
+        self.error_due = !matches!(
             fault,
             Fault::PeerSawProtocolError | Fault::PeerSawInternalError
         );

@@ -39,7 +39,7 @@ impl State {
         ensures outcome { is_out_of_memory result ≡ false → (wrote_or result ≡ (write_to id bytes.now self.old).reply) × (self.new ≡ (write_to id bytes.now self.old).next) }
         ensures out_of_memory { is_out_of_memory result ≡ true → (takes_memory (call.Write id bytes.now) self.old ≡ true) × (self.new ≡ self.old) }
     {
-        self.table.seek(id);
+        self.table.locate(id);
         let stream = self.stream(id)?;
         if stream.is_finished() {
             return Err(CallFault::Finished);
@@ -66,7 +66,7 @@ impl State {
         ensures within { count_of result ≤ length buffer.old }
         ensures rest { buffer.new ≡ take (count_of result) buffer.new ++ drop (count_of result) buffer.old }
     {
-        self.table.seek(id);
+        self.table.locate(id);
         let stream = self.stream(id)?;
         if buffer.is_empty() {
             return Ok(Got::Bytes(0));
@@ -91,7 +91,7 @@ impl State {
         ensures within { count_of result ≤ count }
         ensures there { count_of result ≤ length (waiting id self.old) }
     {
-        self.table.seek(id);
+        self.table.locate(id);
         let stream = self.stream(id)?;
         if count == 0 {
             return Ok(Got::Bytes(0));

@@ -15,7 +15,7 @@ impl State {
         ensures goes { result ≡ goes_through id count size self.old }
         ensures same { self.new ≡ self.old }
     {
-        self.table.seek(id);
+        self.table.locate(id);
         0 < count
             && count <= DATA_LIMIT as usize
             && HEADER_LENGTH + count <= size

@@ -13,14 +13,14 @@ use ymx_header::{Header, MOST_RECORDS, TYPE_GO_AWAY, TYPE_PING};
 use ymx_memory::RefusedAllocation;
 
 /// How many ids are taken out one by one. The index of a set holds up to 12 in a group, and a group that was once too
-/// full stays marked, and later searches go on behind it, until the whole index is cleared. So few mark none.
+/// full stays marked, and later searches go on after it, until the whole index is cleared. So few mark none.
 const FEW: usize = 12;
 
 /// The streams that what came has touched, each once, in the order in which they were first touched, and whether
 /// an answer to a ping came. The caller owns it and lends it to each `feed_touching`, which adds to it.
 ///
 /// A frame touches its stream by its header, unless the header is bad, and by each piece of its payload that a
-/// record takes. So whoever waits for a stream that isn't among them waits on: its record is as it was.
+/// record takes. So a caller that waits for a stream that isn't among them waits on: its record is as it was.
 ///
 /// It holds 1,024 ids at most. Where more streams are touched before a `clear`, it says `is_all`: any may have
 /// changed. Memory is taken by `new` alone.

@@ -1,17 +1,17 @@
-//! Where connections come in: users, or peers, and who lets peers in.
+//! Listeners: of users, and of peers.
 
 use crate::Host;
-use crate::clock::{has_passed, time_of};
+use crate::logging::Context;
 use crate::peer::Peer;
-use crate::system::{Listener, Poll, TcpConnection};
-use crate::voice::Context;
+use crate::system::{Listener, Poll, TcpConnection, listen};
+use crate::users::local_address;
 use std::io;
 use std::io::ErrorKind;
-use std::net::{SocketAddrV4, TcpListener};
+use std::net::{SocketAddr, SocketAddrV4, TcpListener};
 use std::time::Duration;
 use ymx_model::Outlet;
 use ymx_page::Event;
-use ymx_policy::{Fault, Named, Networks, Notice, Reason};
+use ymx_policy::{Named, Networks, Notice, Peers, Reason};
 
 /// How often an accept whose connection went away meanwhile is made again in a row.
 const RETRIES: u32 = 1_024;
@@ -19,38 +19,31 @@ const RETRIES: u32 = 1_024;
 /// How many seconds go by until it is tried again to accept a connection for which there was no descriptor or no memory.
 const RETRY: u64 = 1;
 
-/// The token of the listener for peers.
-const PEERS: usize = 2;
-
-/// How many seconds lie between two of those who are closed and told, at least.
-const PAUSE: u64 = 1;
-
-/// Where connections come in, of which a poll tells.
+/// A listener whose connections a poll reports.
 #[derive(Drop)]
 pub struct Acceptor {
     /// None where no more are accepted.
     listener: Option<Listener>,
-    /// A want of descriptors or of memory doesn't end it.
-    is_patient: bool,
+    /// It keeps listening when descriptors or memory run out.
+    keeps_listening: bool,
     /// How many connections were open when there was no descriptor or no memory for one more.
     full_at: Option<usize>,
-    /// Why the system last refused to accept one, until that is told.
+    /// Why the system last refused to accept one, until that is logged.
     refusal: Option<Reason>,
     /// No more are accepted, as none can be.
     has_failed: bool,
 }
 
 impl Acceptor {
-    /// They come from this listener, of which this poll tells under this token.
+    /// Of this listener, which this poll reports.
     pub(crate) fn new(
         listener: TcpListener,
-        is_patient: bool,
+        keeps_listening: bool,
         poll: &Poll,
-        token: usize,
     ) -> io::Result<Acceptor> {
         Ok(Acceptor {
-            listener: Some(Listener::new(listener, poll, token)?),
-            is_patient,
+            listener: Some(Listener::new(listener, poll)?),
+            keeps_listening,
             full_at: None,
             refusal: None,
             has_failed: false,
@@ -65,15 +58,15 @@ impl Acceptor {
                 connection
             }
             Err(reason) => {
-                self.hear_refusal(reason, open);
+                self.on_refusal(reason, open);
                 None
             }
         }
     }
 
-    /// Hears why none was accepted. That there is no descriptor or no memory is told once, and not at each try.
-    fn hear_refusal(&mut self, reason: Reason, open: usize) {
-        if self.is_patient && matches!(reason, Reason::NoDescriptor | Reason::NoMemory) {
+    /// Notes why none was accepted. A lack of descriptors or memory is logged once, and not at each try.
+    fn on_refusal(&mut self, reason: Reason, open: usize) {
+        if self.keeps_listening && matches!(reason, Reason::NoDescriptor | Reason::NoMemory) {
             if self.full_at.is_none() {
                 self.refusal = Some(reason);
             }
@@ -124,14 +117,14 @@ impl Acceptor {
         self.stop();
     }
 
-    /// One can't be served, as the system refuses to watch it. No more are accepted, unless it is a patient one.
+    /// One can't be served, as the system refuses to watch it. No more are accepted, unless it keeps listening.
     pub fn fail_unwatched(&mut self) {
-        if !self.is_patient {
+        if !self.keeps_listening {
             self.fail();
         }
     }
 
-    /// Why the system has refused to accept one, and it goes on, unless that was told.
+    /// Why the system has refused to accept one, if it keeps listening and that wasn't logged.
     pub(crate) fn take_refusal(&mut self) -> Option<Reason> {
         if self.has_failed {
             return None;
@@ -139,88 +132,64 @@ impl Acceptor {
         self.refusal.take()
     }
 
-    /// That none can be accepted any more, and why, if the system has said so. None where one may be.
+    /// That none can be accepted any more, and the system's reason, if it is known. None where one may be.
     pub fn failure(&self) -> Option<Option<Reason>> {
         self.has_failed.then_some(self.refusal)
     }
 }
 
-/// Who called.
+/// What came of an accept.
 #[derive(Drop)]
-pub enum Caller {
-    /// A peer, who may come in.
+pub enum Incoming {
+    /// A peer that is admitted.
     Peer(Peer),
-    /// Somebody who was closed. Others may wait.
+    /// A connection that was closed. Others may wait.
     Closed,
-    /// Nobody.
+    /// None.
     Nobody,
 }
 
-/// Where peers come in.
+/// The listener for peers.
 #[derive(Drop)]
 pub struct PeerAcceptor {
     pub acceptor: Acceptor,
     /// Where it is.
-    pub at: SocketAddrV4,
-    /// From where they may call.
+    pub local_address: SocketAddrV4,
+    /// From where they may connect.
     from: Networks,
-    /// When somebody was last closed who was told.
-    told: Option<Duration>,
 }
 
 impl PeerAcceptor {
-    /// Lets in who calls from there, at this listener, of which this poll tells.
-    pub fn new(
-        listener: TcpListener,
-        at: SocketAddrV4,
-        from: Networks,
-        is_patient: bool,
+    /// Listens where these peers connect to, and admits them, as this poll reports.
+    pub fn listen<R: Host>(
+        rt: &R,
+        peers: Peers,
+        keeps_listening: bool,
         poll: &Poll,
     ) -> io::Result<PeerAcceptor> {
+        let listener = listen(rt, SocketAddr::V4(peers.address))?;
+        let local_address = local_address(&listener, peers.address);
         Ok(PeerAcceptor {
-            acceptor: Acceptor::new(listener, is_patient, poll, PEERS)?,
-            at,
-            from,
-            told: None,
+            acceptor: Acceptor::new(listener, keeps_listening, poll)?,
+            local_address,
+            from: peers.from,
         })
     }
 
-    /// Who called next. Who may not call from where he does is closed, and nothing of him is read.
-    pub fn next<R: Host, D: Outlet>(&mut self, context: Context<'_, '_, R, D>) -> Caller {
+    /// The next connection. One from elsewhere than --from allows is closed unread.
+    pub fn next<R: Host, D: Outlet>(&mut self, context: Context<'_, '_, R, D>) -> Incoming {
         let Some(socket) = self.acceptor.accept(0) else {
             if let Some(reason) = self.acceptor.take_refusal() {
-                context.tell(Event::Refused(Named::Bind(self.at), reason));
+                context.log(Event::Refused(Named::Bind(self.local_address), reason));
             }
-            return Caller::Nobody;
+            return Incoming::Nobody;
         };
         let peer = Peer::of(socket);
         if self.from.admits(peer.address) {
-            return Caller::Peer(peer);
+            return Incoming::Peer(peer);
         }
-        self.tell_closed(context, Notice::Stranger(peer.address));
-        Caller::Closed
-    }
-
-    /// Tells of somebody who is closed. Of those in a second the first is told.
-    pub fn tell_closed<R: Host, D: Outlet>(
-        &mut self,
-        context: Context<'_, '_, R, D>,
-        notice: Notice,
-    ) {
-        let now = time_of(context.rt);
-        if self.told.is_none() || has_passed(self.told, now, Duration::from_secs(PAUSE)) {
-            self.told = now;
-            context.tell(Event::Notice(notice));
-        }
-    }
-
-    /// Says that nobody can come in any more, and why.
-    pub fn say_failure<R: Host, D: Outlet>(&self, context: Context<'_, '_, R, D>) {
-        let reason = match self.acceptor.failure() {
-            Some(Some(reason)) => Some(Notice::Refused(Named::Bind(self.at), reason)),
-            _ => None,
-        };
-        context.say(reason, Fault::CannotListen(self.at));
+        context.log(Event::Notice(Notice::Denied(peer.address)));
+        Incoming::Closed
     }
 }
 

@@ -1,12 +1,12 @@
-//! How an end is asked to take no more connections: a `local` no more users, a `remote` no more peers and streams.
+//! How an endpoint is asked to take no more connections: a `local` no more users, a `remote` no more peers and streams.
 
 use crate::fault::StartFault;
-use crate::system::Waker;
+use crate::system::{Poll, Waker};
 use std::alloc::Global;
 use std::sync::atomic::{AtomicBool, Ordering};
 use std::sync::{Arc, Mutex, Wait};
 
-/// Whether an end was asked to take no more connections, and whom that wakes.
+/// Whether an endpoint was asked to take no more connections, and which polls that wakes.
 #[derive(Drop)]
 pub struct Drain {
     is_asked: AtomicBool,
@@ -34,7 +34,7 @@ impl Drain {
         }
     }
 
-    /// It was asked by a signal, of which each poll tells.
+    /// It was asked by a signal, which each poll reports.
     pub(crate) fn note_asked(&self) {
         self.is_asked.store(true, Ordering::SeqCst);
     }
@@ -44,9 +44,10 @@ impl Drain {
         self.is_asked.load(Ordering::SeqCst)
     }
 
-    /// This ends the wait of somebody who is to hear of it, at once where it was asked before. The seat that he has until he
+    /// This poll is woken when it is asked, at once where it was asked before. The seat that it has until it
     /// leaves. Fails only where there is no memory for that.
-    pub fn wakes<R: Wait>(&self, rt: &R, waker: Arc<Waker, Global>) -> Result<usize, StartFault> {
+    pub fn wakes<R: Wait>(&self, rt: &R, alloc: Global, poll: &Poll) -> Result<usize, StartFault> {
+        let waker = Arc::new(alloc, Waker::new(poll)?)?;
         let mut sleepers = self.sleepers.lock(rt);
         if self.is_asked() {
             waker.wake();

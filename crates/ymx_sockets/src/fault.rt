@@ -2,7 +2,7 @@
 
 use std::alloc::{AllocError, AllocFailed};
 use std::io;
-use ymx_policy::Reason;
+use ymx_policy::{Outcome, Reason};
 
 /// Why something can't begin.
 #[derive(Clone, Copy)]
@@ -11,6 +11,16 @@ pub enum StartFault {
     Refused(Reason),
     /// There is no memory.
     OutOfMemory,
+}
+
+impl StartFault {
+    /// What comes of a command that can't begin.
+    pub fn outcome(self) -> Outcome {
+        match self {
+            StartFault::Refused(reason) => Outcome::Failed(Some(reason)),
+            StartFault::OutOfMemory => Outcome::LackedMemory,
+        }
+    }
 }
 
 impl From<io::Error> for StartFault {

@@ -1,5 +1,5 @@
-//! What an end of the program's tunnel stands on: the calls of the system's sockets, where users and peers come in, all that is
-//! told, and its page over HTTP. No session is here.
+//! What an endpoint of the tunnel stands on: the system's sockets, listeners for users and peers, the log and the
+//! counters, and the page over HTTP. No session is here.
 //!
 //! Whatever the system answers, nothing aborts. Which bytes its sockets carry, no contract sees.
 #![tactic(auto)]
@@ -12,30 +12,32 @@ mod accepting;
 mod clock;
 mod drain;
 mod fault;
+mod logging;
 mod peer;
 mod proxy;
+mod source;
 mod status;
 mod stream;
 mod system;
 mod users;
-mod voice;
 
-pub use accepting::{Acceptor, Caller, PeerAcceptor};
+pub use accepting::{Acceptor, Incoming, PeerAcceptor};
 pub use clock::{has_passed, shorter, time_of};
 pub use drain::Drain;
 pub use fault::StartFault;
+pub use logging::{Context, Sink, context_of, new_sink};
 pub use peer::Peer;
-pub use proxy::Head;
+pub use proxy::ProxyHeader;
+pub use source::Source;
 pub use status::Page;
 pub use stream::Stream;
 pub use system::{
-    NoEvents, Poll, SIGNALLED, Said, TcpConnection, Waker, accept, address_of, begin_call, connect,
-    echo, finish, listen, prepare, send,
+    NoEvents, Poll, SocketEvent, TcpConnection, accept, address_of, begin_connect, connect, echo,
+    finish, listen, prepare, receive, send,
 };
-pub use users::{Common, LISTENER, Users, place_of};
-pub use voice::{Context, Sink, context_of, new_sink};
+pub use users::{Shared, Users, local_address};
 
-/// What an end of a tunnel runs on: TCP, the clock, and waiting.
+/// What an endpoint runs on: TCP, the clock, and waiting.
 pub trait Host: Net<Stream = TcpStream, Listener = TcpListener> + Clock + Wait {}
 
 impl<R: Net<Stream = TcpStream, Listener = TcpListener> + Clock + Wait> Host for R {}

@@ -5,11 +5,11 @@ use crate::system::TcpConnection;
 use std::net::{SocketAddr, SocketAddrV4};
 use ymx_policy::Session;
 
-/// A connection to a peer, which never waits, and whose bytes go out at once. No poll tells of it yet.
+/// A connection to a peer, which never waits, and whose bytes go out at once. No poll reports it yet.
 #[derive(Drop)]
 pub struct Peer {
     socket: TcpConnection,
-    /// Where it is, if the system says so.
+    /// Where it is, if the system knows.
     pub address: Option<SocketAddrV4>,
 }
 
@@ -26,7 +26,7 @@ impl Peer {
         }
     }
 
-    /// Its connection, for such a session. The system asks a silent peer for a sign, if it is to, and fails the connection where
+    /// Its connection, for such a session. The system probes a silent peer, if it is to, and fails the connection where
     /// what was sent isn't acknowledged for twice the seconds of `--ping`.
     pub fn into_connection(self, session: &Session) -> TcpConnection {
         let Peer { socket, address: _ } = self;

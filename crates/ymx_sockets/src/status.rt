@@ -1,29 +1,20 @@
-//! The page of an end, served to who asks at an address of its own, beside the end and in a thread of its own. The first
+//! The page of an endpoint, served over HTTP at an address of its own, in a thread of its own. The first
 //! line of a request is read, up to 8,192 bytes, and within two seconds. One that is stuck holds up no other.
 
 use crate::Host;
 use crate::drain::Drain;
 use crate::fault::StartFault;
+use crate::logging::Context;
+use crate::source::Source;
 use crate::stream::Stream;
-use crate::system::{Listener, Poll, TcpConnection, Waker, listen};
-use crate::voice::Context;
+use crate::system::{Listener, Poll, TcpConnection, listen};
 use std::alloc::Global;
 use std::collections::VecDeque;
 use std::io::ErrorKind;
 use std::net::{SocketAddr, SocketAddrV4};
-use std::sync::Arc;
 use std::time::{Clock, Duration, Instant};
 use ymx_model::Outlet;
 use ymx_page::{Answer, RequestLine, Standing, answer_to};
-
-/// The token of the listener.
-const CALLERS: usize = 1;
-
-/// The token of the end, which tells that it has ended.
-const ENDED: usize = 2;
-
-/// The token of all who ask.
-const ASKING: usize = 3;
 
 /// How many are answered at once at most. Where one more comes, the oldest is closed.
 const AT_ONCE: usize = 16;
@@ -37,20 +28,20 @@ const CALLS: usize = 8;
 /// How many seconds one has to ask, and to take the answer.
 const PATIENCE: u64 = 2;
 
-/// How many seconds go by at most until it is looked at those again who are there.
+/// After how many seconds the clients that are there are looked at again, at most.
 const GLANCE: u64 = 1;
 
-/// Who answers, and who is there.
+/// The server of the page, and its clients.
 #[derive(Drop)]
 pub struct Page {
     alloc: Global,
     poll: Poll,
     listener: Listener,
-    callers: VecDeque<Caller>,
+    clients: VecDeque<Client>,
 }
 
 impl Page {
-    /// A page at this address, which is answered once it is run, until it is told that the end has ended.
+    /// A page at this address, which is served once it is run, until the endpoint has ended.
     pub fn new<R: Host>(
         rt: &R,
         alloc: Global,
@@ -59,16 +50,16 @@ impl Page {
     ) -> Result<Page, StartFault> {
         let listener = listen(rt, SocketAddr::V4(address))?;
         let poll = Poll::new(rt, alloc)?;
-        let _ = ended.wakes(rt, Arc::new(alloc, Waker::new(&poll, ENDED)?)?)?;
+        let _ = ended.wakes(rt, alloc, &poll)?;
         Ok(Page {
             alloc,
-            listener: Listener::new(listener, &poll, CALLERS)?,
+            listener: Listener::new(listener, &poll)?,
             poll,
-            callers: VecDeque::new(alloc),
+            clients: VecDeque::new(alloc),
         })
     }
 
-    /// Answers until the end has ended, and those who are there then.
+    /// Serves until the endpoint has ended, and the clients that are there then.
     pub fn run<R: Host, D: Outlet>(
         &mut self,
         context: Context<'_, '_, R, D>,
@@ -77,11 +68,11 @@ impl Page {
     ) {
         for _ in context.rt.forever() {
             let is_over = ended.is_asked();
-            if is_over && self.callers.is_empty() {
+            if is_over && self.clients.is_empty() {
                 return;
             }
             // where somebody is there it waits not for long
-            let limit = (!self.callers.is_empty()).then_some(Duration::from_secs(GLANCE));
+            let limit = (!self.clients.is_empty()).then_some(Duration::from_secs(GLANCE));
             match self.poll.wait(limit) {
                 Err(e) if e.kind != ErrorKind::Interrupted => return,
                 _ => {}
@@ -94,7 +85,7 @@ impl Page {
         unreachable!()
     }
 
-    /// Lets those in who have come.
+    /// Accepts the clients that wait.
     fn let_in<R: Clock>(&mut self, rt: &R) {
         for _ in 0..AT_ONCE {
             match self.listener.next() {
@@ -108,42 +99,42 @@ impl Page {
     /// Somebody has come, over this connection. Where too many are there the oldest goes.
     fn greet<R: Clock>(&mut self, rt: &R, socket: TcpConnection) {
         let mut socket = socket.to_peer();
-        if socket.register(&self.poll, ASKING).is_err() {
+        if socket.register(&self.poll, Source::Link).is_err() {
             return;
         }
         let (Ok(since), Ok(line)) = (Instant::now(rt), RequestLine::new(self.alloc)) else {
             return;
         };
-        if self.callers.len() >= AT_ONCE {
-            drop(self.callers.pop_front());
+        if self.clients.len() >= AT_ONCE {
+            drop(self.clients.pop_front());
         }
-        let caller = Caller {
+        let client = Client {
             socket,
             since,
             line,
             answer: None,
             written: 0,
         };
-        drop(self.callers.push_back(caller));
+        drop(self.clients.push_back(client));
     }
 
-    /// Goes on with each who is there.
+    /// Goes on with each client.
     fn serve_all<R: Host, D: Outlet>(&mut self, context: Context<'_, '_, R, D>, drain: &Drain) {
-        for _ in 0..self.callers.len() {
-            let Some(caller) = self.callers.pop_front() else {
+        for _ in 0..self.clients.len() {
+            let Some(client) = self.clients.pop_front() else {
                 return;
             };
-            let mut caller = caller;
-            if caller.go_on(context, drain) == Step::Waits {
-                drop(self.callers.push_back(caller));
+            let mut client = client;
+            if client.go_on(context, drain) == Step::Waits {
+                drop(self.clients.push_back(client));
             }
         }
     }
 }
 
-/// One who asks.
+/// A client.
 #[derive(Drop)]
-struct Caller {
+struct Client {
     socket: TcpConnection,
     /// When it came.
     since: Instant,
@@ -166,8 +157,8 @@ enum Step {
     Gone,
 }
 
-impl Caller {
-    /// Goes on as far as it can now. What still comes behind its answer is forgotten: else the answer could be lost with the
+impl Client {
+    /// Goes on as far as it can now. What still comes after its answer is dropped: else the answer could be lost with the
     /// connection.
     fn go_on<R: Host, D: Outlet>(&mut self, context: Context<'_, '_, R, D>, drain: &Drain) -> Step {
         match self.since.elapsed(context.rt) {
@@ -186,14 +177,14 @@ impl Caller {
         }
     }
 
-    /// Reads what has come, until its first line is there. Behind that it forgets it.
+    /// Reads what has come, until its first line is there. After that it forgets it.
     fn read(&mut self) -> Step {
         let mut buffer = [0u8; PART];
         for _ in 0..CALLS {
             match self.socket.read(&mut buffer) {
                 Ok(0) => return Step::Gone,
                 Ok(count) => {
-                    if self.answer.is_none() && self.line.hear(&buffer[..count]) {
+                    if self.answer.is_none() && self.line.feed(&buffer[..count]) {
                         return Step::Done;
                     }
                 }
@@ -204,7 +195,7 @@ impl Caller {
         Step::Waits
     }
 
-    /// Decides on the answer, and does what is asked for.
+    /// Decides on the answer, and does what the request wants.
     fn decide<R: Host, D: Outlet>(&mut self, context: Context<'_, '_, R, D>, drain: &Drain) {
         let rt = context.rt;
         let (answer, wants_body) = answer_to(self.line.bytes());

@@ -1,6 +1,6 @@
-//! What touches the system's sockets: connections, listeners, and the events that tell of them. Each function makes the
+//! What touches the system's sockets: connections, listeners, and their events. Each function makes the
 //! calls that it names, in that order, and decides nothing. No contract sees which bytes the sockets carry, nor what the
-//! system does, so this file is to be read. No other makes such a call: sockets that never wait are private here.
+//! system does, so this file is to be reviewed. No other makes such a call: sockets that never wait are private here.
 
 ghost use Rattle.std.specs.Prelude.{◌≡◌, ◌<◌, ◌^◌, ◌==◌, length, None};
 ghost use Rattle.std.specs.Slice.Iter.{iter_rest, iter_steps};
@@ -12,7 +12,8 @@ ghost use Rattle.ymx_sockets.specs.Counts.{CountsOne};
 
 use crate::drain::Drain;
 use crate::fault::StartFault;
-use crate::proxy::{Head, proxy_line};
+use crate::proxy::{ProxyHeader, proxy_header};
+use crate::source::Source;
 use crate::stream::Stream;
 use libc::net as c;
 use libc::types::pollfd;
@@ -20,7 +21,7 @@ use mio::event::Iter;
 use mio::unix::SourceFd;
 use mio::{Interest, Token};
 use std::alloc::Global;
-use std::io::{ErrorKind, IoSlice, Write};
+use std::io::{ErrorKind, IoSlice, Read, Write};
 use std::net::{Net, Shutdown, SocketAddr, TcpListener, TcpStream};
 use std::os::fd::AsRawFd;
 use std::sync::Arc;
@@ -37,10 +38,8 @@ const BACKLOG: i32 = 4_096;
 const EVENTS: usize = 256;
 /// What stands for SIGUSR1 in place of a descriptor.
 const SIGNAL: i32 = -2;
-/// The token of that signal, which no stream has.
-pub const SIGNALLED: usize = usize::MAX;
 
-/// The system has refused to tell of events. Only a call that it refused makes one.
+/// The system refused to report events. Only a call that it refused makes one.
 #[derive(Drop)]
 pub struct NoEvents {
     /// What kind of error it was.
@@ -48,23 +47,23 @@ pub struct NoEvents {
     seal: (),
 }
 
-/// What the system answered, where it was asked to tell of events.
-fn told(answer: io::Result<()>) -> Result<(), NoEvents> {
+/// What the system answered, where it was asked to report events.
+fn or_no_events(answer: io::Result<()>) -> Result<(), NoEvents> {
     answer.map_err(|why| NoEvents {
         kind: why.kind(),
         seal: (),
     })
 }
 
-/// A connection whose calls never wait. It is closed when it is dropped, and aborted before, unless it has said that no
-/// more comes from it and was told that no more goes to it: so whatever cuts it, its other end sees a reset, and no end.
+/// A connection whose calls never wait. It is closed when it is dropped, and aborted before, unless it has ended and
+/// was finished here: so whatever cuts it, its other side sees a reset, and no end.
 pub struct TcpConnection {
     inner: mio::net::TcpStream,
-    /// Where it was called from, if its other side called: the system says so no more once that has broken it.
+    /// Where its other side is, if that connected: the system doesn't know it any more once that has broken it.
     from: Option<SocketAddr>,
-    /// It has not said that no more comes from it.
+    /// It has not ended.
     gives: bool,
-    /// It was not told that no more goes to it.
+    /// It was not finished here.
     takes: bool,
 }
 
@@ -82,7 +81,7 @@ impl Drop for TcpConnection {
     }
 }
 
-/// Aborts a connection, by a call to an address of the family AF_UNSPEC: its other end sees a reset. What is unsent is lost.
+/// Aborts a connection, by a connect to an address of the family AF_UNSPEC: its other side sees a reset. What is unsent is lost.
 fn abort(connection: &mio::net::TcpStream) {
     let unspecified = [0u8; c::_SS_SIZE];
     let _ = unsafe { c::connect(connection.as_raw_fd(), &unspecified, 16) };
@@ -112,9 +111,9 @@ impl TcpConnection {
         connection
     }
 
-    /// The line of PROXY protocol, version 1, that says who has called, and where.
-    pub fn proxy_line(&self) -> Head {
-        proxy_line(self.from, self.inner.local_addr().ok())
+    /// Its PROXY protocol v1 header: who has connected, and where to.
+    pub fn proxy_header(&self) -> ProxyHeader {
+        proxy_header(self.from, self.inner.local_addr().ok())
     }
 
     /// Whether one that was begun is there, after so many milliseconds at most. The error is why it can't be made.
@@ -173,10 +172,10 @@ impl Stream for TcpConnection {
 
     ghost had = { λ _. None };
 
-    fn register(&mut self, poll: &Poll, token: usize) -> Result<(), NoEvents> {
+    fn register(&mut self, poll: &Poll, source: Source) -> Result<(), NoEvents> {
         let both = Interest::READABLE | Interest::WRITABLE;
         let registry = poll.inner.registry();
-        told(registry.register(&mut self.inner, Token(token), both))
+        or_no_events(registry.register(&mut self.inner, Token(source.token()), both))
     }
 
     fn peer(&self) -> Option<SocketAddr> {
@@ -222,27 +221,31 @@ impl Stream for TcpConnection {
 }
 
 /// Begins to connect to this address. It doesn't wait.
-pub fn begin_call<R: Net>(rt: &R, address: SocketAddr) -> io::Result<TcpConnection> {
+pub fn begin_connect<R: Net>(rt: &R, address: SocketAddr) -> io::Result<TcpConnection> {
     Ok(TcpConnection::new(mio::net::TcpStream::connect(rt, address)?, None))
 }
 
-/// Where connections come from, of which a poll tells. Its calls never wait. It is closed when it is dropped.
+/// A listener that a poll reports. Its calls never wait. It is closed when it is dropped.
 #[derive(Drop)]
 pub(crate) struct Listener {
     inner: mio::net::TcpListener,
 }
 
 impl Listener {
-    /// One that waits, made one that never does. From now on this poll tells under this token when a connection comes.
-    pub(crate) fn new(listener: TcpListener, poll: &Poll, token: usize) -> io::Result<Listener> {
+    /// One that waits, made one that never does. From now on this poll reports when a connection comes.
+    pub(crate) fn new(listener: TcpListener, poll: &Poll) -> io::Result<Listener> {
         listener.set_nonblocking(true)?;
         let mut inner = mio::net::TcpListener::from_std(listener);
         let registry = poll.inner.registry();
-        registry.register(&mut inner, Token(token), Interest::READABLE)?;
+        registry.register(
+            &mut inner,
+            Token(Source::Listener.token()),
+            Interest::READABLE,
+        )?;
         Ok(Listener { inner })
     }
 
-    /// The next connection. Where none waits the error says so.
+    /// The next connection. Where none waits the error is `WouldBlock`.
     pub(crate) fn next(&self) -> io::Result<TcpConnection> {
         let (connection, from) = self.inner.accept()?;
         Ok(TcpConnection::new(connection, Some(from)))
@@ -258,13 +261,13 @@ impl Listener {
         c::poll(&mut asked, 0) > 0 && asked[0].revents & c::POLLIN != 0
     }
 
-    /// Nobody listens any more, at none of its duplicates: their polls tell of that.
+    /// Nobody listens any more, at none of its duplicates: their polls report that.
     pub(crate) fn close_all(&self) {
         c::shutdown(self.inner.as_raw_fd(), c::SHUT_RDWR);
     }
 }
 
-/// What waits until something that was registered with it is ready, and the events that told of it last.
+/// What waits until something that was registered with it is ready, and the last events.
 #[derive(Drop)]
 pub struct Poll {
     inner: mio::Poll,
@@ -290,11 +293,15 @@ impl Poll {
     }
 
     /// From now on each wait and each look asks for this drain once the program was sent SIGUSR1: where the program is linked so,
-    /// the poll tells of that by a descriptor which no file has. Elsewhere the system refuses that, and nothing is asked for.
-    pub fn hear_signal(&mut self, drain: Arc<Drain, Global>) {
+    /// the poll reports that by a descriptor which no file has. Elsewhere the system refuses that, and nothing is registered.
+    pub fn on_signal(&mut self, drain: Arc<Drain, Global>) {
         let mut signal = SourceFd(&SIGNAL);
         let registry = self.inner.registry();
-        let _ = registry.register(&mut signal, Token(SIGNALLED), Interest::READABLE);
+        let _ = registry.register(
+            &mut signal,
+            Token(Source::Signal.token()),
+            Interest::READABLE,
+        );
         self.drain = Some(drain);
     }
 
@@ -302,9 +309,9 @@ impl Poll {
     fn take(&mut self, limit: Option<Duration>) -> Result<(), NoEvents>
         ensures { (self.new.waits ≡ self.old.waits) × (self.new.looks ≡ self.old.looks) }
     {
-        let taken = told(self.inner.poll(&mut self.events, limit));
+        let taken = or_no_events(self.inner.poll(&mut self.events, limit));
         let mut events = self.events.iter();
-        let is_signalled = events.any(|event| event.token() == Token(SIGNALLED));
+        let is_signalled = events.any(|event| event.token() == Token(Source::Signal.token()));
         if let (true, Some(drain)) = (is_signalled, &self.drain) {
             drain.note_asked();
         }
@@ -330,7 +337,7 @@ impl Poll {
         self.take(Some(Duration::ZERO))
     }
 
-    /// Each event, as the system gave it: [`Said::of`] reads it.
+    /// Each event, as the system gave it: [`SocketEvent::of`] reads it.
     pub fn events(&self) -> Iter<'_>
         ensures rest { iter_rest result ≡ items self.now.events }
         ensures len { length (iter_rest result) < 2 ^ 64 }
@@ -340,11 +347,10 @@ impl Poll {
     }
 }
 
-/// What an event says of what was registered under a token. What has failed may be used, and says so.
+/// What an event reports of its source. What has failed may be used, and fails then.
 #[derive(Clone, Copy)]
-pub struct Said {
-    /// Under which it was registered.
-    pub token: usize,
+pub struct SocketEvent {
+    pub source: Source,
     /// It may give bytes, or its end.
     pub can_read: bool,
     /// It may take bytes.
@@ -353,13 +359,13 @@ pub struct Said {
     pub is_closing: bool,
 }
 
-impl Said {
-    /// What this event says.
-    pub fn of(event: &mio::event::Event) -> Said {
+impl SocketEvent {
+    /// What this event reports.
+    pub fn of(event: &mio::event::Event) -> SocketEvent {
         let Token(token) = event.token();
         let is_closing = event.is_read_closed() || event.is_error();
-        Said {
-            token,
+        SocketEvent {
+            source: Source::of(token),
             can_read: event.is_readable() || is_closing,
             can_write: event.is_writable() || is_closing,
             is_closing,
@@ -369,14 +375,14 @@ impl Said {
 
 /// What ends the wait of a poll from another thread.
 #[derive(Drop)]
-pub struct Waker {
+pub(crate) struct Waker {
     inner: mio::Waker,
 }
 
 impl Waker {
-    /// One that ends the waits of this poll by an event under this token.
-    pub fn new(poll: &Poll, token: usize) -> io::Result<Waker> {
-        let inner = mio::Waker::new(poll.inner.registry(), Token(token))?;
+    /// One that ends the waits of this poll.
+    pub(crate) fn new(poll: &Poll) -> io::Result<Waker> {
+        let inner = mio::Waker::new(poll.inner.registry(), Token(Source::Listener.token()))?;
         Ok(Waker { inner })
     }
 
@@ -422,7 +428,12 @@ pub fn send(mut connection: &TcpStream, bytes: &[u8]) -> io::Result<()> {
     connection.write_all(bytes)
 }
 
-/// The other end reads what was written, and then the end.
+/// Reads to the end what comes, after what was received before.
+pub fn receive(mut connection: &TcpStream, received: &mut Vec<u8>) -> io::Result<usize> {
+    connection.read_to_end(received)
+}
+
+/// The other side reads what was written, and then the end.
 pub fn finish(connection: &TcpStream) -> io::Result<()> {
     connection.shutdown(Shutdown::Write)
 }

@@ -1,11 +1,11 @@
-//! The users of a `local`: what its places share of them, and whom each place takes.
+//! The users of a `local`: what its links share of them, and which link takes which user.
 
 use crate::Host;
 use crate::accepting::Acceptor;
 use crate::drain::Drain;
 use crate::fault::StartFault;
+use crate::logging::Context;
 use crate::system::{Poll, TcpConnection, address_of, duplicate, listen};
-use crate::voice::Context;
 use std::alloc::{AllocError, Global};
 use std::io;
 use std::net::{SocketAddr, SocketAddrV4, TcpListener};
@@ -14,9 +14,9 @@ use std::sync::{Arc, Mutex};
 use std::time::Duration;
 use ymx_model::Outlet;
 use ymx_page::Event;
-use ymx_policy::{Happened, Named, Users as Wanted};
+use ymx_policy::{Named, Outcome, Users as Wanted};
 
-/// How many milliseconds a place that is ahead of its share lets go by before it accepts one more, and how many where the last
+/// How many milliseconds a link that is ahead of its share lets go by before it accepts one more, and how many where the last
 /// one was left to it.
 const TURN: u64 = 10;
 
@@ -25,12 +25,9 @@ const SHORT_TURN: u64 = 1;
 /// After so many rounds in which it never had to wait it accepts one more too.
 const ROUNDS: u32 = 64;
 
-/// The token of the listener for connections of users, and of who wakes the poll.
-pub const LISTENER: usize = 1;
-
-/// What the places of an end share.
+/// What the links of an endpoint share.
 #[derive(Drop)]
-pub struct Common {
+pub struct Shared {
     /// Through which it is asked to take no more connections.
     pub drain: Arc<Drain, Global>,
     /// How many users are to come, or as many as do.
@@ -39,84 +36,89 @@ pub struct Common {
     reserved: AtomicU32,
     /// How many have come.
     come: AtomicU32,
-    /// How many are open now, at all places.
+    /// How many are open now, on all links.
     open: AtomicUsize,
-    /// There is one place alone.
+    /// There is one link alone.
     is_alone: bool,
-    /// How many places there are still.
-    pub places: AtomicUsize,
+    /// How many links there are still.
+    pub links: AtomicUsize,
     /// How many of them have a session.
     pub sessions: AtomicUsize,
-    shared: Mutex<Shared>,
+    listening: Mutex<SharedListener>,
 }
 
-/// The listener that places share, until each has it.
+/// The listener that links share, until each has it.
 #[derive(Drop)]
-struct Shared {
+struct SharedListener {
     listener: Option<TcpListener>,
-    /// How many places are still to have it.
+    /// How many links are still to have it.
     takers: usize,
-    /// Somebody has asked for it.
+    /// A link has opened it.
     is_asked: bool,
 }
 
-impl Common {
-    /// So many places, to which so many users are to come.
+impl Shared {
+    /// So many links, to which so many users are to come.
     pub fn new(
         alloc: Global,
         count: Option<u32>,
-        places: usize,
-    ) -> Result<Arc<Common, Global>, AllocError> {
-        let common = Common {
+        links: usize,
+    ) -> Result<Arc<Shared, Global>, AllocError> {
+        let shared = Shared {
             drain: Arc::new(alloc, Drain::new(alloc))?,
             count,
             reserved: AtomicU32::new(0),
             come: AtomicU32::new(0),
             open: AtomicUsize::new(0),
-            is_alone: places <= 1,
-            places: AtomicUsize::new(places),
+            is_alone: links <= 1,
+            links: AtomicUsize::new(links),
             sessions: AtomicUsize::new(0),
-            shared: Mutex::new(Shared {
+            listening: Mutex::new(SharedListener {
                 listener: None,
-                takers: places,
+                takers: links,
                 is_asked: false,
             }),
         };
-        Ok(Arc::new(alloc, common)?)
+        Ok(Arc::new(alloc, shared)?)
     }
 
-    /// Where users come in, for one more place, and whether that is the first: it opens the listener at this address. The others
+    /// The listener for users, for one more link, and whether that is the first: it opens the listener at this address. The others
     /// have duplicates, and the last one itself. None where the first couldn't open it.
     pub fn open<R: Host>(
         &self,
         rt: &R,
         address: SocketAddrV4,
     ) -> io::Result<Option<(TcpListener, bool)>> {
-        let mut shared = self.shared.lock(rt);
-        let is_first = !shared.is_asked;
+        let mut listening = self.listening.lock(rt);
+        let is_first = !listening.is_asked;
         if is_first {
-            shared.is_asked = true;
-            shared.listener = Some(listen(rt, SocketAddr::V4(address))?);
+            listening.is_asked = true;
+            listening.listener = Some(listen(rt, SocketAddr::V4(address))?);
         }
-        shared.takers = shared.takers.saturating_sub(1);
-        let taken = match &shared.listener {
-            Some(listener) if shared.takers > 0 => Some(duplicate(listener)?),
-            _ => shared.listener.take(),
+        listening.takers = listening.takers.saturating_sub(1);
+        let taken = match &listening.listener {
+            Some(listener) if listening.takers > 0 => Some(duplicate(listener)?),
+            _ => listening.listener.take(),
         };
         Ok(taken.map(|listener| (listener, is_first)))
     }
 
-    /// Whether a place has a session.
+    /// Whether a link has a session.
     pub fn has_sessions(&self) -> bool {
         self.sessions.load(Ordering::SeqCst) > 0
     }
 
-    /// Whether no more users are to come: as many have come, or that was asked for.
+    /// Whether no more users are to come: as many have come, or it drains.
     pub fn is_over(&self) -> bool {
         match self.count {
             Some(count) if self.come.load(Ordering::SeqCst) >= count => true,
             _ => self.drain.is_asked(),
         }
+    }
+
+    /// Whether users are still to come, of a count.
+    pub fn is_short(&self) -> bool {
+        self.count.is_some() && !self.is_over()
     }
 
     /// Whether one more user may be accepted, who is counted.
@@ -132,7 +134,7 @@ impl Common {
     }
 
     /// Who was counted has come, or hasn't.
-    fn settle(&self, has_come: bool) {
+    fn commit(&self, has_come: bool) {
         if has_come {
             self.come.fetch_add(1, Ordering::SeqCst);
         } else {
@@ -142,18 +144,18 @@ impl Common {
 }
 
 /// Where this listener is.
-pub fn place_of(listener: &TcpListener, address: SocketAddrV4) -> SocketAddrV4 {
+pub fn local_address(listener: &TcpListener, address: SocketAddrV4) -> SocketAddrV4 {
     match address_of(listener) {
         Ok(SocketAddr::V4(at)) => at,
         _ => address,
     }
 }
 
-/// The users who come to one place.
+/// The users who come to one link.
 #[derive(Drop)]
 pub struct Users {
     pub acceptor: Acceptor,
-    common: Arc<Common, Global>,
+    shared: Arc<Shared, Global>,
     /// Where they come in.
     address: SocketAddrV4,
     /// Some may wait.
@@ -162,21 +164,21 @@ pub struct Users {
     open: usize,
     /// How many rounds have gone by since one was accepted.
     rounds: u32,
-    /// No other place took the last one.
+    /// No other link took the last one.
     is_left: bool,
 }
 
 impl Users {
-    /// They come to this listener, of which this poll tells.
+    /// They come to this listener, which this poll reports.
     pub fn new(
         listener: TcpListener,
         wanted: Wanted,
-        common: Arc<Common, Global>,
+        shared: Arc<Shared, Global>,
         poll: &Poll,
     ) -> Result<Users, StartFault> {
         let mut users = Users {
-            acceptor: Acceptor::new(listener, wanted.is_patient, poll, LISTENER)?,
-            common,
+            acceptor: Acceptor::new(listener, wanted.keeps_listening, poll)?,
+            shared,
             address: wanted.address,
             may_wait: true,
             open: 0,
@@ -187,10 +189,10 @@ impl Users {
         Ok(users)
     }
 
-    /// An event says that somebody waits, or it is time to look. Where no more are to come, nobody listens for them.
+    /// An event reports that somebody waits, or it is time to look. Where no more are to come, nobody listens for them.
     pub fn note_event(&mut self) {
         self.may_wait = true;
-        if self.common.is_over() {
+        if self.shared.is_over() {
             self.acceptor.close_all();
         }
     }
@@ -207,10 +209,10 @@ impl Users {
         self.may_wait
     }
 
-    /// Whether more are open here than its share, where so many are: one place alone never has more.
+    /// Whether more are open here than its share, where so many are: one link alone never has more.
     fn is_ahead(&self, open: usize) -> bool {
-        let all = self.common.open.load(Ordering::SeqCst);
-        let others = self.common.places.load(Ordering::SeqCst).saturating_sub(1);
+        let all = self.shared.open.load(Ordering::SeqCst);
+        let others = self.shared.links.load(Ordering::SeqCst).saturating_sub(1);
         open.saturating_mul(others) > all.saturating_sub(self.open)
     }
 
@@ -223,11 +225,11 @@ impl Users {
     pub fn accept(&mut self, open: usize) -> Option<TcpConnection> {
         self.rounds = 0;
         self.may_wait = false;
-        if !self.common.reserve() {
+        if !self.shared.reserve() {
             return None;
         }
         let accepted = self.acceptor.accept(open);
-        self.common.settle(accepted.is_some());
+        self.shared.commit(accepted.is_some());
         self.is_left = accepted.is_some() && self.is_ahead(open);
         if accepted.is_some() {
             self.note_event();
@@ -252,11 +254,11 @@ impl Users {
         }
     }
 
-    /// One more round begins, in which so many are open here. Tells why the system has refused to accept one, if it has and that
-    /// wasn't told.
+    /// One more round begins, in which so many are open here. Logs why the system has refused to accept one, if it has and that
+    /// wasn't logged.
     pub fn note_open<R: Host, D: Outlet>(&mut self, context: Context<'_, '_, R, D>, open: usize) {
         self.rounds = self.rounds.saturating_add(1);
-        let all = &self.common.open;
+        let all = &self.shared.open;
         if open > self.open {
             all.fetch_add(open - self.open, Ordering::SeqCst);
         } else {
@@ -264,27 +266,27 @@ impl Users {
         }
         self.open = open;
         if let Some(reason) = self.acceptor.take_refusal() {
-            context.tell(Event::Refused(Named::Listen(self.address), reason));
+            context.log(Event::Refused(Named::Listen(self.address), reason));
         }
     }
 
     /// Whether as many are accepted as come.
     pub fn is_endless(&self) -> bool {
-        self.common.count.is_none()
+        self.shared.count.is_none()
     }
 
-    /// The session was lost, and none follows: where there are other places, users are left to them.
+    /// The session was lost, and none follows: where there are other links, users are left to them.
     pub fn note_loss(&mut self) {
-        if !self.common.is_alone {
+        if !self.shared.is_alone {
             self.acceptor.stop();
         }
     }
 
     /// Why nobody comes any more. None where somebody may.
-    pub fn end(&self) -> Option<Happened> {
+    pub fn end(&self) -> Option<Outcome> {
         match self.acceptor.failure() {
-            Some(reason) => Some(Happened::NoUsers(reason)),
-            None => self.acceptor.is_over().then_some(Happened::AllCame),
+            Some(reason) => Some(Outcome::NoUsers(reason)),
+            None => self.acceptor.is_over().then_some(Outcome::AllCame),
         }
     }
 }

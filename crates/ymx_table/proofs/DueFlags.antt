@@ -104,7 +104,7 @@ module _ {words : List ℕ} {len count : ℕ} (are : AreFlags words len count) w
       let m' = rw here at m in
       omega arith
 
-  -- what stands at any place, with false behind the last
+  -- what stands at any place, with false after the last
   pub all_flags : (k : ℕ) → get_or (flags_of words len) k false ≡ flag words k
   all_flags k =
       elim (cases_lt k len) [

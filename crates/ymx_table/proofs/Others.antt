@@ -79,7 +79,7 @@ module _ {X : Type 0} (id : ℕ) where
   without-added x [] h = grind (arith, nat_tests)
   without-added x (p ∷ ps) h = let i = without-added x ps in grind (arith, nat_tests)
 
-  -- ids that are distinct: behind the one that is removed there is no other
+  -- ids that are distinct: after the one that is removed there is no other
   look-apart : (j : ℕ) (ps : List (ℕ × X)) → eqb j id ≡ true → AllByRecursion (λ i. nat_eq j i ≡ false) (keys_of ps) → look id ps ≡ None
   look-apart j [] e d = refl
   look-apart j (p ∷ ps) e d = let h = look-apart j ps e d.1 in let n = d.0 in grind (arith, nat_tests)

@@ -14,7 +14,7 @@ use Rattle.ymx_table.specs.Kept.{due_flags}
 use Rattle.ymx_table.specs.Flags.{IsFirst, IsNoneFrom}
 use Rattle.ymx_table.proofs.Counts.{count, count-none, count-cons}
 
--- the first of two lists, one behind the other
+-- the first of two lists, one after the other
 first-append : (id : ℕ) (xs ys : List ℕ) → is_first id xs ≡ true → is_first id (xs ++ ys) ≡ true
 first-append id [] ys h = cc
 first-append id (x ∷ xs) ys h = h

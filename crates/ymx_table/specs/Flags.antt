@@ -30,7 +30,7 @@ pub record IsFirst (test : ℕ → Bool) (from at : ℕ) : Type 0 where
 abbrev pub IsNoneFrom : (ℕ → Bool) → ℕ → Type 0
 IsNoneFrom test from = (k : ℕ) → from ≤ k → test k ≡ false
 
--- the words hold so many flags and nothing behind them, and `count` says how many are set
+-- the words hold so many flags and nothing after them, and `count` says how many are set
 pub record AreFlags (words : List ℕ) (len count : ℕ) : Type 0 where
   pub few : len ≤ most_records
   pub clear_behind : (k : ℕ) → len ≤ k → flag words k ≡ false

@@ -12,7 +12,7 @@ due_flags t = map (λ p. is_due t.window p.1) t.entries
 
 -- The window is one that a session may have; `due` says which streams have a frame due; `unsent` is how many
 -- bytes of all streams are unsent; the records are few enough; the next turn starts at one of them, or just
--- behind the last; and each stream id is one of the protocol (32 bits).
+-- after the last; and each stream id is one of the protocol (32 bits).
 pub record IsKept (t : Table) (due : List Bool) (unsent : ℕ) : Type 0 where
   pub narrowest : first_credit ≤ t.window
   pub widest : t.window ≤ widest_window

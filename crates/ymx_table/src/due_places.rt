@@ -49,7 +49,7 @@ impl DuePlaces {
         self.count
     }
 
-    /// The flag of a record that is inserted behind the others.
+    /// The flag of a record that is inserted after the others.
     pub(crate) fn push(&mut self, is_due: bool)
         requires { length self.old < most_records }
         ensures { self.new ≡ self.old ++ is_due ∷ [] }
@@ -69,7 +69,7 @@ impl DuePlaces {
         self.count = recount(self.count, was_due, is_due);
     }
 
-    /// Removes the flag of a record that is removed: those behind it move up.
+    /// Removes the flag of a record that is removed: those after it move up.
     pub(crate) fn remove(&mut self, place: usize)
         requires { place < length self.old }
         ensures { self.new ≡ remove self.old place }

@@ -25,7 +25,7 @@ pub(crate) fn put_flag(words: &mut [u64; WORDS], place: usize, is_set: bool)
     words[place / WORD_BITS] = with_bit(words[place / WORD_BITS], place % WORD_BITS, is_set);
 }
 
-/// Takes out the flag at this place: those behind it move up.
+/// Takes out the flag at this place: those after it move up.
 pub(crate) fn take_flag_out(words: &mut [u64; WORDS], place: usize)
     requires { place < 1024 }
     ensures { (k : ℕ) → flag words.new k ≡ (if nat_lt k place then flag words.old k else flag words.old (k + 1)) }

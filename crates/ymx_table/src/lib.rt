@@ -35,13 +35,13 @@ use unsent::retotal;
 use ymx_half::StreamRec;
 use ymx_header::MOST_RECORDS;
 use ymx_memory::RefusedAllocation;
-use ymx_ring::Warm;
+use ymx_ring::Pool;
 
 /// The records of a session by stream id. A contract sees the record `Table` of `ymx_model`: the window
 /// of the session, the records with their ids in order, and the place of the next turn.
 ///
 /// At most 1,024 records are there, under as many ids. A new one goes last; where one is removed, those
-/// behind it move up.
+/// after it move up.
 #[derive(Drop)]
 pub struct Table {
     window: u32,
@@ -53,7 +53,7 @@ pub struct Table {
     /// Where a record was found last. A following call on the same stream finds it there, and hashes no id.
     last: usize,
     /// The blocks of memory with which the streams' rings take turns, and those of streams that are gone.
-    warm: Warm,
+    pool: Pool,
 }
 
 impl Model for Table {
@@ -82,7 +82,7 @@ impl Table {
             due: DuePlaces::new(),
             unsent: 0,
             last: 0,
-            warm: Warm::new(alloc)?,
+            pool: Pool::new(alloc)?,
         })
     }
 
@@ -137,7 +137,7 @@ impl Table {
 
     /// Looks a record up for the calls on its stream that follow: as long as they are on this stream alone, none
     /// of them hashes its id. The table stays as it was, whether or not there is such a record.
-    pub fn seek(&mut self, id: u32)
+    pub fn locate(&mut self, id: u32)
         ensures { self.new ≡ self.old }
     {
         if let Some(place) = self.find(id) {
@@ -145,7 +145,7 @@ impl Table {
         }
     }
 
-    /// Inserts the record of a new stream behind the others. There has to be room for it, and no record
+    /// Inserts the record of a new stream after the others. There has to be room for it, and no record
     /// under its id. It was made for the session's window: what is unread of it, granted and owed makes up
     /// that window.
     ///
@@ -166,19 +166,19 @@ impl Table {
         Ok(())
     }
 
-    /// Removes the record under this id, which has to be there, and drops it. Those behind it move up,
-    /// and if the place of the next turn is behind it, that moves up with them.
+    /// Removes the record under this id, which has to be there, and drops it. Those after it move up,
+    /// and if the place of the next turn is after it, that moves up with them.
     pub fn remove(&mut self, id: u32)
         requires { IsSome (look id self.old.entries) }
         ensures { self.new ≡ remove_record id self.old }
     {
-        let place = self.place_of(id);
+        let place = self.index_of(id);
         let unsent = self.records[place].unsent_len();
         let is_last = self.records.len() == 1;
         end_of(
             self.records.shift_remove_index(place),
             is_last,
-            &mut self.warm,
+            &mut self.pool,
         );
         self.due.remove(place);
         self.unsent = retotal(self.unsent, unsent, 0);
@@ -216,7 +216,7 @@ impl Table {
     }
 
     /// The place of a record that is there.
-    fn place_of(&self, id: u32) -> usize
+    fn index_of(&self, id: u32) -> usize
         requires { IsSome (look id self.now.entries) }
         ensures { StandsAt id self.now result }
     {
@@ -234,11 +234,11 @@ impl Table {
 
 /// The record that was removed ends. Its memory is kept for the next stream; with the last one memory goes back that was
 /// in use.
-fn end_of(removed: Option<(u32, StreamRec)>, is_last: bool, warm: &mut Warm) {
+fn end_of(removed: Option<(u32, StreamRec)>, is_last: bool, pool: &mut Pool) {
     if let Some((_, stream)) = removed {
-        stream.end(warm);
+        stream.end(pool);
     }
     if is_last {
-        warm.rest();
+        pool.rest();
     }
 }

@@ -25,10 +25,10 @@ impl Table {
         ensures same { self.new ≡ self.old }
     {
         let window = self.window();
-        self.warm
+        self.pool
             .stock(alloc, self.records.len(), FIRST_CREDIT as usize);
-        let mut stream = StreamRec::opened(alloc, &mut self.warm, window, with_data)?;
-        let count = stream.write(&mut self.warm, bytes).unwrap();
+        let mut stream = StreamRec::opened(alloc, &mut self.pool, window, with_data)?;
+        let count = stream.write(&mut self.pool, bytes).unwrap();
         Ok((stream, count))
     }
 
@@ -40,8 +40,8 @@ impl Table {
         ensures narrowest { first_credit ≤ self.old.window }
     {
         let window = self.window();
-        self.warm
+        self.pool
             .stock(alloc, self.records.len(), FIRST_CREDIT as usize);
-        StreamRec::offered(alloc, &mut self.warm, window)
+        StreamRec::offered(alloc, &mut self.pool, window)
     }
 }

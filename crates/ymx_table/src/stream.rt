@@ -18,7 +18,7 @@ use crate::Table;
 use crate::unsent::retotal;
 use ymx_half::{Stage, StreamRec};
 use ymx_memory::RefusedAllocation;
-use ymx_ring::Warm;
+use ymx_ring::Pool;
 
 impl Table {
     // ---- calls
@@ -36,11 +36,11 @@ impl Table {
         ensures in_room { ForSome (look id self.old.entries) (λ e. length e.writer.unsent + min (length bytes.now) e.writer.credit ≤ first_credit → IsOk result) }
         ensures refused_unchanged { OnErr result (self.new ≡ self.old) }
     {
-        let place = self.place_of(id);
+        let place = self.index_of(id);
         self.last = place;
         let stream = &mut self.records[place];
         let before = stream.unsent_len();
-        let wrote = stream.write(&mut self.warm, bytes);
+        let wrote = stream.write(&mut self.pool, bytes);
         self.unsent = retotal(self.unsent, before, stream.unsent_len());
         let is_due = stream.is_due(self.window);
         self.due.set(place, is_due);
@@ -50,7 +50,7 @@ impl Table {
     /// Writes these bytes, and begins the frame of Data that carries them: it goes to the front of `buffer`, which has
     /// room for it, and its number of bytes is returned (framing). The stream was not finished here, nothing of it is
     /// unsent, its credit is enough, and they are at most 16,384 bytes. None of them is put among the unsent bytes. The
-    /// rest of `buffer` stays as it was. The stream was served: the next turn starts just behind it.
+    /// rest of `buffer` stays as it was. The stream was served: the next turn starts just after it.
     pub fn write_through(&mut self, id: u32, bytes: &[u8], buffer: &mut [u8]) -> usize
         requires there { IsSome (look id self.old.entries) }
         requires may { ForSome (look id self.old.entries) (MaySend bytes.now) }
@@ -59,7 +59,7 @@ impl Table {
         ensures written { buffer.new ≡ frame 0 0 id (length bytes.now) bytes.now ++ drop result buffer.old }
         ensures goes { self.new ≡ pass_turn id (with_record id (sent bytes.now) self.old) }
     {
-        let place = self.place_of(id);
+        let place = self.index_of(id);
         let stream = &mut self.records[place];
         let before = stream.unsent_len();
         let count = stream.write_through(id, bytes, buffer);
@@ -79,10 +79,10 @@ impl Table {
         ensures gave { ForSome (look id self.old.entries) (λ e. buffer.new ≡ take result e.reader.unread ++ drop result buffer.old) }
         ensures after { self.new ≡ with_record id (end_read result) self.old }
     {
-        let place = self.place_of(id);
+        let place = self.index_of(id);
         self.last = place;
         let stream = &mut self.records[place];
-        let count = stream.read(&mut self.warm, buffer);
+        let count = stream.read(&mut self.pool, buffer);
         let is_due = stream.is_due(self.window);
         self.due.set(place, is_due);
         count
@@ -95,10 +95,10 @@ impl Table {
         ensures count { ForSome (look id self.old.entries) (λ e. result ≡ min count (length e.reader.unread)) }
         ensures after { self.new ≡ with_record id (end_read result) self.old }
     {
-        let place = self.place_of(id);
+        let place = self.index_of(id);
         self.last = place;
         let stream = &mut self.records[place];
-        let taken = stream.consume(&mut self.warm, count);
+        let taken = stream.consume(&mut self.pool, count);
         let is_due = stream.is_due(self.window);
         self.due.set(place, is_due);
         taken
@@ -132,7 +132,7 @@ impl Table {
         requires over { takes (phase_of stage) ≡ false }
         ensures { self.new ≡ with_record id (end_reset (phase_of stage)) self.old }
     {
-        self.change(id, |stream, warm| stream.reset(warm, stage));
+        self.change(id, |stream, pool| stream.reset(pool, stage));
     }
 
     /// The stream is given up, and lingers until what it still has to send went out. In a lost session that
@@ -142,7 +142,7 @@ impl Table {
         requires held { ForSome (look id self.old.entries) (λ e. is_lingering e.phase ≡ false) }
         ensures { self.new ≡ with_record id (end_forget lost) self.old }
     {
-        self.change(id, |stream, warm| stream.forget(warm, lost));
+        self.change(id, |stream, pool| stream.forget(pool, lost));
     }
 
     /// Gives memory back that the stream doesn't need: see `StreamRec::shrink`. The table stays as it was. True where it
@@ -159,12 +159,12 @@ impl Table {
     pub fn shrink_spare(&mut self) -> bool
         ensures { self.new ≡ self.old }
     {
-        self.warm.shrink(self.records.len())
+        self.pool.shrink(self.records.len())
     }
 
     // ---- frames that come
 
-    /// A piece of a payload comes, and behind it the peer's end if `fin` (flow control). A stream that takes
+    /// A piece of a payload comes, and after it the peer's end if `fin` (flow control). A stream that takes
     /// payload has granted so many bytes. Where there is no record nothing changes.
     pub fn receive_piece(&mut self, id: u32, fin: bool, bytes: &[u8])
         requires { IfSome (look id self.old.entries) (λ e. takes_payload e ≡ true → length bytes.now ≤ e.reader.granted) }
@@ -175,12 +175,12 @@ impl Table {
         };
         self.last = place;
         let stream = &mut self.records[place];
-        stream.receive_piece(&mut self.warm, fin, bytes);
+        stream.receive_piece(&mut self.pool, fin, bytes);
         let is_due = stream.is_due(self.window);
         self.due.set(place, is_due);
     }
 
-    /// A piece of a payload comes, and behind it the peer's end if `fin`, and is read at once: `receive_piece` of these
+    /// A piece of a payload comes, and after it the peer's end if `fin`, and is read at once: `receive_piece` of these
     /// bytes, and then a read of as many (flow control). The stream takes payload, has granted so many bytes, and
     /// nothing of it is unread. Where there is no record nothing changes.
     pub fn pass(&mut self, id: u32, fin: bool, bytes: &[u8])
@@ -211,12 +211,12 @@ impl Table {
         requires not_offered { ForSome (look id self.old.entries) (λ e. is_offered e.phase ≡ false) }
         ensures { self.new ≡ with_record id receive_rst self.old }
     {
-        self.change(id, |stream, warm| stream.receive_rst(warm));
+        self.change(id, |stream, pool| stream.receive_rst(pool));
     }
 
     /// Changes the record under this id, and its flag with it. The closure is lent the blocks of the table too. `None` if
     /// there is no record.
-    fn change<R, F: FnOnce(&mut StreamRec, &mut Warm) -> R>(
+    fn change<R, F: FnOnce(&mut StreamRec, &mut Pool) -> R>(
         &mut self,
         id: u32,
         change: F,
@@ -228,7 +228,7 @@ impl Table {
         self.last = place;
         let stream = &mut self.records[place];
         let before = stream.unsent_len();
-        let answer = change(stream, &mut self.warm);
+        let answer = change(stream, &mut self.pool);
         self.unsent = retotal(self.unsent, before, stream.unsent_len());
         let is_due = stream.is_due(self.window);
         self.due.set(place, is_due);

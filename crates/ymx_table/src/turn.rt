@@ -50,7 +50,7 @@ impl Table {
 
     /// Begins the frame of a stream that goes next of it: writes all of it to the front of `buffer`, which has
     /// room for it, and returns how many bytes it has (framing). Data carries at most `limit` bytes of payload.
-    /// The rest of `buffer` stays as it was. The stream was served: the next turn starts just behind it.
+    /// The rest of `buffer` stays as it was. The stream was served: the next turn starts just after it.
     pub fn begin_frame(&mut self, next: NextFrame, limit: u32, buffer: &mut [u8]) -> usize
         requires next { IsNextFrame limit next self.old }
         requires fits { next.length ≤ length buffer.old }
@@ -62,7 +62,7 @@ impl Table {
         let stream = &mut self.records[place];
         let before = stream.unsent_len();
         let count = stream.begin_frame(
-            &mut self.warm,
+            &mut self.pool,
             next.kind,
             self.window,
             limit,

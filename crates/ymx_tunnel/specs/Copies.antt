@@ -15,7 +15,7 @@ copy_reason (Call refusal.Reset) own = Reset
 copy_reason (Call refusal.Lost) own = Lost
 copy_reason fault own = own
 
--- the want of memory, if that was the fault
+-- the lack of memory, if that was the fault
 abbrev pub memory_lacked : HubFault → Option RefusedAllocation
 memory_lacked (Memory refused) = Some refused
 memory_lacked _ = None
@@ -40,7 +40,7 @@ CopiesOut source left writer after bytes why =
 abbrev pub EndsWell : (why : CopyWhy) (lack : Option RefusedAllocation) → Type 0
 EndsWell why lack = (why ≡ End) × (lack ≡ None)
 
--- A copy stopped at this fault of its half, and told whether it was want of memory. `own` names the half where the fault says no more.
+-- A copy stopped at this fault of its half, and told whether it was lack of memory. `own` names the half where the fault says no more.
 abbrev pub StopsAt : HubFault → (own why : CopyWhy) (lack : Option RefusedAllocation) → Type 0
 StopsAt fault own why lack = (why ≡ copy_reason fault own) × (lack ≡ memory_lacked fault)
 

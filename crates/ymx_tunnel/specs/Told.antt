@@ -29,7 +29,7 @@ carried bytes (Some entries) = Some (bytes entries)
 abbrev pub HasSaidEnd : List Entry → Type 0
 HasSaidEnd entries = (before : List Entry) × (e : Entry) × (after : List Entry) × (entries ≡ before ++ e ∷ after) × (e.reply ≡ reply.ReadEnd)
 
--- one of these entries was refused, which the fault says; or the fault is want of memory, which no entry need tell
+-- one of these entries was refused, which the fault says; or the fault is lack of memory, which no entry need tell
 abbrev pub HasToldRefusal : HubFault → List Entry → Type 0
 HasToldRefusal fault entries =
     (fault ≡ Memory evidence)

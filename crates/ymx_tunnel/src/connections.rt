@@ -1,6 +1,6 @@
 //! The connections that are open, so that none outlives the session.
 //!
-//! A copy that waits for its connection doesn't see that the session is over. So whoever sees it shuts the connections.
+//! A copy that waits for its connection doesn't see that the session is over. So the thread that sees it shuts the connections.
 
 ghost use Rattle.std.specs.Prelude.{None};
 

@@ -30,7 +30,7 @@ pub struct Copied<L> {
     pub bytes: u64,
     /// Why it ended.
     pub why: CopyWhy,
-    /// The half of the stream refused for want of memory. It holds the evidence: an allocation was refused.
+    /// The half of the stream refused for lack of memory. It holds the evidence: an allocation was refused.
     pub lack: Option<RefusedAllocation>,
     /// What is left of the half of the stream.
     pub left: L,
@@ -43,7 +43,7 @@ pub(crate) struct Stop {
     pub(crate) bytes: u64,
     /// Why it stopped.
     pub(crate) why: CopyWhy,
-    /// The want of memory, if that was it.
+    /// The lack of memory, if that was it.
     pub(crate) lack: Option<RefusedAllocation>,
 }
 

@@ -14,7 +14,7 @@ use ymx_model::{Inlet, Outlet, push_all};
 /// resets it. It reads into the buffer, which isn't empty, and takes no memory.
 ///
 /// `Source`: the reader failed. `Reset`, `Lost`: the sink said so. `Sink`: the sink refused for another reason; `lack`
-/// says whether that was want of memory.
+/// says whether that was lack of memory.
 pub fn copy_in<W: Wait, I: Inlet, S: Sink>(
     rt: &W,
     reader: &mut I,
@@ -24,7 +24,7 @@ pub fn copy_in<W: Wait, I: Inlet, S: Sink>(
     requires { 0 < length buffer.old }
     // A beginning of what the reader gave; at `End` all of it.
     ensures moved { CopiesIn (I.remaining reader.old) (I.remaining reader.new) (S.taken sink) (S.taken_in_all result.left) result.bytes result.why }
-    // The end was passed on at `End` alone, and a reader that failed left no end behind.
+    // The end was passed on at `End` alone, and a reader that failed passed no end on.
     ensures finished { result.why ≡ CopyWhy.End → (last : S) × S.Finishes last result.left (Ok tt) }
     ensures reset { result.why ≡ CopyWhy.Source → (last : S) × (answer : Result (Unit {0}) Fault) × S.Resets last result.left answer }
     // At any other end it was reset, for the reader or for a fault by which it had refused; or its finish was refused for that reason.
@@ -94,7 +94,7 @@ fn fill<W: Wait, I: Inlet, S: Sink>(rt: &W, reader: &mut I, sink: &mut S, buffer
 /// source in any case. It reads into the buffer, which isn't empty, and takes no memory.
 ///
 /// `Sink`: the writer failed. `Reset`, `Lost`: the source said so. `Source`: the source refused for another reason;
-/// `lack` says whether that was want of memory.
+/// `lack` says whether that was lack of memory.
 pub fn copy_out<W: Wait, S: Source, O: Outlet>(
     rt: &W,
     source: S,

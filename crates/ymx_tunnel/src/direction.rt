@@ -14,7 +14,7 @@ use ymx_seats::Recorder;
 /// Bytes that a copy reads at once.
 const COPY_BUFFER: usize = 65_536;
 
-/// A half of a stream, for the thread that ends it. Where none takes it, it is let go, and so reset.
+/// A half of a stream, for the thread that ends it. Where none takes it, it is dropped, and so reset.
 #[derive(Drop)]
 pub(crate) struct Handover<H: Drop> {
     half: Mutex<Option<H>>,
@@ -34,7 +34,7 @@ impl<H: Drop> Handover<H> {
     }
 }
 
-/// Copies from the connection into the stream by the half that is handed over, and ends it: the want of memory that
+/// Copies from the connection into the stream by the half that is handed over, and ends it: the lack of memory that
 /// ended it, if that was it.
 pub(crate) fn to_peer<W: Runtime, R: Recorder>(
     rt: &W,
@@ -68,7 +68,7 @@ pub(crate) fn to_peer<W: Runtime, R: Recorder>(
     lack
 }
 
-/// Copies from the stream out to the connection by the half that is handed over, and ends it: the want of memory that
+/// Copies from the stream out to the connection by the half that is handed over, and ends it: the lack of memory that
 /// ended it, if that was it.
 pub(crate) fn from_peer<W: Runtime, R: Recorder>(
     rt: &W,

@@ -9,7 +9,7 @@ use std::thread::Threads;
 use yamux::{Error, Runtime, Session, Shut, Stream};
 use ymx_seats::Recorder;
 
-/// How many streams `serve_remote` serves at once where nothing else is said.
+/// How many streams `serve_remote` serves at once by default.
 pub const USUAL_WORKERS: u32 = 16;
 
 /// How a server ended.
@@ -32,7 +32,7 @@ struct ServerState<'a, W: Runtime, S: Shut, R: Recorder> {
 /// Accepts connections, and has each served by a worker, a thread of its own that opens a stream and copies both ways.
 /// A connection for which no thread can be made is closed, and so is one for which no stream can be opened. It ends
 /// after `count` connections, or at an accept that fails; without `count` also at the first connection that is accepted
-/// after the session was lost. Whoever sees that the session is over shuts the connections. It returns once all workers
+/// after the session was lost. The thread that sees that the session is over shuts the connections. It returns once all workers
 /// have ended.
 pub fn serve_local<
     W: Runtime + Threads + Send + Sync,
@@ -67,8 +67,8 @@ pub fn serve_local<
     state.served(accept_failed)
 }
 
-/// Accepts streams in so many workers, 16 where nothing is said, and at least one. Each connects to the target and copies
-/// both ways, for one stream after the other. A stream for which no connection can be made is reset. Whoever sees that the session is over
+/// Accepts streams in so many workers, 16 by default, and at least one. Each connects to the target and copies
+/// both ways, for one stream after the other. A stream for which no connection can be made is reset. The thread that sees that the session is over
 /// shuts the connections. It returns once the session gives out no more streams and all workers have ended.
 pub fn serve_remote<
     W: Runtime + Net<Stream = TcpStream, Listener = TcpListener> + Threads + Send + Sync,
@@ -113,7 +113,7 @@ fn serve_connection<
 }
 
 /// Accepts streams, one after the other, and serves each, until the session gives out no more. If it can't connect to the target for
-/// one, this is let go, and so reset.
+/// one, this is dropped, and so reset.
 fn serve_streams<
     W: Runtime + Net<Stream = TcpStream, Listener = TcpListener> + Threads + Send + Sync,
     S: Shut + Send + Sync,
@@ -167,7 +167,7 @@ impl<'a, W: Runtime, S: Shut, R: Recorder> ServerState<'a, W, S, R> {
         self.lacked_memory.store(true, Ordering::SeqCst);
     }
 
-    /// Copies both ways between a connection and a stream, and notes a want of memory.
+    /// Copies both ways between a connection and a stream, and notes a lack of memory.
     fn join(&self, rt: &W, socket: TcpStream, stream: Stream<W, R>)
     where
         W: Threads + Send + Sync,

@@ -12,7 +12,7 @@ use Rattle.ymx_model.specs.session.Emissions.{in_turn}
 use Rattle.ymx_model.specs.world.Worlds.{World, Pipe, Steps}
 use Rattle.ymx_world.specs.Acts.{IsAppended, IsEmitted, IsFed}
 
--- what went behind the bytes of a pipe, of which the first were delivered, went onto the pipe
+-- what went after the bytes of a pipe, of which the first were delivered, went onto the pipe
 pub appended_goes : {E : Type 0} (result : Result ℕ E) (room : ℕ) (s t : Session) (before after : List ℕ) (at : ℕ) (stopped ended : Bool) (p : Pipe) →
     record { bytes = drop at before; stopped = stopped; ended = ended } ≡ p → p.stopped ≡ false → at ≤ length before →
     IfOk result (λ count. IsAppended room count s t before after) →

@@ -6,4 +6,4 @@ pub mod Bounds
 pub mod Progress
 pub mod NewWorlds
 pub mod Plays
-pub mod Settling
+pub mod Driving

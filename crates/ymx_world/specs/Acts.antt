@@ -34,7 +34,7 @@ pub record IsCalled (call : Call) (given : Answer) (s t : Session) : Type 0 wher
   pub gives : Gives in_turn s (event.Call call) told t
   pub answered : given ≡ answer_of told
 
--- an emission into so many bytes gave so many, which went behind the bytes before, and left those after
+-- an emission into so many bytes gave so many, which went after the bytes before, and left those after
 pub record IsAppended (room count : ℕ) (s t : Session) (before after : List ℕ) : Type 0 where
   pub out : List ℕ
   pub gives : Gives in_turn s (event.Emit room) (reply.Emitted out) t

@@ -3,4 +3,4 @@ pub mod Reached
 pub mod Bounds
 pub mod Progress
 pub mod Played
-pub mod Settled
+pub mod Driven

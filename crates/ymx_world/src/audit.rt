@@ -111,7 +111,7 @@ impl World {
     /// Steps of the world in which the histories of its two sides, A's and B's, each keep their order: `None`
     /// only if there are none. A call and an emission are steps; a feed is the delivery of its bytes, which
     /// stand at the front of what the other side has emitted and no feed has taken; the end of the input is a
-    /// stop and an end, and a feed behind it has no step. `RefusedAllocation` where there is no memory for the steps.
+    /// stop and an end, and a feed after it has no step. `RefusedAllocation` where there is no memory for the steps.
     pub fn audit(
         alloc: Global,
         a: &[Entry],

@@ -4,7 +4,7 @@ ghost use Rattle.std.specs.Prelude.{◌≡◌, ◌≤◌, ◌↔◌, false, leng
 ghost use Rattle.ymx_model.specs.world.Worlds.{new_pipe, pushed, without_front, stopped_now, is_quiet_pipe};
 ghost use Rattle.ymx_headline.specs.audit.Joints.{ended_pipe};
 ghost use Rattle.ymx_world.specs.Acts.{IsAppended, IsEmitted, IsFed, IsEnded};
-ghost use Rattle.ymx_world.specs.Settled.{is_open_pipe};
+ghost use Rattle.ymx_world.specs.Driven.{is_open_pipe};
 
 use std::alloc::Global;
 use std::marker::Model;
@@ -185,7 +185,7 @@ impl Pipe {
         true
     }
 
-    /// It is stopped, and its end is told.
+    /// It is stopped, and its end is reported.
     pub(crate) fn end(&mut self)
         ensures { self.new ≡ ended_pipe }
     {

@@ -6,7 +6,7 @@ ghost use Rattle.ymx_machine.specs.declared.types.Step.TheVariants as step;
 ghost use Rattle.ymx_model.specs.session.Emissions.{in_turn, is_ready};
 ghost use Rattle.ymx_model.specs.world.Worlds.{Steps, Runs, new_pipe, is_quiet};
 ghost use Rattle.ymx_world.specs.Acts.{session_of, pipe_of};
-ghost use Rattle.ymx_world.specs.Settled.{is_open_world};
+ghost use Rattle.ymx_world.specs.Driven.{is_open_world};
 
 use crate::calls::make_call;
 use crate::pipe::Pipe;

@@ -14,7 +14,7 @@ ghost use Rattle.ymx_machine.specs.declared.types.Answer.{Answer as TheAnswer};
 ghost use Rattle.ymx_world.specs.Bounds.{IsBoundedRun};
 ghost use Rattle.ymx_world.specs.Acts.{session_of, pipe_of};
 ghost use Rattle.ymx_world.specs.Progress.{GoesForward};
-ghost use Rattle.ymx_world.specs.Settled.{IsCarriedOn, IsDueCarriage};
+ghost use Rattle.ymx_world.specs.Driven.{IsCarriedOn, IsDueCarriage};
 ghost use Rattle.ymx_world.specs.Played.{machine_of, world_of, WhereStopped, IsPlayFault};
 ghost use Rattle.ymx_headline.specs.machine.Arrivals.{AllArrive, AllAreGiven, AllAreOffered, AllTakeEnough};
 ghost use Rattle.ymx_headline.specs.machine.Faces.{FitWindows};
@@ -22,9 +22,9 @@ ghost use Rattle.ymx_headline.specs.machine.Runs.{StillRun};
 ghost use Rattle.ymx_headline.specs.QuietRuns.{QuietRuns};
 ghost use Rattle.ymx_machine.specs.Promise.{AllDeliverInOrder};
 
+use crate::driven::{Driven, refused_by};
 use crate::pipes::SessionPipes;
 use crate::played::{PlayFault, Played};
-use crate::settled::{Settled, refused_by};
 use crate::stopped::Stopped;
 use std::alloc::Global;
 use std::marker::Model;
@@ -32,7 +32,7 @@ use ymx_memory::{RefusalCount, RefusedAllocation};
 use ymx_model::{Answer, Config, Direction, Role, Side, Step};
 use ymx_session::{NewFault, Session};
 
-/// The room of an emission that settles a world, in bytes: four of the longest frames that a session emits.
+/// The room of an emission that drives a world, in bytes: four of the longest frames that a session emits.
 const ROOM: usize = 65_584;
 
 /// Two sessions joined by pipes. A contract sees the record `World` of `ymx_model`, and that it was reached
@@ -78,7 +78,7 @@ impl World {
     /// takes leave the pipe; a stop; an end, which answers `NotStopped` without a stop before. `RefusedAllocation` where
     /// there is no memory for the bytes that are read or emitted: then nothing is done.
     ///
-    /// A session's own want of memory is an answer, as each of its refusals is.
+    /// A session's own lack of memory is an answer, as each of its refusals is.
     pub fn step(&mut self, step: &Step) -> Result<Answer, RefusedAllocation>
         ensures steps { IfOk result (λ given. Steps in_turn step.now given self.old self.new) }
         ensures same { OnErr result (self.new ≡ self.old) }
@@ -135,7 +135,7 @@ impl World {
     /// it, or it reset it or gave it up (clause `arrives`). Where an accept finds no stream, its side was given each one
     /// that the other has, if it had no cause to refuse one: it said no go away, no memory was wanting, and at most 256
     /// were opened (clause `accepts`). Whatever it had, it was given each one of which the other's read isn't refused
-    /// (clause `offers`). A write right behind the quiet step takes all its bytes, or so many that more than half of the
+    /// (clause `offers`). A write right after the quiet step takes all its bytes, or so many that more than half of the
     /// reader's window is unread (clause `writes`).
     ///
     /// `Refused` comes as of `World::new`. `Stopped` comes where there was no memory of the world's own for a
@@ -215,19 +215,19 @@ impl World {
     ///
     /// It ends, since each of its steps carries a byte on. No frame is made or lost on the way that
     /// emissions and deliveries by hand would not make or lose.
-    pub fn settle(&mut self) -> Result<Settled, RefusedAllocation>
-        ensures quiet { IfOk result (λ settled. settled.quiet ≡ true → is_quiet self.new ≡ true) }
-        ensures open { IsOpenWorld self.old → IfOk result (λ settled. settled.quiet ≡ true) }
-        ensures left_alone { IfOk result (λ settled. settled.quiet ≡ false → self.new ≡ self.old) }
+    pub fn drive(&mut self) -> Result<Driven, RefusedAllocation>
+        ensures quiet { IfOk result (λ driven. driven.quiet ≡ true → is_quiet self.new ≡ true) }
+        ensures open { IsOpenWorld self.old → IfOk result (λ driven. driven.quiet ≡ true) }
+        ensures left_alone { IfOk result (λ driven. driven.quiet ≡ false → self.new ≡ self.old) }
         // Nothing is on its way in the queues then: a machine that agrees with the world is still.
-        ensures still { IfOk result (λ settled. settled.quiet ≡ true → (m : Machine) → Agrees self.new m → IsStillMachine m) }
-        // Whatever the result, emissions and deliveries alone were made. So many streams were refused for want of memory.
-        ensures carried { IfOk result (λ settled. IsCarriedOn settled.no_memory self.old self.new) }
+        ensures still { IfOk result (λ driven. driven.quiet ≡ true → (m : Machine) → Agrees self.new m → IsStillMachine m) }
+        // Whatever the result, emissions and deliveries alone were made. So many streams were refused for lack of memory.
+        ensures carried { IfOk result (λ driven. IsCarriedOn driven.no_memory self.old self.new) }
         ensures carried_so_far { IfErr result (λ _. (no_memory : ℕ) × IsCarriedOn no_memory self.old self.new) }
     {
         let mut no_memory = RefusalCount::zero();
         if !self.pipes.is_open() {
-            return Ok(Settled {
+            return Ok(Driven {
                 quiet: false,
                 no_memory,
             });
@@ -236,7 +236,7 @@ impl World {
             let answer = self.step(&step)?;
             no_memory.add_all(refused_by(&answer));
         }
-        Ok(Settled {
+        Ok(Driven {
             quiet: true,
             no_memory,
         })

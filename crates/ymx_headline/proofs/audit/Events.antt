@@ -43,7 +43,7 @@ put-ended (event.Emit n) told p = pushed-ended (emitted_of told) p.bytes p.stopp
 put-ended (event.Feed bytes) told p = refl
 put-ended event.FeedEnd told p = refl
 
--- behind the end of its input a session is over
+-- after the end of its input a session is over
 pub over-behind : (may : Choice → Session → Bool) (e : Event) (told : Reply) (s t : Session) (p q : Pipe) → Gives may s e told t → Gets e told p q →
     (p.ended ≡ true → IsOver s) → q.ended ≡ true → IsOver t
 over-behind may event.FeedEnd told s t p q g h over is = end-over may s t told g

@@ -14,11 +14,11 @@ use Rattle.ymx_machine.specs.shared.Replies.{is_done, finish_reply, reset_reply,
 use Rattle.ymx_model.specs.session.Records.{End}
 use Rattle.ymx_model.specs.session.Pings.{has_back, has_asked}
 use Rattle.ymx_model.specs.session.GoAway.{away_due}
-use Rattle.ymx_model.specs.session.Sessions.{Session, is_running, is_lost, is_closed, is_deaf, is_broken, is_spent, settle}
+use Rattle.ymx_model.specs.session.Sessions.{Session, is_running, is_lost, is_closed, is_deaf, is_broken, is_spent, reap}
 use Rattle.ymx_model.specs.session.Calls.{Outcome, outcome, open_or, accept_of, at_stream, at_record, is_unacknowledged, status_input_ends}
 use Rattle.ymx_model.specs.session.Feeds.{Takes, byte_comes}
-use Rattle.ymx_model.specs.session.Emissions.{Choice, Flows, Ready, begin, moves_on, settles}
-use Rattle.ymx_model.specs.session.Emissions.Choice.{TheAlarm, TheGoAway, TheAnswer, ThePing, AStream}
+use Rattle.ymx_model.specs.session.Emissions.{Choice, Flows, Ready, begin, moves_on, reaps}
+use Rattle.ymx_model.specs.session.Emissions.Choice.{TheErrorDue, TheGoAway, TheAnswer, ThePing, AStream}
 use Rattle.ymx_model.specs.session.Histories.{Gives, CallGives}
 use Rattle.ymx_model.specs.session.Histories.CallGives.{Outcome as HasOutcome, NoMemory}
 use Rattle.ymx_machine.proofs.Tests.{split, none_of, one_some}
@@ -51,8 +51,8 @@ accept-over : (ids : List ℕ) (s : Session) → IsOver s → OverAfter (accept_
 accept-over [] s h = split OverAfter (is_lost s.status) _ _ (λ t. h) (λ f. h)
 accept-over (id ∷ ids) s h = h
 
-settle-over : (id : ℕ) (s : Session) → IsOver s → IsOver (settle id s)
-settle-over id s h = split IsOver (is_spent s.table.window s.outgoing id (look id s.table.entries)) _ _ (λ t. h) (λ f. h)
+reap-over : (id : ℕ) (s : Session) → IsOver s → IsOver (reap id s)
+reap-over id s h = split IsOver (is_spent s.table.window s.outgoing id (look id s.table.entries)) _ _ (λ t. h) (λ f. h)
 
 call-over : (c : Call) (s : Session) → IsOver s → OverAfter (outcome c s)
 call-over call.Open s h = open-over s _ h h
@@ -64,7 +64,7 @@ call-over (call.Read id max) s h =
     stream-over id _ s h (λ e. split IsOver (bytes_moved (read_reply (is_lost s.status) max e.phase e.reader.unread e.reader.ended) == 0) _ _ (λ t. h) (λ f. h))
 call-over (call.Finish id) s h = stream-over id _ s h (λ e. split IsOver (is_done (finish_reply (is_lost s.status) e.phase e.writer.finished)) _ _ (λ t. h) (λ f. h))
 call-over (call.Reset id) s h = stream-over id _ s h (λ e. split IsOver (is_done (reset_reply (is_lost s.status) e.phase)) _ _ (λ t. h) (λ f. h))
-call-over (call.Forget id) s h = stream-over id _ s h (λ e. split IsOver (is_done (forget_reply e.phase)) _ _ (λ t. settle-over id _ h) (λ f. h))
+call-over (call.Forget id) s h = stream-over id _ s h (λ e. split IsOver (is_done (forget_reply e.phase)) _ _ (λ t. reap-over id _ h) (λ f. h))
 call-over call.Ping s h =
     split OverAfter (is_closed s.status) _ _ (λ t. h) (λ a. split OverAfter (is_lost s.status) _ _ (λ t. h) (λ b. split OverAfter (nat_le most_pings (length s.pings.pending)) _ _ (λ t. h) (λ c. h)))
 call-over (call.Ponged k) s h =
@@ -105,7 +105,7 @@ if-over true x s t h e = subst IsOver (one_some x t e) h
 if-over false x s t h e = absurd cc
 
 choice-over : (choice : Choice) (s t : Session) → IsOver s → begin choice s ≡ Some t → IsOver t
-choice-over TheAlarm s t h e = if-over (s.alarm && is_broken s.status) _ s t h e
+choice-over TheErrorDue s t h e = if-over (s.error_due && is_broken s.status) _ s t h e
 choice-over TheGoAway s t h e = if-over (is_running s.status && away_due s.away.here) _ s t h e
 choice-over TheAnswer s t h e = let no : None ≡ Some t = rw h at e in absurd cc
 choice-over (ThePing n) s t h e = if-over (is_running s.status && has_asked n s.pings.pending) _ s t h e
@@ -114,12 +114,12 @@ choice-over (AStream id limit) s t h e = let no : None ≡ Some t = rw h at e in
 ready-over : (may : Choice → Session → Bool) (s t : Session) → IsOver s → Ready may s t → IsOver t
 ready-over may s t h r = elim r [ inl same ↦ subst IsOver (sym same.1) h | inr free ↦ choice-over (free.1).0 s t h (free.1).2 ]
 
-settles-over : (of : Option ℕ) (s : Session) → IsOver s → IsOver (settles of s)
-settles-over None s h = h
-settles-over (Some id) s h = settle-over id s h
+reaps-over : (of : Option ℕ) (s : Session) → IsOver s → IsOver (reaps of s)
+reaps-over None s h = h
+reaps-over (Some id) s h = reap-over id s h
 
 moves-over : (n : ℕ) (s : Session) → IsOver s → IsOver (moves_on n s)
-moves-over n s h = split IsOver (nat_lt n (length s.outgoing.bytes)) _ _ (λ t. h) (λ f. settles-over s.outgoing.of _ h)
+moves-over n s h = split IsOver (nat_lt n (length s.outgoing.bytes)) _ _ (λ t. h) (λ f. reaps-over s.outgoing.of _ h)
 
 flows-over : (may : Choice → Session → Bool) (bytes : List ℕ) (s t : Session) → IsOver s → Flows may bytes s t → IsOver t
 flows-over may [] s t h f = subst IsOver (sym f) h

@@ -101,7 +101,7 @@ abbrev pub measure : (least : ℕ) → World → (ab ba : List (List ℕ)) → �
 measure least w ab ba = effort least w.a + effort least w.b + weights ab + weights ba + one_if (is_inside w.a.incoming) + one_if (is_inside w.b.incoming)
 
 -- What each byte that is carried lowers. A frame has at most 262,156 bytes; one that hasn't begun counts above
--- what it leaves behind.
+-- what it leaves.
 abbrev pub potential : (least : ℕ) → World → (ab ba : List (List ℕ)) → ℕ
 potential least w ab ba =
     1048624 * (effort least w.a + effort least w.b) + 524312 * (weights ab + weights ba)

@@ -13,13 +13,13 @@ use Rattle.ymx_model.specs.session.Pings.{receive_answer}
 use Rattle.ymx_model.specs.session.GoAway.{receive_away}
 use Rattle.ymx_machine.specs.shared.Lists.{look, drop_id}
 use Rattle.ymx_model.specs.session.Tables.{insert_record, remove_record}
-use Rattle.ymx_model.specs.session.Sessions.{Session, Incoming, breaks, is_deaf, is_told, is_own, on_stream, settle}
+use Rattle.ymx_model.specs.session.Sessions.{Session, Incoming, breaks, is_deaf, is_told, is_own, on_stream, reap}
 use Rattle.ymx_model.specs.session.Sessions.Incoming.{Head, Payload}
 use Rattle.ymx_model.specs.session.Arrivals.{payload, delta, answers_with, ping_comes, go_away_comes, expects, record_fault, reset_comes, ends_now, acknowledges, take_head, meets, meets_some, unless_fault, offer, session_refuses, syn_fault, syn_comes, header_fault, head_comes, piece_comes}
 use Rattle.ymx_model.specs.world.Load.{record_load, one_if, is_inside}
 use Rattle.ymx_law_session.proofs.limits.FramesKeep.{unless_fault-keeps}
 use Rattle.ymx_machine.proofs.Tests.{split, agrees}
-use Rattle.ymx_headline.proofs.bounds.Loads.{effort, may_answer, Eases, eases-then, removed-eases, settled-eases, loads-change, loads-added, asked-answered, one_if-most}
+use Rattle.ymx_headline.proofs.bounds.Loads.{effort, may_answer, Eases, eases-then, removed-eases, reaped-eases, loads-change, loads-added, asked-answered, one_if-most}
 
 -- ---- records
 
@@ -35,7 +35,7 @@ credit-more least window d e = split (NoMore least window e) (takes e.phase) (re
 data-more : (least : ℕ) (window : ℕ) (bytes : List ℕ) (e : End) → NoMore least window e (receive_data bytes e)
 data-more least window bytes e = split (NoMore least window e) (takes_payload e) (record e { reader = reader_arrive bytes e.reader }) e (λ t. omega arith) (λ f. omega arith)
 
--- behind the end no credit is due
+-- after the end no credit is due
 ended-none : (live : Bool) (rest : Bool) → (live && not true && rest) ≡ false
 ended-none true rest = refl
 ended-none false rest = refl
@@ -73,9 +73,9 @@ on-eases least id f s h = let l = loads-change least s.table.window id f s.table
 
 reset-eases : (least : ℕ) (id : ℕ) (e : End) (s : Session) → Eases least s (reset_comes id e s)
 reset-eases least id e s =
-    split (Eases least s) (is_offered e.phase) (record s { table = remove_record id s.table; offered = drop_id id s.offered }) (settle id (on_stream id receive_rst s))
+    split (Eases least s) (is_offered e.phase) (record s { table = remove_record id s.table; offered = drop_id id s.offered }) (reap id (on_stream id receive_rst s))
     (λ t. removed-eases least id s (drop_id id s.offered))
-    (λ f. eases-then least s (on_stream id receive_rst s) _ (on-eases least id receive_rst s (rst-more least s.table.window)) (settled-eases least id (on_stream id receive_rst s)))
+    (λ f. eases-then least s (on_stream id receive_rst s) _ (on-eases least id receive_rst s (rst-more least s.table.window)) (reaped-eases least id (on_stream id receive_rst s)))
 
 -- The head of a frame: what it leaves to be sent, and whether the payload follows. `most`: what it may add.
 pub record Heads (least : ℕ) (ends : Bool) (most : ℕ) (s t : Session) : Type 0 where
@@ -85,10 +85,10 @@ pub record Heads (least : ℕ) (ends : Bool) (most : ℕ) (s t : Session) : Type
 stays-out : (i : Incoming) → i ≡ Head [] → one_if (is_inside i) ≡ 0
 stays-out i e = rw e refl
 
-expects-heads : (least : ℕ) (h : Header) (stray : Bool) (s x : Session) (most : ℕ) → x.incoming ≡ Head [] → effort least x ≤ effort least s + most → Heads least (payload h == 0) most s (expects h stray x)
-expects-heads least h stray s x most i l = of (payload h == 0)
+expects-heads : (least : ℕ) (h : Header) (discarded : Bool) (s x : Session) (most : ℕ) → x.incoming ≡ Head [] → effort least x ≤ effort least s + most → Heads least (payload h == 0) most s (expects h discarded x)
+expects-heads least h discarded s x most i l = of (payload h == 0)
   where
-    of : (b : Bool) → Heads least b most s (if b then x else record x { incoming = Payload h.id (payload h) (has_fin h) stray })
+    of : (b : Bool) → Heads least b most s (if b then x else record x { incoming = Payload h.id (payload h) (has_fin h) discarded })
     of true = let z = stays-out x.incoming i in record { effort = omega (arith, z, l); rise = omega (arith, z, l) }
     of false = record { effort = omega (arith, l); rise = omega (arith, l) }
 
@@ -108,7 +108,7 @@ meets-heads least h e s i =
 more-heads : (least : ℕ) (ends : Bool) (a b : ℕ) (s t : Session) → a ≤ b → Heads least ends a s t → Heads least ends b s t
 more-heads least ends a b s t l h = let k = h.effort in let r = h.rise in record { effort = omega (arith, k, l); rise = omega (arith, r, l) }
 
--- a fault adds an alarm
+-- a fault adds an error frame
 fault-heads : (least : ℕ) (f : Fault) (ends : Bool) (s : Session) → s.incoming ≡ Head [] → Heads least ends 1 s (breaks f s)
 fault-heads least f ends s i =
     let z = stays-out s.incoming i in
@@ -155,7 +155,7 @@ ping-heads least h s i p = rw p (of (has_syn h))
     of true = let z = stays-out s.incoming i in let n = length-append s.answers (Pong h.length ∷ []) in record { effort = omega (arith, z, n); rise = omega (arith, z, n) }
     of false = let z = stays-out s.incoming i in let n = asked-answered h.length s.pings.pending in record { effort = omega (arith, z, n); rise = omega (arith, z, n) }
 
--- what the peer told is answered by no alarm
+-- what the peer told is answered by no error frame
 told-heads : (least : ℕ) (f : Fault) (s : Session) → s.incoming ≡ Head [] → is_told f ≡ false → Heads least true 0 s (breaks f s)
 told-heads least f s i t =
     let z = stays-out s.incoming i in
@@ -201,8 +201,8 @@ head-heads least no_memory h s i none =
 abbrev Awake : Session → Type 0
 Awake s = is_deaf s.status ≡ false
 
-expects-awake : (h : Header) (stray : Bool) (s : Session) → Awake s → Awake (expects h stray s)
-expects-awake h stray s a = split Awake (payload h == 0) s (record s { incoming = Payload h.id (payload h) (has_fin h) stray }) (λ t. a) (λ f. a)
+expects-awake : (h : Header) (discarded : Bool) (s : Session) → Awake s → Awake (expects h discarded s)
+expects-awake h discarded s a = split Awake (payload h == 0) s (record s { incoming = Payload h.id (payload h) (has_fin h) discarded }) (λ t. a) (λ f. a)
 
 meets-awake : (h : Header) (e : End) (s : Session) → Awake s → Awake (meets h e s)
 meets-awake h e s a =
@@ -230,7 +230,7 @@ head-awake no_memory h s a =
 
 -- ---- a piece of a payload
 
-pub piece-eases : (least : ℕ) (bytes : List ℕ) (id n : ℕ) (fin stray : Bool) (s : Session) → effort least (piece_comes bytes id n fin stray s) ≤ effort least s
+pub piece-eases : (least : ℕ) (bytes : List ℕ) (id n : ℕ) (fin discarded : Bool) (s : Session) → effort least (piece_comes bytes id n fin discarded s) ≤ effort least s
 piece-eases least bytes id n fin true s = omega arith
 piece-eases least bytes id n fin false s =
     let l = loads-change least s.table.window id (receive_piece (fin && not (nat_lt (length bytes) n)) bytes) s.table.entries (piece-more least s.table.window (fin && not (nat_lt (length bytes) n)) bytes) in omega (arith, l)

@@ -29,23 +29,23 @@ use Rattle.ymx_headline.proofs.bounds.LoadArrivals.{head-heads, head-awake, piec
 abbrev pub Alike : Incoming → Incoming → Type 0
 Alike i j = (bytes : List ℕ) → made_whole bytes i ≡ made_whole bytes j
 
-payloads-alike : (id other n : ℕ) (fin ends stray lost : Bool) → Alike (Payload id n fin stray) (Payload other n ends lost)
-payloads-alike id other n fin ends stray lost [] = refl
-payloads-alike id other n fin ends stray lost (b ∷ bs) = of (nat_lt 1 n) (payloads-alike id other (n - 1) fin ends stray lost bs)
+payloads-alike : (id other n : ℕ) (fin ends discarded lost : Bool) → Alike (Payload id n fin discarded) (Payload other n ends lost)
+payloads-alike id other n fin ends discarded lost [] = refl
+payloads-alike id other n fin ends discarded lost (b ∷ bs) = of (nat_lt 1 n) (payloads-alike id other (n - 1) fin ends discarded lost bs)
   where
-    of : (more : Bool) → made_whole bs (Payload id (n - 1) fin stray) ≡ made_whole bs (Payload other (n - 1) ends lost) →
-        one_if (is_between (if more then Payload id (n - 1) fin stray else Head [])) + made_whole bs (if more then Payload id (n - 1) fin stray else Head [])
+    of : (more : Bool) → made_whole bs (Payload id (n - 1) fin discarded) ≡ made_whole bs (Payload other (n - 1) ends lost) →
+        one_if (is_between (if more then Payload id (n - 1) fin discarded else Head [])) + made_whole bs (if more then Payload id (n - 1) fin discarded else Head [])
         ≡ one_if (is_between (if more then Payload other (n - 1) ends lost else Head [])) + made_whole bs (if more then Payload other (n - 1) ends lost else Head [])
     of true i = omega (arith, i)
     of false i = refl
 
--- behind a head
+-- after a head
 awaited : (h : Header) (t : Session) → Awaits h t → Alike t.incoming (begins_payload h)
 awaited h t (inl (none, now)) bytes = rw (now, none) refl
-awaited h t (inr (stray, some, now)) bytes =
+awaited h t (inr (discarded, some, now)) bytes =
     let z : (payload h == 0) ≡ false = grind (arith, nat_tests) in
     let e : begins_payload h ≡ Payload h.id (payload h) (has_fin h) false = rw z refl in
-    ap (made_whole bytes) now ∙ (payloads-alike h.id h.id (payload h) (has_fin h) (has_fin h) stray false bytes ∙ ap (made_whole bytes) (sym e))
+    ap (made_whole bytes) now ∙ (payloads-alike h.id h.id (payload h) (has_fin h) (has_fin h) discarded false bytes ∙ ap (made_whole bytes) (sym e))
 
 ends-with : (h : Header) → is_between (begins_payload h) ≡ (payload h == 0)
 ends-with h = of (payload h == 0)
@@ -128,30 +128,30 @@ twelfth-byte least no_memory b seen rest frames s w awake late u =
       where
         behind-head : (f : List ℕ) (fs : List (List ℕ)) (h : Header) (t : Session) → length (drop 12 f) ≡ payload h → All IsOneFrame fs → rest ≡ drop 12 f ++ concat fs → Awaits h t → Follow t.incoming rest fs
         behind-head f fs h t n a e (inl (none, now)) = let z = no-tail (drop 12 f) (n ∙ none) in rw now (record { tail = []; missing = refl; each = a; text = rw z at e })
-        behind-head f fs h t n a e (inr (stray, some, now)) = rw now (record { tail = drop 12 f; missing = n; each = a; text = e })
+        behind-head f fs h t n a e (inr (discarded, some, now)) = rw now (record { tail = drop 12 f; missing = n; each = a; text = e })
 
-payload-byte : (least : ℕ) (b id n : ℕ) (fin stray : Bool) (rest : List ℕ) (frames : List (List ℕ)) (s : Session) → is_deaf s.status ≡ false → 0 < n → Follow (Payload id n fin stray) (b ∷ rest) frames →
-    ByteIn least b rest frames s (Payload id n fin stray) (piece_comes (b ∷ []) id n fin stray s)
-payload-byte least b id n fin stray rest frames s awake some u =
-    let t = piece_comes (b ∷ []) id n fin stray s in
-    let now = piece-incoming b id n fin stray s in
-    let l = piece-eases least (b ∷ []) id n fin stray s in
+payload-byte : (least : ℕ) (b id n : ℕ) (fin discarded : Bool) (rest : List ℕ) (frames : List (List ℕ)) (s : Session) → is_deaf s.status ≡ false → 0 < n → Follow (Payload id n fin discarded) (b ∷ rest) frames →
+    ByteIn least b rest frames s (Payload id n fin discarded) (piece_comes (b ∷ []) id n fin discarded s)
+payload-byte least b id n fin discarded rest frames s awake some u =
+    let t = piece_comes (b ∷ []) id n fin discarded s in
+    let now = piece-incoming b id n fin discarded s in
+    let l = piece-eases least (b ∷ []) id n fin discarded s in
     let m = inside-or (nat_lt 1 n) in
-    let k : one_if (is_inside t.incoming) ≡ one_if (is_inside (if nat_lt 1 n then Payload id (n - 1) fin stray else Head [])) = ap (λ i. one_if (is_inside i)) now in
+    let k : one_if (is_inside t.incoming) ≡ one_if (is_inside (if nat_lt 1 n then Payload id (n - 1) fin discarded else Head [])) = ap (λ i. one_if (is_inside i)) now in
     record {
       left = frames;
       follow = λ r. subst (λ i. Follow i rest frames) (sym now) (of (nat_lt 1 n) refl u.tail u.missing u.text);
-      awake = ap is_deaf (piece-status (b ∷ []) id n fin stray s) ∙ awake;
+      awake = ap is_deaf (piece-status (b ∷ []) id n fin discarded s) ∙ awake;
       alike = λ r bytes. ap (made_whole bytes) now;
       effort = omega (arith, l, m, k);
       worth = omega (arith, l);
     }
   where
-    inside-or : (more : Bool) → one_if (is_inside (if more then Payload id (n - 1) fin stray else Head [])) + one_if (is_between (if more then Payload id (n - 1) fin stray else Head [])) ≡ 1
+    inside-or : (more : Bool) → one_if (is_inside (if more then Payload id (n - 1) fin discarded else Head [])) + one_if (is_between (if more then Payload id (n - 1) fin discarded else Head [])) ≡ 1
     inside-or true = refl
     inside-or false = refl
 
-    of : (more : Bool) → nat_lt 1 n ≡ more → (tail : List ℕ) → length tail ≡ n → b ∷ rest ≡ tail ++ concat frames → Follow (if more then Payload id (n - 1) fin stray else Head []) rest frames
+    of : (more : Bool) → nat_lt 1 n ≡ more → (tail : List ℕ) → length tail ≡ n → b ∷ rest ≡ tail ++ concat frames → Follow (if more then Payload id (n - 1) fin discarded else Head []) rest frames
     of more m [] l e = absurd (omega arith)
     of true m (x ∷ tail) l e = record { tail = tail; missing = omega arith; each = u.each; text = cc }
     of false m (x ∷ []) l e = record { tail = []; missing = refl; each = u.each; text = cc }
@@ -164,7 +164,7 @@ in-byte least no_memory b rest frames s (Head seen) e w awake u = of (length see
         ByteIn least b rest frames s (Head seen) (if late then head_comes no_memory (header_of (seen ++ b ∷ [])) (record s { incoming = Head [] }) else record s { incoming = Head (seen ++ b ∷ []) })
     of true q = twelfth-byte least no_memory b seen rest frames s w awake q u
     of false q = early-byte least b seen rest frames s awake q u
-in-byte least no_memory b rest frames s (Payload id n fin stray) e w awake u = payload-byte least b id n fin stray rest frames s awake (payload_some id n fin stray s e w) u
+in-byte least no_memory b rest frames s (Payload id n fin discarded) e w awake u = payload-byte least b id n fin discarded rest frames s awake (payload_some id n fin discarded s e w) u
 
 runs : (s : Session) → is_deaf s.status ≡ false → is_stuck s ≡ false → s.status ≡ Running
 runs s awake free = of s.status awake (none_of (is_broken s.status) _ free).0

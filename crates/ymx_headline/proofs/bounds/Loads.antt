@@ -20,9 +20,9 @@ use Rattle.ymx_model.specs.session.Pings.{Ping, ping_is_asked, has_asked, staged
 use Rattle.ymx_model.specs.session.GoAway.{away_due, begin_away}
 use Rattle.ymx_machine.specs.shared.Lists.{look, change, without}
 use Rattle.ymx_model.specs.session.Tables.{with_record, pass_turn, remove_record, round}
-use Rattle.ymx_model.specs.session.Sessions.{Session, nothing_outgoing, is_broken, is_running, is_spent, settle}
-use Rattle.ymx_model.specs.session.Emissions.{Choice, begin, begins, begin_answer, begin_stream, begin_kind, alarm_frame, go_away_frame, answer_frame, ping_frame, moves_on, settles, in_turn, is_first, no_answers}
-use Rattle.ymx_model.specs.session.Emissions.Choice.{TheAlarm, TheGoAway, TheAnswer, ThePing, AStream}
+use Rattle.ymx_model.specs.session.Sessions.{Session, nothing_outgoing, is_broken, is_running, is_spent, reap}
+use Rattle.ymx_model.specs.session.Emissions.{Choice, begin, begins, begin_answer, begin_stream, begin_kind, error_frame, go_away_frame, answer_frame, ping_frame, moves_on, reaps, in_turn, is_first, no_answers}
+use Rattle.ymx_model.specs.session.Emissions.Choice.{TheErrorDue, TheGoAway, TheAnswer, ThePing, AStream}
 use Rattle.ymx_model.specs.world.UnderWay.{IsOneFrame}
 use Rattle.ymx_model.specs.world.Load.{frames_of, record_load, session_load, one_if}
 use Rattle.ymx_law_session.specs.Limits.{IsWithin}
@@ -195,9 +195,9 @@ sends-less least window limit k e w some low n = of k (cause e.marks.syn e.marks
 -- What a session may still send, and may make the other side answer: twice each frame that is due, but an
 -- answer once, since nothing answers it.
 abbrev pub effort : (least : ℕ) → Session → ℕ
-effort least s = 2 * (loads least s.table.window s.table.entries + one_if (away_due s.away.here) + asked s.pings.pending) + length s.answers + one_if (s.alarm && is_broken s.status)
+effort least s = 2 * (loads least s.table.window s.table.entries + one_if (away_due s.away.here) + asked s.pings.pending) + length s.answers + one_if (s.error_due && is_broken s.status)
 
--- whether a frame may be answered: by a pong, a rejection, or an alarm
+-- whether a frame may be answered: by a pong, a rejection, or an error frame
 abbrev pub may_answer : Header → Bool
 may_answer h = if h.kind == 2 then has_syn h else if h.kind == 3 then nat_lt 2 h.length else has_syn h || not (has_rst h)
 
@@ -223,7 +223,7 @@ pub effort-most : (least : ℕ) (s : Session) → effort least s ≤ 2 * session
 effort-most least s =
     let a = is_sum_by (loads least s.table.window) (λ p. record_load least s.table.window p.1) refl (λ p ps. refl) s.table.entries in
     let b = counted s.pings.pending in
-    let c = alarm-most s.alarm (is_broken s.status) in
+    let c = error_due-most s.error_due (is_broken s.status) in
     omega (arith, a, b, c)
   where
     counted : (ps : List Ping) → asked ps ≡ count_by (λ p. ping_is_asked p.stage) ps
@@ -233,9 +233,9 @@ effort-most least s =
         step true n = refl
         step false n = omega arith
 
-    alarm-most : (a b : Bool) → one_if (a && b) ≤ one_if a
-    alarm-most true b = one_if-most b
-    alarm-most false b = omega arith
+    error_due-most : (a b : Bool) → one_if (a && b) ≤ one_if a
+    error_due-most true b = one_if-most b
+    error_due-most false b = omega arith
 
 -- ---- a frame begins
 
@@ -279,9 +279,9 @@ stream-starts least id limit s t w pos low (Some e) l b =
         starts-is least s u t (some-is u t c) (record { one = spelled-one k win limit id e few; effort = omega (arith, less, most); status = refl; incoming = refl })
 
 pub begin-starts : (least : ℕ) (c : Choice) (s t : Session) → IsWithin s → 0 < least → ((id limit : ℕ) → c ≡ AStream id limit → (limit == 0) ≡ false → least ≤ limit) → begin c s ≡ Some t → Starts least s t
-begin-starts least TheAlarm s t w pos low b =
-    let p = some_if (s.alarm && is_broken s.status) (begins alarm_frame (record s { alarm = false })) t b in
-    let z : one_if (s.alarm && is_broken s.status) ≡ 1 = ap one_if p.0 in
+begin-starts least TheErrorDue s t w pos low b =
+    let p = some_if (s.error_due && is_broken s.status) (begins error_frame (record s { error_due = false })) t b in
+    let z : one_if (s.error_due && is_broken s.status) ≡ 1 = ap one_if p.0 in
     starts-is least s _ t p.1 (record { one = short-frame 3 0 0 1 (omega arith) (omega arith); effort = omega (arith, z); status = refl; incoming = refl })
 begin-starts least TheGoAway s t w pos low b =
     let p = some_if (is_running s.status && away_due s.away.here) (begins go_away_frame (record s { away = begin_away s.away })) t b in
@@ -316,13 +316,13 @@ eases-then least s t u p q = let a = p.effort in let b = q.effort in record { ef
 pub removed-eases : (least : ℕ) (id : ℕ) (s : Session) (offered : List ℕ) → Eases least s (record s { table = remove_record id s.table; offered = offered })
 removed-eases least id s offered = let l = loads-without least s.table.window id s.table.entries in record { effort = omega (arith, l); status = refl; incoming = refl; outgoing = refl }
 
-pub settled-eases : (least : ℕ) (id : ℕ) (s : Session) → Eases least s (settle id s)
-settled-eases least id s =
+pub reaped-eases : (least : ℕ) (id : ℕ) (s : Session) → Eases least s (reap id s)
+reaped-eases least id s =
     split (Eases least s) (is_spent s.table.window s.outgoing id (look id s.table.entries)) (record s { table = remove_record id s.table }) s (λ t. removed-eases least id s s.offered) (λ f. eases-same least s)
 
-settles-eases : (least : ℕ) (of : Option ℕ) (s : Session) → Eases least s (settles of s)
-settles-eases least None s = eases-same least s
-settles-eases least (Some id) s = settled-eases least id s
+reaps-eases : (least : ℕ) (of : Option ℕ) (s : Session) → Eases least s (reaps of s)
+reaps-eases least None s = eases-same least s
+reaps-eases least (Some id) s = reaped-eases least id s
 
 -- a byte has gone out: the first of the frame begun
 pub record Sheds (least : ℕ) (b : ℕ) (s t : Session) : Type 0 where
@@ -333,7 +333,7 @@ pub record Sheds (least : ℕ) (b : ℕ) (s t : Session) : Type 0 where
 
 pub sheds : (least : ℕ) (b : ℕ) (s : Session) → take 1 s.outgoing.bytes ≡ b ∷ [] → Sheds least b s (moves_on 1 s)
 sheds least b s e =
-    split (Sheds least b s) (nat_lt 1 (length s.outgoing.bytes)) (record s { outgoing = record { bytes = drop 1 s.outgoing.bytes; of = s.outgoing.of } }) (settles s.outgoing.of (record s { outgoing = nothing_outgoing }))
+    split (Sheds least b s) (nat_lt 1 (length s.outgoing.bytes)) (record s { outgoing = record { bytes = drop 1 s.outgoing.bytes; of = s.outgoing.of } }) (reaps s.outgoing.of (record s { outgoing = nothing_outgoing }))
     (λ t. record { bytes = first_and_rest b s.outgoing.bytes e; effort = omega arith; status = refl; incoming = refl })
-    (λ f. let r = settles-eases least s.outgoing.of (record s { outgoing = nothing_outgoing }) in
+    (λ f. let r = reaps-eases least s.outgoing.of (record s { outgoing = nothing_outgoing }) in
     record { bytes = only_one b s.outgoing.bytes e f ∙ ap (λ z. b ∷ z.bytes) (sym r.outgoing); effort = r.effort; status = r.status; incoming = r.incoming })

@@ -9,7 +9,7 @@ use Rattle.ymx_model.specs.session.Records.{End, receive_rst}
 use Rattle.ymx_model.specs.session.Pings.{receive_answer}
 use Rattle.ymx_machine.specs.shared.Lists.{look, drop_id}
 use Rattle.ymx_model.specs.session.Tables.{insert_record, remove_record}
-use Rattle.ymx_model.specs.session.Sessions.{Session, is_own, is_spent, on_stream, settle}
+use Rattle.ymx_model.specs.session.Sessions.{Session, is_own, is_spent, on_stream, reap}
 use Rattle.ymx_model.specs.session.Sessions.Incoming.{Payload}
 use Rattle.ymx_model.specs.session.Arrivals.{payload, answers_with, ping_comes, go_away_comes, expects, record_fault, reset_comes, acknowledges, take_head, meets, meets_some, offer, session_refuses, syn_fault, syn_comes, header_fault, head_comes}
 use Rattle.ymx_model.specs.session.Emissions.{answer_frame}
@@ -19,13 +19,13 @@ use Rattle.ymx_machine.proofs.Tests.{split}
 abbrev Same : Session → Session → Type 0
 Same s t = t.answers ≡ s.answers
 
-expects-same : (h : Header) (stray : Bool) (s t : Session) → Same s t → Same s (expects h stray t)
-expects-same h stray s t e = split (Same s) (payload h == 0) t (record t { incoming = Payload h.id (payload h) (has_fin h) stray }) (λ t. e) (λ f. e)
+expects-same : (h : Header) (discarded : Bool) (s t : Session) → Same s t → Same s (expects h discarded t)
+expects-same h discarded s t e = split (Same s) (payload h == 0) t (record t { incoming = Payload h.id (payload h) (has_fin h) discarded }) (λ t. e) (λ f. e)
 
 reset-same : (id : ℕ) (e : End) (s : Session) → Same s (reset_comes id e s)
 reset-same id e s =
     let t : Session = on_stream id receive_rst s in
-    split (Same s) (is_offered e.phase) (record s { table = remove_record id s.table; offered = drop_id id s.offered }) (settle id t) (λ y. refl)
+    split (Same s) (is_offered e.phase) (record s { table = remove_record id s.table; offered = drop_id id s.offered }) (reap id t) (λ y. refl)
     (λ n. split (Same s) (is_spent t.table.window t.outgoing id (look id t.table.entries)) (record t { table = remove_record id t.table }) t (λ y. refl) (λ n. refl))
 
 meets-same : (h : Header) (e : End) (s : Session) → Same s (meets h e s)
@@ -53,8 +53,8 @@ few s t e = let l = ap length e in omega (arith, l)
 one-more : (r : Response) (s : Session) → AtMostOne s (answers_with r s)
 one-more r s = let l = length-append s.answers (r ∷ []) in omega (arith, l)
 
-expects-few : (h : Header) (stray : Bool) (s t : Session) → AtMostOne s t → AtMostOne s (expects h stray t)
-expects-few h stray s t e = split (AtMostOne s) (payload h == 0) t (record t { incoming = Payload h.id (payload h) (has_fin h) stray }) (λ t. e) (λ f. e)
+expects-few : (h : Header) (discarded : Bool) (s t : Session) → AtMostOne s t → AtMostOne s (expects h discarded t)
+expects-few h discarded s t e = split (AtMostOne s) (payload h == 0) t (record t { incoming = Payload h.id (payload h) (has_fin h) discarded }) (λ t. e) (λ f. e)
 
 syn-few : (no_memory : Bool) (h : Header) (s : Session) → AtMostOne s (syn_comes no_memory h s)
 syn-few no_memory h s =

@@ -63,7 +63,7 @@ few (f ∷ fs) a =
     let n = length-append f (concat fs) in
     omega (arith, h, i, n)
 
--- the frames behind what a receiver holds of one
+-- the frames after what a receiver holds of one
 abbrev toward : Incoming → List ℕ → List (List ℕ)
 toward i rest = cut (length (drop (lacking i) (held_bytes i ++ rest))) (drop (lacking i) (held_bytes i ++ rest))
 

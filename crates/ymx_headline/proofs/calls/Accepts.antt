@@ -25,10 +25,10 @@ use Rattle.ymx_headline.proofs.stream.Happenings.{Can, put}
 use Rattle.ymx_headline.proofs.stream.Happenings.Act.{Accepts}
 use Rattle.ymx_headline.proofs.stream.Worlds.{step}
 use Rattle.ymx_law_session.specs.Limits.{IsWithin, is_listed, is_offered_at}
-use Rattle.ymx_law_session.specs.Settled.{IsSettled}
+use Rattle.ymx_law_session.specs.Reaped.{IsReaped}
 use Rattle.ymx_machine.proofs.Lists.{look-change_same, look-change_other}
 use Rattle.ymx_law_session.proofs.limits.HistoriesKeep.{gives-keep}
-use Rattle.ymx_law_session.proofs.given_up.SettledFrames.{gives-settled}
+use Rattle.ymx_law_session.proofs.given_up.ReapedFrames.{gives-reaped}
 use Rattle.ymx_machine.proofs.Tests.{when}
 use Rattle.ymx_headline.specs.Agrees.{AgreesAs, IsNumbered, Keeps, found}
 use Rattle.ymx_headline.proofs.relation.Mirrors.{refines-same, order-call, parity}
@@ -53,10 +53,10 @@ offered-there None e = absurd cc
 offered-there (Some d) e = record { end = d; there = refl; phase = offered-is d.phase e }
 
 accepts-agree : (x y : Role) (w : World) (m : Machine) (h : AgreesAs x y w m) (id : ℕ) (ids : List ℕ) → w.a.offered ≡ id ∷ ids → is_closed w.a.status ≡ false →
-    IsWithin (on_stream id (end_accept (is_lost w.a.status)) (record w.a { offered = ids })) → IsSettled (on_stream id (end_accept (is_lost w.a.status)) (record w.a { offered = ids })) →
+    IsWithin (on_stream id (end_accept (is_lost w.a.status)) (record w.a { offered = ids })) → IsReaped (on_stream id (end_accept (is_lost w.a.status)) (record w.a { offered = ids })) →
     IsNumbered (record m { streams = change id (stream_accept m.me.lost) m.streams; me = record m.me { offered = ids } }) →
     AgreesAs x y (record w { a = on_stream id (end_accept (is_lost w.a.status)) (record w.a { offered = ids }) }) (record m { streams = change id (stream_accept m.me.lost) m.streams; me = record m.me { offered = ids } })
-accepts-agree x y w m h id ids e open_ within settled order =
+accepts-agree x y w m h id ids e open_ within reaped order =
     let g = h.streams in
     let lost = is_lost w.a.status in
     let over = over-is x y w m h open_ in
@@ -73,7 +73,7 @@ accepts-agree x y w m h id ids e open_ within settled order =
     h.a.whole.next refl refl
     (keeps-put w.a.answers id w.a.table.entries entries f g.a.ends (λ i n. h.a.records.each i) (λ i n. look-change_other id i (end_accept lost) w.a.table.entries n)
     (subst (λ o. Keeps w.a.answers id o f) (sym now) (same, kept.1)))
-    within settled
+    within reaped
     (refines-same _ r.0 _ (change-found id (stream_accept m.me.lost) r.1.0 _ m r.0 (ap (λ b. stream_accept b r.1.0) lost_same) r.1.2) r.2)
     order
 
@@ -111,6 +111,6 @@ accept-called x y w m h s reply (HasOutcome answer state) = elim (when (is_close
           releases = refl;
           agrees = accepts-agree x y w m h id ids e f
               (subst IsWithin n (gives-keep (λ b z. true) w.a s (event.Call call.Accept) reply gives h.a.within))
-              (subst IsSettled n (gives-settled (λ b z. true) w.a s (event.Call call.Accept) reply gives h.a.within h.a.settled))
+              (subst IsReaped n (gives-reaped (λ b z. true) w.a s (event.Call call.Accept) reply gives h.a.within h.a.reaped))
               (order-call call.Accept m now now reply [] (parity x y w m h) rule refl h.order);
         })

@@ -11,7 +11,7 @@ use Rattle.ymx_machine.specs.stream.StreamRules.StreamCall.{Writes, Reads, Finis
 use Rattle.ymx_model.specs.session.Records.{End, end_finish, end_reset, end_forget}
 use Rattle.ymx_machine.specs.shared.Lists.{look}
 use Rattle.ymx_model.specs.session.Tables.{remove_record}
-use Rattle.ymx_model.specs.session.Sessions.{Session, is_lost, is_closed, is_spent, on_stream, settle}
+use Rattle.ymx_model.specs.session.Sessions.{Session, is_lost, is_closed, is_spent, on_stream, reap}
 use Rattle.ymx_model.specs.session.Calls.{Outcome, outcome, refused, at_record, at_stream, write_outcome, read_outcome, if_done, finish_outcome, reset_outcome, forget_outcome, takes_memory}
 use Rattle.ymx_model.specs.session.Histories.{CallGives}
 use Rattle.ymx_model.specs.session.Histories.CallGives.{Outcome as HasOutcome, NoMemory}
@@ -36,8 +36,8 @@ with-stays id f s h = split (Stays s) (is_closed s.status) _ _ (λ t. refl) (λ 
     of None = refl
     of (Some e) = h e
 
-settled-stays : (id : ℕ) (f : End → End) (s : Session) → StaysIn s (settle id (on_stream id f s))
-settled-stays id f s =
+reaped-stays : (id : ℕ) (f : End → End) (s : Session) → StaysIn s (reap id (on_stream id f s))
+reaped-stays id f s =
     let t = on_stream id f s in
     split (StaysIn s) (is_spent t.table.window t.outgoing id (look id t.table.entries)) (record t { table = remove_record id t.table }) t (λ e. refl) (λ e. refl)
 
@@ -73,7 +73,7 @@ only-outcome Resets id s = record {
 only-outcome Forgets id s = record {
   alone = forget-alone id s;
   others = forget-others id s;
-  window = with-stays id (forget_outcome id s) s (λ e. done-stays (forget_reply e.phase) s (settle id (on_stream id (end_forget (is_lost s.status)) s)) (settled-stays id (end_forget (is_lost s.status)) s));
+  window = with-stays id (forget_outcome id s) s (λ e. done-stays (forget_reply e.phase) s (reap id (on_stream id (end_forget (is_lost s.status)) s)) (reaped-stays id (end_forget (is_lost s.status)) s));
 }
 
 pub only-stream : (c : StreamCall) (id : ℕ) (s t : Session) (reply : Reply) → CallGives s (call_on c id) reply t → OnlyStream id s t

@@ -22,7 +22,7 @@ use Rattle.ymx_headline.proofs.stream.Happenings.Happening.{AtB}
 use Rattle.ymx_headline.proofs.stream.Worlds.{step_at, mirrored-back}
 use Rattle.ymx_machine.proofs.Tests.{split, when}
 use Rattle.ymx_law_session.proofs.limits.HistoriesKeep.{gives-keep}
-use Rattle.ymx_law_session.proofs.given_up.SettledFrames.{gives-settled}
+use Rattle.ymx_law_session.proofs.given_up.ReapedFrames.{gives-reaped}
 use Rattle.ymx_headline.proofs.machine.lanes.StreamFacts.{if-so_true, if-so_false}
 use Rattle.ymx_headline.proofs.machine.order.Cores.{core-ends, sound-is}
 use Rattle.ymx_headline.proofs.machine.order.Openers.{numbered-is}
@@ -96,7 +96,7 @@ ended-at is s there side ends h =
       pings = rw (p.1, p.2) h.pings;
       away = rw p.0 h.away;
       within = gives-keep (λ c x. true) s (feed_end s) event.FeedEnd reply.Done (refl, refl) h.within;
-      settled = gives-settled (λ c x. true) s (feed_end s) event.FeedEnd reply.Done (refl, refl) h.within h.settled;
+      reaped = gives-reaped (λ c x. true) s (feed_end s) event.FeedEnd reply.Done (refl, refl) h.within h.reaped;
     }
 
 -- a sender that no longer runs: what is under way still comes

@@ -31,10 +31,10 @@ use Rattle.ymx_headline.proofs.stream.Happenings.{Adds, Can, put}
 use Rattle.ymx_headline.proofs.stream.Happenings.Act.{Opens}
 use Rattle.ymx_headline.proofs.stream.Worlds.{step}
 use Rattle.ymx_law_session.specs.Limits.{IsWithin}
-use Rattle.ymx_law_session.specs.Settled.{IsSettled}
+use Rattle.ymx_law_session.specs.Reaped.{IsReaped}
 use Rattle.ymx_machine.proofs.Lists.{look-added_same, look-added_other}
 use Rattle.ymx_law_session.proofs.limits.HistoriesKeep.{gives-keep}
-use Rattle.ymx_law_session.proofs.given_up.SettledFrames.{gives-settled}
+use Rattle.ymx_law_session.proofs.given_up.ReapedFrames.{gives-reaped}
 use Rattle.ymx_headline.proofs.machine.order.Openers.{free}
 use Rattle.ymx_headline.proofs.machine.order.Cores.{core}
 use Rattle.ymx_machine.proofs.Tests.{when}
@@ -113,8 +113,8 @@ new-at j g answers entries None None e l h = record {
 }
 
 pub opens-agree : (x y : Role) (w : World) (m : Machine) (h : AgreesAs x y w m) (with_data : Bool) (bytes : List ℕ) → is_running w.a.status ≡ true → length bytes ≤ first_credit →
-    IsWithin (session_opened with_data bytes w.a) → IsSettled (session_opened with_data bytes w.a) → IsNumbered (machine_opened bytes m) → AgreesAs x y (record w { a = session_opened with_data bytes w.a }) (machine_opened bytes m)
-opens-agree x y w m h with_data bytes runs fits within settled order =
+    IsWithin (session_opened with_data bytes w.a) → IsReaped (session_opened with_data bytes w.a) → IsNumbered (machine_opened bytes m) → AgreesAs x y (record w { a = session_opened with_data bytes w.a }) (machine_opened bytes m)
+opens-agree x y w m h with_data bytes runs fits within reaped order =
     let g = h.streams in
     let j = m.me.next in
     let none : look j m.streams ≡ None = free (core m) (orders m (parity x y w m h) h.order).numbered in
@@ -133,7 +133,7 @@ opens-agree x y w m h with_data bytes runs fits within settled order =
     (ap (λ n. n + 2) h.a.whole.next) h.a.whole.offered refl
     (keeps-put w.a.answers j w.a.table.entries entries f g.a.ends (λ i n. h.a.records.each i) (λ i n. look-added_other w.a.next i e w.a.table.entries (λ q. n (q ∙ sym h.a.whole.next)))
     (subst (λ o. Keeps w.a.answers j o f) (sym made) (same, new.unrejected)))
-    within settled
+    within reaped
     (refines-same _ r.0 (found (record m { streams = streams })) (add-found j _ m r.0 (subst (λ n. Adds j (stream_write bytes (opened_stream m.me.window n)) (found m) r.0) yours
     (subst (λ n. Adds j (stream_write bytes (opened_stream n g.b.window)) (found m) r.0) mine r.1))) r.2)
     order
@@ -155,8 +155,8 @@ refuses c s t reply fault m e (NoMemory needs answer state) =
 
 -- made, or no memory
 made : (x y : Role) (w : World) (m : Machine) (h : AgreesAs x y w m) (s : Session) (c : Call) (with_data : Bool) (bytes : List ℕ) (mine yours reply : Reply) → IsOpen c with_data bytes mine yours w.a m →
-    is_closed w.a.status ≡ false → refusal w.a ≡ None → outcome c w.a ≡ answers mine (session_opened with_data bytes w.a) → IsWithin s → IsSettled s → CallGives w.a c reply s → Called x y c reply w s m
-made x y w m h s c with_data bytes mine yours reply i open_ none e within settled (HasOutcome answer state) =
+    is_closed w.a.status ≡ false → refusal w.a ≡ None → outcome c w.a ≡ answers mine (session_opened with_data bytes w.a) → IsWithin s → IsReaped s → CallGives w.a c reply s → Called x y c reply w s m
+made x y w m h s c with_data bytes mine yours reply i open_ none e within reaped (HasOutcome answer state) =
     let now : s ≡ session_opened with_data bytes w.a = state ∙ ap (λ (o : Outcome). o.next) e in
     let rule : Rule c m reply (machine_opened bytes m) = open-rule c m (machine_opened bytes m) reply (h.a.whole.closed ∙ open_) (i.rule reply (machine_opened bytes m)
     (subst (λ o. OpenRule o yours bytes m reply (machine_opened bytes m)) (sym (same-refusal x y w m h open_ ∙ none)) (inl (answer ∙ (ap (λ (o : Outcome). o.reply) e ∙ i.same), refl)))) in
@@ -168,10 +168,10 @@ made x y w m h s c with_data bytes mine yours reply i open_ none e within settle
       now = machine_opened bytes m;
       rule = rule;
       releases = refl;
-      agrees = opens-agree x y w m h with_data bytes runs i.fits (subst IsWithin now within) (subst IsSettled now settled)
+      agrees = opens-agree x y w m h with_data bytes runs i.fits (subst IsWithin now within) (subst IsReaped now reaped)
           (order-call c m (machine_opened bytes m) (machine_opened bytes m) reply [] (parity x y w m h) rule refl h.order);
     })
-made x y w m h s c with_data bytes mine yours reply i open_ none e within settled (NoMemory needs answer state) =
+made x y w m h s c with_data bytes mine yours reply i open_ none e within reaped (NoMemory needs answer state) =
     refused-at_both x y c reply w s m state (open-rule c m m reply (h.a.whole.closed ∙ open_) (i.rule reply m
     (subst (λ o. OpenRule o yours bytes m reply m) (sym (same-refusal x y w m h open_ ∙ none)) (inr (answer, refl))))) h
 
@@ -199,7 +199,7 @@ open-called x y w m h s c with_data bytes mine yours reply i gives = elim (when 
     of f None q =
         let o = answers mine (session_opened with_data bytes w.a) in
         made x y w m h s c with_data bytes mine yours reply i f q (i.done ∙ (open-is w.a o ∙ ap (λ z. unless z w.a o) q))
-        (gives-keep (λ b z. true) w.a s (event.Call c) reply gives h.a.within) (gives-settled (λ b z. true) w.a s (event.Call c) reply gives h.a.within h.a.settled) gives
+        (gives-keep (λ b z. true) w.a s (event.Call c) reply gives h.a.within) (gives-reaped (λ b z. true) w.a s (event.Call c) reply gives h.a.within h.a.reaped) gives
 
 short : (n : ℕ) (bytes : List ℕ) → length (take n bytes) ≤ n
 short n bytes = grind (arith, common_steps)

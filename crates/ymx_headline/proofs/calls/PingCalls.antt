@@ -23,11 +23,11 @@ use Rattle.ymx_machine.specs.machine.Machines.{Machine, PingPlace}
 use Rattle.ymx_machine.specs.machine.Machines.PingPlace.{Asked, There, Back}
 use Rattle.ymx_machine.specs.machine.CallRules.{Rule, PingRule, PongedRule, ask_number, free_number, found_back}
 use Rattle.ymx_law_session.specs.Limits.{IsWithin, OncePending}
-use Rattle.ymx_law_session.specs.Settled.{IsSettled}
+use Rattle.ymx_law_session.specs.Reaped.{IsReaped}
 use Rattle.ymx_machine.proofs.Lists.{look-without_same, look-without_other, look-added_same, look-added_other, look-added_there}
 use Rattle.ymx_law_session.proofs.limits.HistoriesKeep.{gives-keep}
 use Rattle.ymx_law_session.proofs.limits.Pings.{pending-added, number-free}
-use Rattle.ymx_law_session.proofs.given_up.SettledFrames.{gives-settled}
+use Rattle.ymx_law_session.proofs.given_up.ReapedFrames.{gives-reaped}
 use Rattle.ymx_machine.proofs.Tests.{same_or_not, agrees, when}
 use Rattle.ymx_headline.specs.Agrees.{AgreesAs, IsNumbered, SamePings, Sender, Receiver, Text, PingsUnderWay, sending, hearing, entry_number, number_of, count_in, asks, is_asked_at, is_there_at}
 use Rattle.ymx_headline.proofs.relation.Mirrors.{order-call, parity}
@@ -60,13 +60,13 @@ answerer-text s r bytes parts places f t =
 
 pings-change : (x y : Role) (w : World) (m : Machine) (h : AgreesAs x y w m) (p : Pings) (next : ℕ) (places : List (ℕ × PingPlace)) → SamePings p next places → Answered m.me.pings places →
     ((frames : List (List ℕ)) → PingsUnderWay (sending w.a m.me) frames → StillAsked (sending w.a m.me) frames p places) →
-    IsWithin (record w.a { pings = p }) → IsSettled (record w.a { pings = p }) → IsNumbered (record m { me = record m.me { next_ping = next; pings = places } }) →
+    IsWithin (record w.a { pings = p }) → IsReaped (record w.a { pings = p }) → IsNumbered (record m { me = record m.me { next_ping = next; pings = places } }) →
     AgreesAs x y (record w { a = record w.a { pings = p } }) (record m { me = record m.me { next_ping = next; pings = places } })
-pings-change x y w m h p next places same answered still within settled order = record {
+pings-change x y w m h p next places same answered still within reaped order = record {
   roles = h.roles;
   streams = h.streams;
   refines = h.refines;
-  a = beside-streams h.a p next places w.a.away.here m.me.away w.a.outgoing same h.a.away within settled;
+  a = beside-streams h.a p next places w.a.away.here m.me.away w.a.outgoing same h.a.away within reaped;
   b = h.b;
   ab = text-changes (sending w.a m.me) _ (hearing w.b m.you) w.ab h.streams.ab h.streams.ab _ _ (asker-text (sending w.a m.me) (hearing w.b m.you) w.ab.bytes h.streams.ab p places still) h.ab;
   ba = record {
@@ -127,14 +127,14 @@ ping-still s k frames e free none h =
       ];
     }
 
-ping-agrees : (x y : Role) (w : World) (m : Machine) (h : AgreesAs x y w m) (k : ℕ) → k ≡ next_number w.a.pings → IsWithin (record w.a { pings = ask w.a.pings }) → IsSettled (record w.a { pings = ask w.a.pings }) →
+ping-agrees : (x y : Role) (w : World) (m : Machine) (h : AgreesAs x y w m) (k : ℕ) → k ≡ next_number w.a.pings → IsWithin (record w.a { pings = ask w.a.pings }) → IsReaped (record w.a { pings = ask w.a.pings }) →
     IsNumbered (record m { me = ask_number k m.me }) → AgreesAs x y (record w { a = record w.a { pings = ask w.a.pings } }) (record m { me = ask_number k m.me })
-ping-agrees x y w m h k e within settled order =
+ping-agrees x y w m h k e within reaped order =
     let free : is_pending k w.a.pings.pending ≡ false = rw e (number-free w.a.pings h.a.within.pings.count h.a.within.pings) in
     let none = none-there m.me.pings w.a.pings.pending k h.a.pings.numbers free in
     pings-change x y w m h (ask w.a.pings) ((k + 1) % 2 ^ 32) (m.me.pings ++ (k, Asked) ∷ [])
     (ping-same w.a.pings m.me.next_ping k m.me.pings h.a.within.pings.next e h.a.pings) (ping-answered k m.me.pings) (λ frames u. ping-still (sending w.a m.me) k frames e free none u)
-    within settled order
+    within reaped order
 
 same-length : (places : List (ℕ × PingPlace)) (ps : List Ping) → map entry_number places ≡ map number_of ps → length places ≡ length ps
 same-length places ps e = sym (length-map places entry_number) ∙ (ap length e ∙ length-map ps number_of)
@@ -178,7 +178,7 @@ ping-called x y w m h s reply (HasOutcome answer state) = elim (when (is_closed 
         called-alone x y call.Ping reply w s m _ now next rule
         (ping-agrees x y w m h k same
         (subst IsWithin next (gives-keep (λ b z. true) w.a s (event.Call call.Ping) reply gives h.a.within))
-        (subst IsSettled next (gives-settled (λ b z. true) w.a s (event.Call call.Ping) reply gives h.a.within h.a.settled))
+        (subst IsReaped next (gives-reaped (λ b z. true) w.a s (event.Call call.Ping) reply gives h.a.within h.a.reaped))
         (order-call call.Ping m now now reply [] (parity x y w m h) rule refl h.order))
 
 -- ---- a ping is collected
@@ -263,5 +263,5 @@ ponged-called k x y w m h s reply (HasOutcome answer state) = elim (when (is_clo
         (collected-same w.a.pings m.me.next_ping k m.me.pings once h.a.pings) (collected-answered k m.me.pings d there)
         (λ frames u. collected-still (sending w.a m.me) k frames once b d there u)
         (subst IsWithin next (gives-keep (λ b z. true) w.a s (event.Call (call.Ponged k)) reply gives h.a.within))
-        (subst IsSettled next (gives-settled (λ b z. true) w.a s (event.Call (call.Ponged k)) reply gives h.a.within h.a.settled))
+        (subst IsReaped next (gives-reaped (λ b z. true) w.a s (event.Call (call.Ponged k)) reply gives h.a.within h.a.reaped))
         (order-call (call.Ponged k) m now now reply [] (parity x y w m h) rule refl h.order))

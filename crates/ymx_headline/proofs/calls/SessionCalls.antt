@@ -25,9 +25,9 @@ use Rattle.ymx_headline.proofs.stream.Happenings.{acts}
 use Rattle.ymx_headline.proofs.stream.Happenings.Act.{Ends}
 use Rattle.ymx_headline.proofs.stream.Worlds.{step}
 use Rattle.ymx_law_session.specs.Limits.{IsWithin}
-use Rattle.ymx_law_session.specs.Settled.{IsSettled}
+use Rattle.ymx_law_session.specs.Reaped.{IsReaped}
 use Rattle.ymx_law_session.proofs.limits.HistoriesKeep.{gives-keep}
-use Rattle.ymx_law_session.proofs.given_up.SettledFrames.{gives-settled}
+use Rattle.ymx_law_session.proofs.given_up.ReapedFrames.{gives-reaped}
 use Rattle.ymx_machine.proofs.Tests.{both_of, when}
 use Rattle.ymx_headline.specs.Agrees.{AgreesAs, IsNumbered, SameAway, Sender, Receiver, Text, AwayUnderWay, sending, hearing, arrives, found, count_in, is_go_away}
 use Rattle.ymx_headline.proofs.relation.Mirrors.{refines-same, order-call, parity}
@@ -70,13 +70,13 @@ said-text s r bytes parts there h t =
     same-text s (record s { here = mark_said s.here; mark = said_once s.mark }) r r bytes parts t refl refl refl (said-way s there t.frames h t.away)
     (record { once = t.pings.once; means = t.pings.means; asked = t.pings.asked }) (record { once = t.pongs.once; means = t.pongs.means; there = t.pongs.there })
 
-away-agrees : (x y : Role) (w : World) (m : Machine) (h : AgreesAs x y w m) → IsWithin (record w.a { away = session_says w.a.away }) → IsSettled (record w.a { away = session_says w.a.away }) →
+away-agrees : (x y : Role) (w : World) (m : Machine) (h : AgreesAs x y w m) → IsWithin (record w.a { away = session_says w.a.away }) → IsReaped (record w.a { away = session_says w.a.away }) →
     IsNumbered (record m { me = record m.me { away = said_once m.me.away } }) → AgreesAs x y (record w { a = record w.a { away = session_says w.a.away } }) (record m { me = record m.me { away = said_once m.me.away } })
-away-agrees x y w m h within settled order = record {
+away-agrees x y w m h within reaped order = record {
   roles = h.roles;
   streams = h.streams;
   refines = h.refines;
-  a = beside-streams h.a w.a.pings m.me.next_ping m.me.pings (mark_said w.a.away.here) (said_once m.me.away) w.a.outgoing h.a.pings (said-away w.a.away.here w.b.away.there m.me.away h.a.away) within settled;
+  a = beside-streams h.a w.a.pings m.me.next_ping m.me.pings (mark_said w.a.away.here) (said_once m.me.away) w.a.outgoing h.a.pings (said-away w.a.away.here w.b.away.there m.me.away h.a.away) within reaped;
   b = h.b;
   ab = text-changes (sending w.a m.me) _ (hearing w.b m.you) w.ab h.streams.ab h.streams.ab _ _ (said-text (sending w.a m.me) (hearing w.b m.you) w.ab.bytes h.streams.ab w.b.away.there h.a.away) h.ab;
   ba = h.ba;
@@ -108,7 +108,7 @@ go_away-called x y w m h s reply (HasOutcome answer state) = elim (when (is_clos
         called-alone x y call.GoAway reply w s m _ now next rule
         (away-agrees x y w m h
         (subst IsWithin next (gives-keep (λ b z. true) w.a s (event.Call call.GoAway) reply gives h.a.within))
-        (subst IsSettled next (gives-settled (λ b z. true) w.a s (event.Call call.GoAway) reply gives h.a.within h.a.settled))
+        (subst IsReaped next (gives-reaped (λ b z. true) w.a s (event.Call call.GoAway) reply gives h.a.within h.a.reaped))
         (order-call call.GoAway m now now reply [] (parity x y w m h) rule refl h.order))
 
 -- ---- close
@@ -136,9 +136,9 @@ closed-deaf r p e = let k = (both_of (not p.stopped) false e).1 in absurd cc
 closed-refines : (g : Streams) (m : Found) → Refines g m → Refines (acts Ends g) m
 closed-refines g m r = let k = step Ends g m tt r in refines-same (acts Ends g) k.0 m (λ i. sym (k.1 i)) k.2
 
-close-agrees : (x y : Role) (w : World) (m : Machine) (h : AgreesAs x y w m) → IsWithin (close w.a).next → IsSettled (close w.a).next → IsNumbered (record m { me = record m.me { closed = true } }) →
+close-agrees : (x y : Role) (w : World) (m : Machine) (h : AgreesAs x y w m) → IsWithin (close w.a).next → IsReaped (close w.a).next → IsNumbered (record m { me = record m.me { closed = true } }) →
     AgreesAs x y (record w { a = (close w.a).next }) (record m { me = record m.me { closed = true } })
-close-agrees x y w m h within settled order = record {
+close-agrees x y w m h within reaped order = record {
   roles = h.roles;
   streams = acts Ends h.streams;
   refines = closed-refines h.streams (found m) h.refines;
@@ -148,7 +148,7 @@ close-agrees x y w m h within settled order = record {
     pings = h.a.pings;
     away = h.a.away;
     within = within;
-    settled = settled;
+    reaped = reaped;
   };
   b = h.b;
   ab = text-changes (sending w.a m.me) _ (hearing w.b m.you) w.ab h.streams.ab h.streams.ab _ _ (closed-text (sending w.a m.me) (hearing w.b m.you) w.ab.bytes h.streams.ab) h.ab;
@@ -169,5 +169,5 @@ close-called x y w m h s reply (HasOutcome answer state) =
     called-alone x y call.Close reply w s m _ now state rule
     (close-agrees x y w m h
     (subst IsWithin state (gives-keep (λ b z. true) w.a s (event.Call call.Close) reply gives h.a.within))
-    (subst IsSettled state (gives-settled (λ b z. true) w.a s (event.Call call.Close) reply gives h.a.within h.a.settled))
+    (subst IsReaped state (gives-reaped (λ b z. true) w.a s (event.Call call.Close) reply gives h.a.within h.a.reaped))
     (order-call call.Close m now now reply [] (parity x y w m h) rule refl h.order))

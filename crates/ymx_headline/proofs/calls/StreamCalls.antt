@@ -29,10 +29,10 @@ use Rattle.ymx_headline.proofs.stream.Happenings.Act.{Calls, Releases}
 use Rattle.ymx_headline.proofs.stream.Nothing.{absent-end}
 use Rattle.ymx_headline.proofs.stream.Worlds.{step, put-same, put-other}
 use Rattle.ymx_law_session.specs.Limits.{IsWithin}
-use Rattle.ymx_law_session.specs.Settled.{IsSettled}
+use Rattle.ymx_law_session.specs.Reaped.{IsReaped}
 use Rattle.ymx_machine.proofs.Tests.{split, when}
 use Rattle.ymx_law_session.proofs.limits.HistoriesKeep.{gives-keep}
-use Rattle.ymx_law_session.proofs.given_up.SettledFrames.{gives-settled}
+use Rattle.ymx_law_session.proofs.given_up.ReapedFrames.{gives-reaped}
 use Rattle.ymx_headline.proofs.records.Ends.{call_on, Has}
 use Rattle.ymx_headline.proofs.records.Calls.{calls}
 use Rattle.ymx_headline.specs.Agrees.{AgreesAs, Keeps, found, is_absent, is_rejected}
@@ -130,8 +130,8 @@ recorded-rule lost Forgets e f r h k g = if-phase (is_done r) e (end_forget lost
 
 -- the record is the next end, or there was none and is none
 reacts-keep : (x y : Role) (w : World) (m : Machine) (h : AgreesAs x y w m) (s : Session) (j : ℕ) (c : StreamCall) (reply : Reply) (next : End) →
-    m.me.closed ≡ false → OnlyStream j w.a s → IsWithin s → IsSettled s → Reacts h.streams m h.streams.a.over j c reply next → Keeps w.a.answers j (look j s.table.entries) next → Called x y (call_on c j) reply w s m
-reacts-keep x y w m h s j c reply next open_ only within settled k kept =
+    m.me.closed ≡ false → OnlyStream j w.a s → IsWithin s → IsReaped s → Reacts h.streams m h.streams.a.over j c reply next → Keeps w.a.answers j (look j s.table.entries) next → Called x y (call_on c j) reply w s m
+reacts-keep x y w m h s j c reply next open_ only within reaped k kept =
     let g = h.streams in
     let mid : Machine = record m { streams = k.streams } in
     let rule = open-rule (call_on c j) m mid reply open_ (stream-rule c j m mid reply k.rule) in
@@ -139,13 +139,13 @@ reacts-keep x y w m h s j c reply next open_ only within settled k kept =
     called-alone x y (call_on c j) reply w s m _ mid only.alone rule
     (table-changes x y w m h s.table w.a.next m.me.next w.a.offered m.me.offered k.streams (put j next g.a.ends) h.a.whole.next h.a.whole.offered only.window
     (keeps-put w.a.answers j w.a.table.entries s.table.entries next g.a.ends (λ i n. h.a.records.each i) only.others kept)
-    (subst IsWithin only.alone within) (subst IsSettled only.alone settled) k.refines order)
+    (subst IsWithin only.alone within) (subst IsReaped only.alone reaped) k.refines order)
 
 -- the record has gone: it was given up, and nothing of it was left
 reacts-release : (x y : Role) (w : World) (m : Machine) (h : AgreesAs x y w m) (s : Session) (j : ℕ) (c : StreamCall) (reply : Reply) (next : End) →
-    m.me.closed ≡ false → OnlyStream j w.a s → IsWithin s → IsSettled s → Reacts h.streams m h.streams.a.over j c reply next → is_rejected j w.a.answers ≡ false → look j s.table.entries ≡ None →
+    m.me.closed ≡ false → OnlyStream j w.a s → IsWithin s → IsReaped s → Reacts h.streams m h.streams.a.over j c reply next → is_rejected j w.a.answers ≡ false → look j s.table.entries ≡ None →
     next.phase ≡ Lingering → next_kind w.a.table.window next ≡ None → Called x y (call_on c j) reply w s m
-reacts-release x y w m h s j c reply next open_ only within settled k rejected l lingers nothing =
+reacts-release x y w m h s j c reply next open_ only within reaped k rejected l lingers nothing =
     let g = h.streams in
     let mid : Machine = record m { streams = k.streams } in
     let was : Streams = acts (Calls j c reply next) g in
@@ -168,18 +168,18 @@ reacts-release x y w m h s j c reply next open_ only within settled k rejected l
       releases = goes;
       agrees = table-changes x y w m h s.table w.a.next m.me.next w.a.offered m.me.offered streams (put j e was.a.ends) h.a.whole.next h.a.whole.offered only.window
           (keeps-put w.a.answers j w.a.table.entries s.table.entries e was.a.ends (λ i n. subst (Keeps w.a.answers i (look i w.a.table.entries)) (sym (put-other i j next g.a.ends n)) (h.a.records.each i)) only.others kept)
-          (subst IsWithin only.alone within) (subst IsSettled only.alone settled)
+          (subst IsWithin only.alone within) (subst IsReaped only.alone reaped)
           (refines-same _ r.0 _ (change-found j (after_move Released) r.1.0 _ mid r.0 refl r.1.2) r.2) order;
     })
 
 reacts-agree : (x y : Role) (w : World) (m : Machine) (h : AgreesAs x y w m) (s : Session) (j : ℕ) (c : StreamCall) (reply : Reply) (next : End) →
-    m.me.closed ≡ false → OnlyStream j w.a s → IsWithin s → IsSettled s → Reacts h.streams m h.streams.a.over j c reply next → is_rejected j w.a.answers ≡ false →
+    m.me.closed ≡ false → OnlyStream j w.a s → IsWithin s → IsReaped s → Reacts h.streams m h.streams.a.over j c reply next → is_rejected j w.a.answers ≡ false →
     (next.phase ≡ Gone → ⊥) → (o : Option End) → look j s.table.entries ≡ o → Has w.a.table.window next o → Called x y (call_on c j) reply w s m
-reacts-agree x y w m h s j c reply next open_ only within settled k rejected stays (Some held) l e =
-    reacts-keep x y w m h s j c reply next open_ only within settled k (subst (λ o. Keeps w.a.answers j o next) (sym l) (e, rejected))
-reacts-agree x y w m h s j c reply next open_ only within settled k rejected stays None l (inl e) = absurd (stays e)
-reacts-agree x y w m h s j c reply next open_ only within settled k rejected stays None l (inr e) =
-    reacts-release x y w m h s j c reply next open_ only within settled k rejected l e.0 e.1
+reacts-agree x y w m h s j c reply next open_ only within reaped k rejected stays (Some held) l e =
+    reacts-keep x y w m h s j c reply next open_ only within reaped k (subst (λ o. Keeps w.a.answers j o next) (sym l) (e, rejected))
+reacts-agree x y w m h s j c reply next open_ only within reaped k rejected stays None l (inl e) = absurd (stays e)
+reacts-agree x y w m h s j c reply next open_ only within reaped k rejected stays None l (inr e) =
+    reacts-release x y w m h s j c reply next open_ only within reaped k rejected l e.0 e.1
 
 -- ---- the call
 
@@ -192,7 +192,7 @@ with-record x y w m h s j c reply gives open_ None l =
     let rule : EndRule g.a.over c (g.a.ends j) reply (g.a.ends j) = subst (λ r. EndRule g.a.over c (g.a.ends j) r (g.a.ends j)) (sym k.0) (absent-end g.a.over c (g.a.ends j) (absent-idle (g.a.ends j).phase kept.0)) in
     let now : look j s.table.entries ≡ None = ap (λ z. look j z.table.entries) k.1 ∙ l in
     reacts-keep x y w m h s j c reply (g.a.ends j) (h.a.whole.closed ∙ open_) (only-stream c j w.a s reply gives)
-    (gives-keep (λ b z. true) w.a s (event.Call (call_on c j)) reply gives h.a.within) (gives-settled (λ b z. true) w.a s (event.Call (call_on c j)) reply gives h.a.within h.a.settled)
+    (gives-keep (λ b z. true) w.a s (event.Call (call_on c j)) reply gives h.a.within) (gives-reaped (λ b z. true) w.a s (event.Call (call_on c j)) reply gives h.a.within h.a.reaped)
     (reacts g m j c reply (g.a.ends j) h.refines (h.a.whole.lost open_ ∙ sym (over-is x y w m h open_)) rule)
     (subst (λ o. Keeps w.a.answers j o (g.a.ends j)) (sym now) kept)
 with-record x y w m h s j c reply gives open_ (Some e) l =
@@ -202,7 +202,7 @@ with-record x y w m h s j c reply gives open_ (Some e) l =
     let over = over-is x y w m h open_ in
     let rule : EndRule g.a.over c (g.a.ends j) reply f.0 = subst (λ o. EndRule o c (g.a.ends j) reply f.0) (sym over) (subst (λ z. EndRule (is_lost w.a.status) c z reply f.0) kept.0 f.1) in
     reacts-agree x y w m h s j c reply f.0 (h.a.whole.closed ∙ open_) (only-stream c j w.a s reply gives)
-    (gives-keep (λ b z. true) w.a s (event.Call (call_on c j)) reply gives h.a.within) (gives-settled (λ b z. true) w.a s (event.Call (call_on c j)) reply gives h.a.within h.a.settled)
+    (gives-keep (λ b z. true) w.a s (event.Call (call_on c j)) reply gives h.a.within) (gives-reaped (λ b z. true) w.a s (event.Call (call_on c j)) reply gives h.a.within h.a.reaped)
     (reacts g m j c reply f.0 h.refines (h.a.whole.lost open_ ∙ sym over) rule) kept.1
     (recorded-rule (is_lost w.a.status) c e f.0 reply (h.a.within.table.records j e l).phase f.1) (look j s.table.entries) refl f.2
 

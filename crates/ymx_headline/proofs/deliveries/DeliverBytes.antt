@@ -1,4 +1,4 @@
--- A byte that comes behind the header of a frame, or in it, is moves of the machine.
+-- A byte that comes after the header of a frame, or in it, is moves of the machine.
 use Rattle.std.proofs.Common.{◌≡◌, ℕ, ◌+◌, ◌-◌, ◌<◌, List, [], ◌∷◌, ◌++◌, length, Bool, true, false, not, ◌&&◌, ◌==◌, nat_lt, if◌then◌else◌, Option, None, Some, refl, sym, ap, subst, ◌∙◌, arith}
 use Rattle.std.specs.Prelude.{option_map}
 use Rattle.std.specs.List.{concat}
@@ -22,11 +22,11 @@ use Rattle.ymx_machine.specs.machine.FreeMoves.{FreeMove, FreeMoves}
 use Rattle.ymx_headline.specs.stream.Worlds.{StreamWorld as Streams, tagged}
 use Rattle.ymx_headline.proofs.stream.Happenings.{put, put_end}
 use Rattle.ymx_law_session.specs.Limits.{IsWithin}
-use Rattle.ymx_law_session.specs.Settled.{IsSettled}
+use Rattle.ymx_law_session.specs.Reaped.{IsReaped}
 use Rattle.ymx_machine.proofs.Tests.{split, not_lt}
 use Rattle.ymx_machine.proofs.Lists.{look-change_same, look-change_other}
 use Rattle.ymx_law_session.proofs.limits.FeedsKeep.{takes-keep}
-use Rattle.ymx_law_session.proofs.given_up.SettledFrames.{takes-settled}
+use Rattle.ymx_law_session.proofs.given_up.ReapedFrames.{takes-reaped}
 use Rattle.ymx_headline.proofs.records.Ends.{all_come}
 use Rattle.ymx_headline.proofs.world.Fed.{no-tail}
 use Rattle.ymx_headline.specs.Agrees.{AgreesAs, Keeps, RejectsOnce, Text, Sender, Receiver, sending, hearing, is_absent, pongs, parts_left, all_parts}
@@ -47,10 +47,10 @@ pub record Delivered (x y : Role) (s : Session) (rest : List ℕ) (w : World) (m
 
 pub arrival-agrees : (x y : Role) (w : World) (m : Machine) (h : AgreesAs x y w m) (table : Table) (offered ids : List ℕ) (answers : List Response) (i : Incoming) (rest : List ℕ) (parts : List (ℕ × Part)) (ends : ℕ → End) (counted : ℕ) →
     ids ≡ offered → table.window ≡ w.a.table.window → ((n : ℕ) → Keeps answers n (look n table.entries) (ends n)) → RejectsOnce answers → ((n : ℕ) → pongs n answers ≡ pongs n w.a.answers) →
-    IsWithin (record w.a { table = table; offered = offered; answers = answers; incoming = i }) → IsSettled (record w.a { table = table; offered = offered; answers = answers; incoming = i }) →
+    IsWithin (record w.a { table = table; offered = offered; answers = answers; incoming = i }) → IsReaped (record w.a { table = table; offered = offered; answers = answers; incoming = i }) →
     w.ba.stopped ≡ false → Text (sending w.b m.you) (record (hearing w.a m.me) { incoming = i }) rest parts →
     Arrives (record h.streams { a = record h.streams.a { ends = ends }; ba = parts }) m counted ids → Delivered x y (record w.a { table = table; offered = offered; answers = answers; incoming = i }) rest w m counted
-arrival-agrees x y w m h table offered ids answers i rest parts ends counted same window keeps once pongs_same within settled runs text k = record {
+arrival-agrees x y w m h table offered ids answers i rest parts ends counted same window keeps once pongs_same within reaped runs text k = record {
   now = record m { streams = k.streams; me = record m.me { offered = ids } };
   moves = k.moves;
   did = k.did;
@@ -64,7 +64,7 @@ arrival-agrees x y w m h table offered ids answers i rest parts ends counted sam
       pings = h.a.pings;
       away = h.a.away;
       within = within;
-      settled = settled;
+      reaped = reaped;
     };
     b = h.b;
     ab = text-changes (sending w.a m.me) _ (hearing w.b m.you) w.ab h.streams.ab h.streams.ab _ _ (answered-text (sending w.a m.me) (hearing w.b m.you) w.ab.bytes h.streams.ab answers pongs_same) h.ab;
@@ -88,7 +88,7 @@ pub record Taking (x y : Role) (no_memory : Bool) (b : ℕ) (rest : List ℕ) (w
   pub going : h.streams.ba_stopped ≡ false
   pub text : Text (sending w.b m.you) (hearing w.a m.me) (b ∷ rest) h.streams.ba
   pub within : IsWithin (byte_comes no_memory b w.a)
-  pub settled : IsSettled (byte_comes no_memory b w.a)
+  pub reaped : IsReaped (byte_comes no_memory b w.a)
 
 pub no-stop : (p : Pipe) (b : ℕ) (rest : List ℕ) → (p.stopped ≡ true → p.bytes ≡ []) → p.bytes ≡ b ∷ rest → p.stopped ≡ false
 no-stop p b rest e f = of p.stopped refl
@@ -111,25 +111,25 @@ taking x y no_memory b rest w m h e free runs =
       going = h.ba.streams.same ∙ not_stopped;
       text = subst (λ bs. Text (sending w.b m.you) (hearing w.a m.me) bs h.streams.ba) e (h.ba.text (rw (not_stopped, runs) refl));
       within = takes-keep (b ∷ []) w.a (byte_comes no_memory b w.a) _ one h.a.within;
-      settled = takes-settled (b ∷ []) w.a (byte_comes no_memory b w.a) _ one h.a.within h.a.settled;
+      reaped = takes-reaped (b ∷ []) w.a (byte_comes no_memory b w.a) _ one h.a.within h.a.reaped;
     }
 
 -- ---- a byte of a payload
 
-abbrev pub piece_left : (id n : ℕ) (fin stray : Bool) → Incoming
-piece_left id n fin stray = if nat_lt 1 n then Payload id (n - 1) fin stray else Head []
+abbrev pub piece_left : (id n : ℕ) (fin discarded : Bool) → Incoming
+piece_left id n fin discarded = if nat_lt 1 n then Payload id (n - 1) fin discarded else Head []
 
-record LeftPayload (s : Sender) (r : Receiver) (b : ℕ) (rest : List ℕ) (parts : List (ℕ × Part)) (id n : ℕ) (fin stray : Bool) : Type 0 where
+record LeftPayload (s : Sender) (r : Receiver) (b : ℕ) (rest : List ℕ) (parts : List (ℕ × Part)) (id n : ℕ) (fin discarded : Bool) : Type 0 where
   tail : List ℕ
   more : List (ℕ × Part)
   long : length (b ∷ tail) ≡ n
-  says : parts ≡ parts_left (Payload id n fin stray) (b ∷ tail) ++ more
-  text : Text s (record r { incoming = piece_left id n fin stray }) rest (parts_left (piece_left id n fin stray) tail ++ more)
+  says : parts ≡ parts_left (Payload id n fin discarded) (b ∷ tail) ++ more
+  text : Text s (record r { incoming = piece_left id n fin discarded }) rest (parts_left (piece_left id n fin discarded) tail ++ more)
 
-left-of : (s : Sender) (r : Receiver) (b : ℕ) (rest : List ℕ) (parts : List (ℕ × Part)) (id n : ℕ) (fin stray : Bool) (t : Text s r (b ∷ rest) parts) (tail : List ℕ) → 0 < n → length tail ≡ n →
-    (b ∷ rest) ++ (s.outgoing ++ t.cut) ≡ tail ++ concat t.frames → parts ≡ parts_left (Payload id n fin stray) tail ++ all_parts t.frames → LeftPayload s r b rest parts id n fin stray
-left-of s r b rest parts id n fin stray t [] some long text says = absurd (omega arith)
-left-of s r b rest parts id n fin stray t (c ∷ tail) some long text says =
+left-of : (s : Sender) (r : Receiver) (b : ℕ) (rest : List ℕ) (parts : List (ℕ × Part)) (id n : ℕ) (fin discarded : Bool) (t : Text s r (b ∷ rest) parts) (tail : List ℕ) → 0 < n → length tail ≡ n →
+    (b ∷ rest) ++ (s.outgoing ++ t.cut) ≡ tail ++ concat t.frames → parts ≡ parts_left (Payload id n fin discarded) tail ++ all_parts t.frames → LeftPayload s r b rest parts id n fin discarded
+left-of s r b rest parts id n fin discarded t [] some long text says = absurd (omega arith)
+left-of s r b rest parts id n fin discarded t (c ∷ tail) some long text says =
     let first : b ≡ c = cc in
     let behind : rest ++ (s.outgoing ++ t.cut) ≡ tail ++ concat t.frames = cc in record {
       tail = tail;
@@ -141,10 +141,10 @@ left-of s r b rest parts id n fin stray t (c ∷ tail) some long text says =
         tail = tail;
         frames = t.frames;
         kept = t.kept;
-        missing = split (λ i. length tail ≡ lacking i) (nat_lt 1 n) (Payload id (n - 1) fin stray) (Head []) (λ q. omega arith) (λ q. (let l = not_lt 1 n q in omega (arith, l)));
+        missing = split (λ i. length tail ≡ lacking i) (nat_lt 1 n) (Payload id (n - 1) fin discarded) (Head []) (λ q. omega arith) (λ q. (let l = not_lt 1 n q in omega (arith, l)));
         each = t.each;
         plain = t.plain;
-        text = split (λ i. held_bytes i ++ (rest ++ (s.outgoing ++ t.cut)) ≡ tail ++ concat t.frames) (nat_lt 1 n) (Payload id (n - 1) fin stray) (Head []) (λ q. behind) (λ q. behind);
+        text = split (λ i. held_bytes i ++ (rest ++ (s.outgoing ++ t.cut)) ≡ tail ++ concat t.frames) (nat_lt 1 n) (Payload id (n - 1) fin discarded) (Head []) (λ q. behind) (λ q. behind);
         says = refl;
         away = t.away;
         pings = t.pings;
@@ -152,8 +152,8 @@ left-of s r b rest parts id n fin stray t (c ∷ tail) some long text says =
       };
     }
 
-left-payload : (s : Sender) (r : Receiver) (b : ℕ) (rest : List ℕ) (parts : List (ℕ × Part)) (id n : ℕ) (fin stray : Bool) → r.incoming ≡ Payload id n fin stray → 0 < n → Text s r (b ∷ rest) parts → LeftPayload s r b rest parts id n fin stray
-left-payload s r b rest parts id n fin stray inc some t = left-of s r b rest parts id n fin stray t t.tail some (rw inc at t.missing) (rw inc at t.text) (rw inc at t.says)
+left-payload : (s : Sender) (r : Receiver) (b : ℕ) (rest : List ℕ) (parts : List (ℕ × Part)) (id n : ℕ) (fin discarded : Bool) → r.incoming ≡ Payload id n fin discarded → 0 < n → Text s r (b ∷ rest) parts → LeftPayload s r b rest parts id n fin discarded
+left-payload s r b rest parts id n fin discarded inc some t = left-of s r b rest parts id n fin discarded t t.tail some (rw inc at t.missing) (rw inc at t.text) (rw inc at t.says)
 
 -- ---- such a byte comes
 
@@ -164,10 +164,10 @@ pub byte-is : (no_memory : Bool) (b : ℕ) (s : Session) (i : Incoming) → s.st
 byte-is no_memory b s i runs inc = let k : byte_comes no_memory b s ≡ byte_in no_memory b s s.incoming = rw runs refl in k ∙ ap (byte_in no_memory b s) inc
 
 -- nothing of the streams changes
-only-incoming : (x y : Role) (w : World) (m : Machine) (h : AgreesAs x y w m) (i : Incoming) (rest : List ℕ) → IsWithin (record w.a { incoming = i }) → IsSettled (record w.a { incoming = i }) → w.ba.stopped ≡ false →
+only-incoming : (x y : Role) (w : World) (m : Machine) (h : AgreesAs x y w m) (i : Incoming) (rest : List ℕ) → IsWithin (record w.a { incoming = i }) → IsReaped (record w.a { incoming = i }) → w.ba.stopped ≡ false →
     Text (sending w.b m.you) (record (hearing w.a m.me) { incoming = i }) rest h.streams.ba → Delivered x y (record w.a { incoming = i }) rest w m 0
-only-incoming x y w m h i rest within settled runs text =
-    arrival-agrees x y w m h w.a.table w.a.offered m.me.offered w.a.answers i rest h.streams.ba h.streams.a.ends 0 h.a.whole.offered refl h.a.records.each h.a.records.once (λ n. refl) within settled runs text
+only-incoming x y w m h i rest within reaped runs text =
+    arrival-agrees x y w m h w.a.table w.a.offered m.me.offered w.a.answers i rest h.streams.ba h.streams.a.ends 0 h.a.whole.offered refl h.a.records.each h.a.records.once (λ n. refl) within reaped runs text
     (record { streams = m.streams; moves = []; did = (refl, refl); refines = h.refines })
 
 pub header-byte : (x y : Role) (no_memory : Bool) (b : ℕ) (rest seen : List ℕ) (w : World) (m : Machine) (h : AgreesAs x y w m) → Taking x y no_memory b rest w m h → w.a.incoming ≡ Head seen → (length seen == 11) ≡ false →
@@ -177,7 +177,7 @@ header-byte x y no_memory b rest seen w m h k inc f =
     let is : byte_comes no_memory b w.a ≡ t = byte-is no_memory b w.a (Head seen) k.runs inc ∙ rw f refl in
     let none : starves no_memory b w.a w.a.incoming ≡ 0 = rw (inc, f, no-starving) refl in
     delivered-is x y (byte_comes no_memory b w.a) t rest w m _ 0 is none
-    (only-incoming x y w m h (Head (seen ++ b ∷ [])) rest (subst IsWithin is k.within) (subst IsSettled is k.settled) k.not_stopped (header-text (sending w.b m.you) (hearing w.a m.me) b seen rest h.streams.ba inc k.text))
+    (only-incoming x y w m h (Head (seen ++ b ∷ [])) rest (subst IsWithin is k.within) (subst IsReaped is k.reaped) k.not_stopped (header-text (sending w.b m.you) (hearing w.a m.me) b seen rest h.streams.ba inc k.text))
   where
     no-starving : (p q : Bool) → (p && false && q) ≡ false
     no-starving true q = refl
@@ -208,17 +208,17 @@ keeps-on answers id f entries ends s h =
 abbrev piece_done : (b id n : ℕ) (fin : Bool) → Session → Session
 piece_done b id n fin s = record s { table = with_record id (receive_piece (fin && not (nat_lt 1 n)) (b ∷ [])) s.table; incoming = piece_left id n fin false }
 
--- a stray one changes nothing
-pub stray-byte : (x y : Role) (no_memory : Bool) (b : ℕ) (rest : List ℕ) (id n : ℕ) (fin : Bool) (w : World) (m : Machine) (h : AgreesAs x y w m) → Taking x y no_memory b rest w m h → w.a.incoming ≡ Payload id n fin true → 0 < n →
+-- a discarded one changes nothing
+pub discarded-byte : (x y : Role) (no_memory : Bool) (b : ℕ) (rest : List ℕ) (id n : ℕ) (fin : Bool) (w : World) (m : Machine) (h : AgreesAs x y w m) → Taking x y no_memory b rest w m h → w.a.incoming ≡ Payload id n fin true → 0 < n →
     Delivered x y (byte_comes no_memory b w.a) rest w m 0
-stray-byte x y no_memory b rest id n fin w m h k inc some =
+discarded-byte x y no_memory b rest id n fin w m h k inc some =
     let t : Session = record w.a { incoming = piece_left id n fin true } in
     let is : byte_comes no_memory b w.a ≡ t = byte-is no_memory b w.a (Payload id n fin true) k.runs inc in
     let l = left-payload (sending w.b m.you) (hearing w.a m.me) b rest h.streams.ba id n fin true inc some k.text in
     let none : parts_left (piece_left id n fin true) l.tail ≡ [] = split (λ i. parts_left i l.tail ≡ []) (nat_lt 1 n) (Payload id (n - 1) fin true) (Head []) (λ q. refl) (λ q. refl) in
     let same : parts_left (piece_left id n fin true) l.tail ++ l.more ≡ h.streams.ba = ap (λ ps. ps ++ l.more) none ∙ sym l.says in
     delivered-is x y (byte_comes no_memory b w.a) t rest w m 0 0 is refl
-    (only-incoming x y w m h (piece_left id n fin true) rest (subst IsWithin is k.within) (subst IsSettled is k.settled) k.not_stopped
+    (only-incoming x y w m h (piece_left id n fin true) rest (subst IsWithin is k.within) (subst IsReaped is k.reaped) k.not_stopped
     (subst (Text (sending w.b m.you) (record (hearing w.a m.me) { incoming = piece_left id n fin true }) rest) same l.text))
 
 and-false : (b : Bool) → (b && false) ≡ false
@@ -268,7 +268,7 @@ payload-byte x y no_memory b rest id n fin w m h k inc some =
     done parts text a =
         arrival-agrees x y w m h (with_record id (receive_piece last (b ∷ [])) w.a.table) w.a.offered m.me.offered w.a.answers (piece_left id n fin false) rest parts (put id (receive_piece last (b ∷ []) (g.a.ends id)) g.a.ends) 0
         h.a.whole.offered refl (keeps-on w.a.answers id (receive_piece last (b ∷ [])) w.a.table.entries g.a.ends (piece-absent last (b ∷ [])) h.a.records.each) h.a.records.once (λ i. refl)
-        (subst IsWithin is k.within) (subst IsSettled is k.settled) k.not_stopped text a
+        (subst IsWithin is k.within) (subst IsReaped is k.reaped) k.not_stopped text a
 
     more-comes : nat_lt 1 n ≡ true → Delivered x y (piece_done b id n fin w.a) rest w m 0
     more-comes e =

@@ -86,8 +86,8 @@ left-is h body = of (payload h == 0) refl
     of true e = refl
     of false e = loaded (is_data h) (has_fin h) (some-data h e)
 
-pub stray-left : (h : Header) (body : List ℕ) → parts_left (awaited h true) body ≡ []
-stray-left h body = split (λ i. parts_left i body ≡ []) (payload h == 0) (Head []) (Payload h.id (payload h) (has_fin h) true) (λ t. refl) (λ f. refl)
+pub discarded-left : (h : Header) (body : List ℕ) → parts_left (awaited h true) body ≡ []
+discarded-left h body = split (λ i. parts_left i body ≡ []) (payload h == 0) (Head []) (Payload h.id (payload h) (has_fin h) true) (λ t. refl) (λ f. refl)
 
 -- the parts that come with a head do what it does to a record
 pub head-does : (own : Bool) (window : ℕ) (h : Header) (body : List ℕ) (e : End) → has_syn h ≡ false → (has_ack h ≡ true → own ≡ true) → length body ≡ payload h → all_come false window (opening h ++ came h body) e ≡ take_head own h e

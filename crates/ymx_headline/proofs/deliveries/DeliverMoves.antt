@@ -276,7 +276,7 @@ parts-come own id (f ∷ fs) more g m h n over runs e r =
     later-own : (k : LawStep false id f (tagged id fs ++ more) g m) (s : Stream) → s ≡ k.now → IsOpener own id m → s.own ≡ own
     later-own k s q o = ap (λ (z : Stream). z.own) q ∙ (moves-own k.moves k.was k.now k.went ∙ o k.was k.there)
 
--- ---- a byte of a payload, behind which more comes
+-- ---- a byte of a payload, after which more comes
 
 abbrev pub byte_came : (id b : ℕ) → List ℕ → List (ℕ × Part) → Streams → Streams
 byte_came id b tail more g = record g { a = put_end id (receive_data (b ∷ []) (g.a.ends id)) g.a; ba = (id, Data tail) ∷ more }

@@ -21,7 +21,7 @@ use Rattle.ymx_machine.specs.machine.Machines.PingPlace.{Asked, There, Back}
 use Rattle.ymx_machine.specs.machine.CallRules.{found_back}
 use Rattle.ymx_machine.specs.machine.FreeMoves.FreeMove.{PingThere, PingBack}
 use Rattle.ymx_law_session.specs.Limits.{IsWithin}
-use Rattle.ymx_law_session.specs.Settled.{IsSettled}
+use Rattle.ymx_law_session.specs.Reaped.{IsReaped}
 use Rattle.ymx_machine.proofs.Tests.{same_or_not}
 use Rattle.ymx_law_session.proofs.limits.Pings.{pending-staged}
 use Rattle.ymx_headline.proofs.machine.order.Maps.{look-change, look-change_other}
@@ -230,7 +230,7 @@ ping-arrives x y no_memory b seen rest w m h k kind syn =
     let pongs = pongs-rest (sending w.b m.you) (hearing w.a m.me) frame frames no_reply k.first.pongs in
     delivered-is x y (byte_comes no_memory b w.a) t rest w m _ 0 is f.starves_none
     (session-arrives x y w m h rest w.a.pings w.a.away answers m.me.pings (there_now n m.you.pings) m.you.away (PingThere n) refl (λ i. rejected-same n i w.a.answers) (once-same n w.a.answers h.a.records.once)
-    h.a.pings (there-pings w.b.pings m.you.next_ping n m.you.pings asked h.b.pings) h.b.away (subst IsWithin is k.taking.within) (subst IsSettled is k.taking.settled) k.taking.not_stopped
+    h.a.pings (there-pings w.b.pings m.you.next_ping n m.you.pings asked h.b.pings) h.b.away (subst IsWithin is k.taking.within) (subst IsReaped is k.taking.reaped) k.taking.not_stopped
     (λ bytes parts z. there-text (sending w.a m.me) (hearing w.b m.you) n bytes parts asked z)
     (session-text x y no_memory b seen rest w m h k f m.you.away m.me.pings (there_now n m.you.pings) (record { once = away.once; means = away.means; said = away.said })
     (asked-done (sending w.b m.you) n frame frames it says.number asked p) (record { once = pongs.once; means = pongs.means; there = pongs.there }))
@@ -320,7 +320,7 @@ reply-arrives x y no_memory b seen rest w m h k kind syn =
     let done = reply-done (sending w.b m.you) (hearing w.a m.me) n frame frames it says.number there p in
     delivered-is x y (byte_comes no_memory b w.a) t rest w m _ 0 is f.starves_none
     (session-arrives x y w m h rest (receive_answer n w.a.pings) w.a.away w.a.answers (back_now n m.me.pings) m.you.pings m.you.away (PingBack n) refl (λ i. refl) h.a.records.once
-    (back-pings w.a.pings m.me.next_ping n m.me.pings there h.a.pings) h.b.pings h.b.away (subst IsWithin is k.taking.within) (subst IsSettled is k.taking.settled) k.taking.not_stopped
+    (back-pings w.a.pings m.me.next_ping n m.me.pings there h.a.pings) h.b.pings h.b.away (subst IsWithin is k.taking.within) (subst IsReaped is k.taking.reaped) k.taking.not_stopped
     (λ bytes parts z. back-text (sending w.a m.me) (hearing w.b m.you) n bytes parts there z)
     (session-text x y no_memory b seen rest w m h k f m.you.away (back_now n m.me.pings) m.you.pings (record { once = away.once; means = away.means; said = away.said })
     (record { once = pings.once; means = pings.means; asked = pings.asked }) (record { once = done.once; means = done.means; there = done.there }))

@@ -12,7 +12,7 @@ use Rattle.ymx_model.specs.session.FramesDue.{is_due, next_kind}
 use Rattle.ymx_model.specs.session.Parts.Part.{Rst}
 use Rattle.ymx_model.specs.session.Tables.{Table, with_record, remove_record}
 use Rattle.ymx_machine.specs.shared.Lists.{look, change, without, drop_id}
-use Rattle.ymx_model.specs.session.Sessions.{Session, is_own, belongs_to, is_spent, on_stream, settle}
+use Rattle.ymx_model.specs.session.Sessions.{Session, is_own, belongs_to, is_spent, on_stream, reap}
 use Rattle.ymx_model.specs.session.Sessions.Incoming.{Head}
 use Rattle.ymx_model.specs.session.Arrivals.{expects, acknowledges, meets, meets_some, head_comes, reset_comes, record_fault}
 use Rattle.ymx_model.specs.session.Feeds.{byte_comes, starves}
@@ -32,7 +32,7 @@ use Rattle.ymx_headline.proofs.emissions.Emits.{is_not}
 use Rattle.ymx_headline.proofs.deliveries.DeliverMoves.{Arrives, part_came, drop-none, reset-comes, release-comes}
 use Rattle.ymx_headline.proofs.deliveries.DeliverTexts.{awaited}
 use Rattle.ymx_headline.proofs.deliveries.DeliverBytes.{Delivered}
-use Rattle.ymx_headline.proofs.deliveries.DeliverHeads.{stray-left}
+use Rattle.ymx_headline.proofs.deliveries.DeliverHeads.{discarded-left}
 use Rattle.ymx_headline.proofs.deliveries.DeliverStreams.{TakingHead, body_of, stream-arrives, frame-says, stream-head, expects-is, unless-none, keeps-some, not-starved, no-syn_starves}
 
 -- ---- an end without a record
@@ -105,7 +105,7 @@ reset-unknown x y no_memory b seen rest w m h k kind r none =
     (stream-head no_memory hd (record w.a { incoming = Head [] }) k.good kind r.syn ∙ (ap (λ o. meets_some hd o (record w.a { incoming = Head [] })) none ∙ expects-is hd true w.a))
     (drop-none hd.id m.me.offered (r.none_listed (absent-unoffered (g.a.ends hd.id).phase was.0)) ∙ h.a.whole.offered) refl
     (keeps-put w.a.answers hd.id w.a.table.entries w.a.table.entries end g.a.ends (λ i n. h.a.records.each i) (λ i n. refl) kept) h.a.records.once (λ n. refl)
-    (ap (λ ps. ps ++ all_parts k.first.frames) (sym (stray-left hd (body_of k.first.frame)))) r.come
+    (ap (λ ps. ps ++ all_parts k.first.frames) (sym (discarded-left hd (body_of k.first.frame)))) r.come
 
 -- ---- at a record
 
@@ -166,15 +166,15 @@ reset-offered x y no_memory b seen rest w m h k e kind r there offered is =
     (keeps-gone w.a.answers id w.a.table.entries (without id w.a.table.entries) end g.a.ends was.1 (struck-offered (g.a.ends id).phase is_off)
     (ap (λ z. only_due false z (g.a.ends id).marks) (offered-marks (g.a.ends id).phase (g.a.ends id).marks.rst is_off)) refl
     (look-without_same id w.a.table.entries h.a.within.table.distinct) (λ i n. look-without_other id i w.a.table.entries n) h.a.records.each)
-    h.a.records.once (λ n. refl) (ap (λ ps. ps ++ all_parts k.first.frames) (sym (stray-left hd (body_of k.first.frame)))) r.come
+    h.a.records.once (λ n. refl) (ap (λ ps. ps ++ all_parts k.first.frames) (sym (discarded-left hd (body_of k.first.frame)))) r.come
 
 -- ---- one that isn't offered stays, or was given up and goes
 
-reset-settles : (x y : Role) (no_memory : Bool) (b : ℕ) (seen rest : List ℕ) (w : World) (m : Machine) (h : AgreesAs x y w m) (k : TakingHead x y no_memory b seen rest w m h) (e : End) →
+reset-reaps : (x y : Role) (no_memory : Bool) (b : ℕ) (seen rest : List ℕ) (w : World) (m : Machine) (h : AgreesAs x y w m) (k : TakingHead x y no_memory b seen rest w m h) (e : End) →
     (header_of (seen ++ b ∷ [])).kind < 2 → ResetFrame x y no_memory b seen rest w m h k → look (header_of (seen ++ b ∷ [])).id w.a.table.entries ≡ Some e → is_offered e.phase ≡ false →
     head_comes no_memory (header_of (seen ++ b ∷ [])) (record w.a { incoming = Head [] }) ≡ expects (header_of (seen ++ b ∷ [])) true (reset_comes (header_of (seen ++ b ∷ [])).id e (record w.a { incoming = Head [] })) →
     Delivered x y (byte_comes no_memory b w.a) rest w m 0
-reset-settles x y no_memory b seen rest w m h k e kind r there offered is = elim (when (is_spent win w.a.outgoing id (look id changed))) [
+reset-reaps x y no_memory b seen rest w m h k e kind r there offered is = elim (when (is_spent win w.a.outgoing id (look id changed))) [
   | inl t ↦ (
       let p = (let q : is_spent win w.a.outgoing id (Some end) ≡ true = subst (λ o. is_spent win w.a.outgoing id o ≡ true) now t in both_of (is_lingering end.phase && not (is_due win end)) (not (belongs_to w.a.outgoing.of id)) q) in
       let q = both_of (is_lingering end.phase) (not (is_due win end)) p.0 in
@@ -219,7 +219,7 @@ reset-settles x y no_memory b seen rest w m h k e kind r there offered is = elim
     now : look id changed ≡ Some end
     now = look-change_same id receive_rst w.a.table.entries ∙ (rw there refl ∙ ap (λ z. Some (receive_rst z)) was.0)
 
-    resets : reset_comes id e s ≡ settle id (on_stream id receive_rst s)
+    resets : reset_comes id e s ≡ reap id (on_stream id receive_rst s)
     resets = rw offered refl
 
     done : (table : Table) (f : End) → table.window ≡ w.a.table.window → expects hd true (reset_comes id e s) ≡ record w.a { table = table; incoming = awaited hd true } → ((i : ℕ) → Keeps w.a.answers i (look i table.entries) (put id f g.a.ends i)) →
@@ -227,7 +227,7 @@ reset-settles x y no_memory b seen rest w m h k e kind r there offered is = elim
     done table f window to keeps come =
         stream-arrives x y no_memory b seen rest w m h k true table w.a.offered (drop_id id m.me.offered) w.a.answers (all_parts k.first.frames) (put id f g.a.ends) 0 kind (is ∙ to)
         (drop-none id m.me.offered (r.none_listed (ap (λ (z : End). is_offered z.phase) (sym was.0) ∙ offered)) ∙ h.a.whole.offered) window keeps h.a.records.once (λ n. refl)
-        (ap (λ ps. ps ++ all_parts k.first.frames) (sym (stray-left hd (body_of k.first.frame)))) come
+        (ap (λ ps. ps ++ all_parts k.first.frames) (sym (discarded-left hd (body_of k.first.frame)))) come
 
 -- ---- a reset
 
@@ -248,5 +248,5 @@ reset-arrives x y no_memory b seen rest w m h k kind rst =
         let is = reset-head no_memory hd e s rst r.ack (stream-head no_memory hd s k.good kind r.syn ∙ ap (λ o. meets_some hd o s) l) in
         elim (when (is_offered e.phase)) [
           | inl t ↦ reset-offered x y no_memory b seen rest w m h k e kind r l t is
-          | inr f ↦ reset-settles x y no_memory b seen rest w m h k e kind r l f is
+          | inr f ↦ reset-reaps x y no_memory b seen rest w m h k e kind r l f is
         ]

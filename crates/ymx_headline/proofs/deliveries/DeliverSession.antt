@@ -22,24 +22,24 @@ use Rattle.ymx_machine.specs.machine.Machines.{Machine, PingPlace}
 use Rattle.ymx_machine.specs.machine.FreeMoves.{FreeMove, FreeMoves}
 use Rattle.ymx_machine.specs.machine.FreeMoves.FreeMove.{AwayArrives}
 use Rattle.ymx_law_session.specs.Limits.{IsWithin}
-use Rattle.ymx_law_session.specs.Settled.{IsSettled}
+use Rattle.ymx_law_session.specs.Reaped.{IsReaped}
 use Rattle.ymx_headline.specs.Agrees.{AgreesAs, Keeps, OnlyRejects, RejectsOnce, SamePings, SameAway, IsPlain, Sender, Text, AwayUnderWay, PingsUnderWay, PongsUnderWay, sending, hearing, parts_in, all_parts, parts_left, is_rejected, is_go_away, count_in, pongs}
 use Rattle.ymx_headline.proofs.relation.Mirrors.{order-moves, parity}
 use Rattle.ymx_headline.proofs.deliveries.DeliverTexts.{awaited, text-after, count-first, pings-rest, pongs-rest}
 use Rattle.ymx_headline.proofs.deliveries.DeliverBytes.{Delivered, delivered-is}
-use Rattle.ymx_headline.proofs.deliveries.DeliverHeads.{stray-left}
+use Rattle.ymx_headline.proofs.deliveries.DeliverHeads.{discarded-left}
 use Rattle.ymx_headline.proofs.deliveries.DeliverStreams.{TakingHead, body_of, not-starved}
 
 -- ---- what comes of the session changes pings, go away and answers
 
 pub session-arrives : (x y : Role) (w : World) (m : Machine) (h : AgreesAs x y w m) (rest : List ℕ) (pings : Pings) (away : Away) (answers : List Response) (mine yours : List (ℕ × PingPlace)) (mark : Mark) (move : FreeMove) →
     away.here ≡ w.a.away.here → ((i : ℕ) → is_rejected i answers ≡ is_rejected i w.a.answers) → RejectsOnce answers → SamePings pings m.me.next_ping mine → SamePings w.b.pings m.you.next_ping yours → SameAway w.b.away.here away.there mark →
-    IsWithin (record w.a { pings = pings; away = away; answers = answers; incoming = Head [] }) → IsSettled (record w.a { pings = pings; away = away; answers = answers; incoming = Head [] }) → w.ba.stopped ≡ false →
+    IsWithin (record w.a { pings = pings; away = away; answers = answers; incoming = Head [] }) → IsReaped (record w.a { pings = pings; away = away; answers = answers; incoming = Head [] }) → w.ba.stopped ≡ false →
     ((bytes : List ℕ) (parts : List (ℕ × Part)) → Text (sending w.a m.me) (hearing w.b m.you) bytes parts → Text (record (sending w.a m.me) { pings = pings; answers = answers; places = mine }) (record (hearing w.b m.you) { places = yours }) bytes parts) →
     Text (record (sending w.b m.you) { mark = mark; places = yours }) (record (hearing w.a m.me) { incoming = Head []; places = mine }) rest h.streams.ba →
     FreeMoves (move ∷ []) m 0 (record m { me = record m.me { pings = mine }; you = record m.you { away = mark; pings = yours } }) →
     Delivered x y (record w.a { pings = pings; away = away; answers = answers; incoming = Head [] }) rest w m 0
-session-arrives x y w m h rest pings away answers mine yours mark move here rejected once pa pb ay within settled runs ab ba did =
+session-arrives x y w m h rest pings away answers mine yours mark move here rejected once pa pb ay within reaped runs ab ba did =
     let n : Machine = record m { me = record m.me { pings = mine }; you = record m.you { away = mark; pings = yours } } in
     record {
       now = n;
@@ -55,7 +55,7 @@ session-arrives x y w m h rest pings away answers mine yours mark move here reje
           pings = pa;
           away = rw here h.a.away;
           within = within;
-          settled = settled;
+          reaped = reaped;
         };
         b = record {
           whole = record { role = h.b.whole.role; window = h.b.whole.window; next = h.b.whole.next; offered = h.b.whole.offered; closed = h.b.whole.closed; lost = h.b.whole.lost; sound = h.b.whole.sound };
@@ -63,7 +63,7 @@ session-arrives x y w m h rest pings away answers mine yours mark move here reje
           pings = pb;
           away = ay;
           within = h.b.within;
-          settled = h.b.settled;
+          reaped = h.b.reaped;
         };
         ab = record { machine = h.ab.machine; streams = h.ab.streams; text = λ on. rw here (ab w.ab.bytes h.streams.ab (h.ab.text on)) };
         ba = record {
@@ -94,7 +94,7 @@ session-frame x y no_memory b seen rest w m h k high =
     let parts : parts_in k.first.frame ≡ [] = (let e : nat_lt (header_of k.first.frame).kind 2 ≡ false = ap (λ (z : Header). nat_lt z.kind 2) k.first.header ∙ high in rw e refl) in
     record {
       none_follows = rw none refl;
-      says = k.first.says ∙ (ap (λ ps. ps ++ all_parts k.first.frames) parts ∙ ap (λ ps. ps ++ all_parts k.first.frames) (sym (stray-left hd (body_of k.first.frame))));
+      says = k.first.says ∙ (ap (λ ps. ps ++ all_parts k.first.frames) parts ∙ ap (λ ps. ps ++ all_parts k.first.frames) (sym (discarded-left hd (body_of k.first.frame))));
       starves_none = not-starved no_memory b seen w.a k.inc (rw high (none-starved _ _ _ _));
     }
   where
@@ -102,7 +102,7 @@ session-frame x y no_memory b seen rest w m h k high =
     none-starved true q r s = refl
     none-starved false q r s = refl
 
--- the text behind such a frame
+-- the text after such a frame
 pub session-text : (x y : Role) (no_memory : Bool) (b : ℕ) (seen rest : List ℕ) (w : World) (m : Machine) (h : AgreesAs x y w m) (k : TakingHead x y no_memory b seen rest w m h) (f : SessionFrame x y no_memory b seen rest w m h k) (mark : Mark) (mine yours : List (ℕ × PingPlace)) →
     AwayUnderWay (record (sending w.b m.you) { mark = mark; places = yours }) k.first.frames → PingsUnderWay (record (sending w.b m.you) { mark = mark; places = yours }) k.first.frames →
     PongsUnderWay (record (sending w.b m.you) { mark = mark; places = yours }) (record (hearing w.a m.me) { incoming = Head []; places = mine }) k.first.frames →
@@ -167,7 +167,7 @@ go-away-arrives x y no_memory b seen rest w m h k kind =
     let pongs = pongs-rest (sending w.b m.you) (hearing w.a m.me) k.first.frame k.first.frames (λ n. rw frame_two refl) k.first.pongs in
     delivered-is x y (byte_comes no_memory b w.a) t rest w m _ 0 is f.starves_none
     (session-arrives x y w m h rest w.a.pings (receive_away w.a.away) w.a.answers m.me.pings m.you.pings Here AwayArrives refl (λ i. refl) h.a.records.once h.a.pings h.b.pings
-    (record { said = sym unsaid ∙ h.b.away.said; arrived = refl }) (subst IsWithin is k.taking.within) (subst IsSettled is k.taking.settled) k.taking.not_stopped (λ bytes parts z. z)
+    (record { said = sym unsaid ∙ h.b.away.said; arrived = refl }) (subst IsWithin is k.taking.within) (subst IsReaped is k.taking.reaped) k.taking.not_stopped (λ bytes parts z. z)
     (session-text x y no_memory b seen rest w m h k f Here m.me.pings m.you.pings (away-done (sending w.b m.you) k.first.frame k.first.frames it a)
     (record { once = pings.once; means = pings.means; asked = pings.asked }) (record { once = pongs.once; means = pongs.means; there = pongs.there }))
     ((k.taking.hears_it, said), (0, refl, (refl, refl))))

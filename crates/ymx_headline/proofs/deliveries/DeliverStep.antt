@@ -28,7 +28,7 @@ use Rattle.ymx_headline.specs.Agrees.{Agrees, AgreesAs, Follows}
 use Rattle.ymx_headline.proofs.relation.Mirrors.{mirrors-agree}
 use Rattle.ymx_headline.proofs.runs.Steps.{AtA, at-either, mirror-back}
 use Rattle.ymx_headline.proofs.deliveries.DeliverMoves.{moves-join}
-use Rattle.ymx_headline.proofs.deliveries.DeliverBytes.{Delivered, delivered-is, Taking, taking, no-stop, header-byte, stray-byte, payload-byte}
+use Rattle.ymx_headline.proofs.deliveries.DeliverBytes.{Delivered, delivered-is, Taking, taking, no-stop, header-byte, discarded-byte, payload-byte}
 use Rattle.ymx_headline.proofs.deliveries.DeliverStreams.{TakingHead, taking-head, no-record, at-record, not-starved, no-syn_starves}
 use Rattle.ymx_headline.proofs.deliveries.DeliverResets.{reset-arrives}
 use Rattle.ymx_headline.proofs.deliveries.DeliverSyns.{syn-arrives}
@@ -43,7 +43,7 @@ deaf-starves no_memory b s (Head seen) d = rw (d, and-none) refl
     and-none : (p q r : Bool) → (p && not true && q && r) ≡ false
     and-none true q r = refl
     and-none false q r = refl
-deaf-starves no_memory b s (Payload id n fin stray) d = refl
+deaf-starves no_memory b s (Payload id n fin discarded) d = refl
 
 deaf-byte : (x y : Role) (no_memory : Bool) (b : ℕ) (rest : List ℕ) (w : World) (m : Machine) (h : AgreesAs x y w m) → w.ba.bytes ≡ b ∷ rest → is_deaf w.a.status ≡ true → is_running w.a.status ≡ false →
     Delivered x y (byte_comes no_memory b w.a) rest w m (starves no_memory b w.a w.a.incoming)
@@ -103,7 +103,7 @@ running-byte x y no_memory b rest w m h k (Head seen) e = elim (when (length see
 ]
 running-byte x y no_memory b rest w m h k (Payload id n fin true) e =
     let none : starves no_memory b w.a w.a.incoming ≡ 0 = rw e refl in
-    subst (λ c. Delivered x y (byte_comes no_memory b w.a) rest w m c) (sym none) (stray-byte x y no_memory b rest id n fin w m h k e (payload_some id n fin true w.a e h.a.within))
+    subst (λ c. Delivered x y (byte_comes no_memory b w.a) rest w m c) (sym none) (discarded-byte x y no_memory b rest id n fin w m h k e (payload_some id n fin true w.a e h.a.within))
 running-byte x y no_memory b rest w m h k (Payload id n fin false) e =
     let none : starves no_memory b w.a w.a.incoming ≡ 0 = rw e refl in
     subst (λ c. Delivered x y (byte_comes no_memory b w.a) rest w m c) (sym none) (payload-byte x y no_memory b rest id n fin w m h k e (payload_some id n fin false w.a e h.a.within))

@@ -21,7 +21,7 @@ use Rattle.ymx_machine.specs.machine.Machines.{Machine}
 use Rattle.ymx_headline.specs.stream.Worlds.{tagged}
 use Rattle.ymx_headline.proofs.stream.Happenings.{put, put_end}
 use Rattle.ymx_law_session.specs.Limits.{IsWithin}
-use Rattle.ymx_law_session.specs.Settled.{IsSettled}
+use Rattle.ymx_law_session.specs.Reaped.{IsReaped}
 use Rattle.ymx_machine.proofs.Tests.{agrees}
 use Rattle.ymx_machine.proofs.Lists.{look-change_same, look-change_other}
 use Rattle.ymx_headline.specs.records.Sides.{opening, rest_parts, frame_says}
@@ -32,7 +32,7 @@ use Rattle.ymx_headline.proofs.relation.Counts.{own-at}
 use Rattle.ymx_headline.proofs.deliveries.DeliverMoves.{Arrives, IsOpener, AllBreakNothing, parts-come}
 use Rattle.ymx_headline.proofs.deliveries.DeliverTexts.{FirstFrame, first-frame, awaited, text-after, away-rest, pings-rest, pongs-rest, pongs-hear}
 use Rattle.ymx_headline.proofs.deliveries.DeliverBytes.{Delivered, delivered-is, Taking, arrival-agrees, byte-is}
-use Rattle.ymx_headline.proofs.deliveries.DeliverHeads.{plain-append, tagged-append, plain-opening, plain-rest, came, left, came-left, plain-came, left-is, stray-left, head-does, absent-parts}
+use Rattle.ymx_headline.proofs.deliveries.DeliverHeads.{plain-append, tagged-append, plain-opening, plain-rest, came, left, came-left, plain-came, left-is, discarded-left, head-does, absent-parts}
 use Rattle.ymx_headline.proofs.deliveries.DeliverFaults.{no-header_fault, no-record_fault}
 
 -- ---- a header becomes whole
@@ -63,10 +63,10 @@ taking-head x y no_memory b seen rest_parts w m h k inc e =
     }
 
 -- what the head of a payload leaves to come
-pub expects-is : (h : Header) (stray : Bool) (s : Session) → expects h stray (record s { incoming = Head [] }) ≡ record s { incoming = awaited h stray }
-expects-is h stray s = of (payload h == 0)
+pub expects-is : (h : Header) (discarded : Bool) (s : Session) → expects h discarded (record s { incoming = Head [] }) ≡ record s { incoming = awaited h discarded }
+expects-is h discarded s = of (payload h == 0)
   where
-    of : (z : Bool) → (if z then record s { incoming = Head [] } else record s { incoming = Payload h.id (payload h) (has_fin h) stray }) ≡ record s { incoming = if z then Head [] else Payload h.id (payload h) (has_fin h) stray }
+    of : (z : Bool) → (if z then record s { incoming = Head [] } else record s { incoming = Payload h.id (payload h) (has_fin h) discarded }) ≡ record s { incoming = if z then Head [] else Payload h.id (payload h) (has_fin h) discarded }
     of true = refl
     of false = refl
 
@@ -93,32 +93,32 @@ body_of frame = drop 12 frame
 pub is-not : (h : Header) (n : ℕ) → h.kind < 2 → 2 ≤ n → (h.kind == n) ≡ false
 is-not h n k l = grind (arith, nat_tests)
 
-pub stream-text : (x y : Role) (no_memory : Bool) (b : ℕ) (seen rest_parts : List ℕ) (w : World) (m : Machine) (h : AgreesAs x y w m) (k : TakingHead x y no_memory b seen rest_parts w m h) (stray : Bool) (parts : List (ℕ × Part)) →
-    (header_of (seen ++ b ∷ [])).kind < 2 → parts ≡ parts_left (awaited (header_of (seen ++ b ∷ [])) stray) (body_of k.first.frame) ++ all_parts k.first.frames →
-    Text (sending w.b m.you) (record (hearing w.a m.me) { incoming = awaited (header_of (seen ++ b ∷ [])) stray }) rest_parts parts
-stream-text x y no_memory b seen rest_parts w m h k stray parts kind frame_says =
+pub stream-text : (x y : Role) (no_memory : Bool) (b : ℕ) (seen rest_parts : List ℕ) (w : World) (m : Machine) (h : AgreesAs x y w m) (k : TakingHead x y no_memory b seen rest_parts w m h) (discarded : Bool) (parts : List (ℕ × Part)) →
+    (header_of (seen ++ b ∷ [])).kind < 2 → parts ≡ parts_left (awaited (header_of (seen ++ b ∷ [])) discarded) (body_of k.first.frame) ++ all_parts k.first.frames →
+    Text (sending w.b m.you) (record (hearing w.a m.me) { incoming = awaited (header_of (seen ++ b ∷ [])) discarded }) rest_parts parts
+stream-text x y no_memory b seen rest_parts w m h k discarded parts kind frame_says =
     let f = k.first in
     let s = sending w.b m.you in
     let r = hearing w.a m.me in
     let two : ((header_of f.frame).kind == 2) ≡ false = ap (λ (z : Header). z.kind == 2) f.header ∙ is-not (header_of (seen ++ b ∷ [])) 2 kind (omega arith) in
     let three : ((header_of f.frame).kind == 3) ≡ false = ap (λ (z : Header). z.kind == 3) f.header ∙ is-not (header_of (seen ++ b ∷ [])) 3 kind (omega arith) in
-    text-after s s r (record r { incoming = awaited (header_of (seen ++ b ∷ [])) stray }) (seen ++ b ∷ []) rest_parts h.streams.ba parts stray f refl refl refl frame_says
+    text-after s s r (record r { incoming = awaited (header_of (seen ++ b ∷ [])) discarded }) (seen ++ b ∷ []) rest_parts h.streams.ba parts discarded f refl refl refl frame_says
     (away-rest s f.frame f.frames three f.away) (pings-rest s f.frame f.frames (λ n. rw two refl) f.pings)
-    (pongs-hear s r (record r { incoming = awaited (header_of (seen ++ b ∷ [])) stray }) f.frames refl (pongs-rest s r f.frame f.frames (λ n. rw two refl) f.pongs))
+    (pongs-hear s r (record r { incoming = awaited (header_of (seen ++ b ∷ [])) discarded }) f.frames refl (pongs-rest s r f.frame f.frames (λ n. rw two refl) f.pongs))
 
 -- what side A and the machine are then
-pub stream-arrives : (x y : Role) (no_memory : Bool) (b : ℕ) (seen rest_parts : List ℕ) (w : World) (m : Machine) (h : AgreesAs x y w m) (k : TakingHead x y no_memory b seen rest_parts w m h) (stray : Bool) (table : Table) (offered ids : List ℕ) (answers : List Response) (parts : List (ℕ × Part)) (ends : ℕ → End) (counted : ℕ) →
+pub stream-arrives : (x y : Role) (no_memory : Bool) (b : ℕ) (seen rest_parts : List ℕ) (w : World) (m : Machine) (h : AgreesAs x y w m) (k : TakingHead x y no_memory b seen rest_parts w m h) (discarded : Bool) (table : Table) (offered ids : List ℕ) (answers : List Response) (parts : List (ℕ × Part)) (ends : ℕ → End) (counted : ℕ) →
     (header_of (seen ++ b ∷ [])).kind < 2 →
-    head_comes no_memory (header_of (seen ++ b ∷ [])) (record w.a { incoming = Head [] }) ≡ record w.a { table = table; offered = offered; answers = answers; incoming = awaited (header_of (seen ++ b ∷ [])) stray } →
+    head_comes no_memory (header_of (seen ++ b ∷ [])) (record w.a { incoming = Head [] }) ≡ record w.a { table = table; offered = offered; answers = answers; incoming = awaited (header_of (seen ++ b ∷ [])) discarded } →
     ids ≡ offered → table.window ≡ w.a.table.window → ((n : ℕ) → Keeps answers n (look n table.entries) (ends n)) → RejectsOnce answers → ((n : ℕ) → pongs n answers ≡ pongs n w.a.answers) →
-    parts ≡ parts_left (awaited (header_of (seen ++ b ∷ [])) stray) (body_of k.first.frame) ++ all_parts k.first.frames →
+    parts ≡ parts_left (awaited (header_of (seen ++ b ∷ [])) discarded) (body_of k.first.frame) ++ all_parts k.first.frames →
     Arrives (record h.streams { a = record h.streams.a { ends = ends }; ba = parts }) m counted ids → Delivered x y (byte_comes no_memory b w.a) rest_parts w m counted
-stream-arrives x y no_memory b seen rest_parts w m h k stray table offered ids answers parts ends counted kind done same window keeps once pongs_same frame_says come =
-    let t : Session = record w.a { table = table; offered = offered; answers = answers; incoming = awaited (header_of (seen ++ b ∷ [])) stray } in
+stream-arrives x y no_memory b seen rest_parts w m h k discarded table offered ids answers parts ends counted kind done same window keeps once pongs_same frame_says come =
+    let t : Session = record w.a { table = table; offered = offered; answers = answers; incoming = awaited (header_of (seen ++ b ∷ [])) discarded } in
     let is : byte_comes no_memory b w.a ≡ t = k.is ∙ done in
     delivered-is x y (byte_comes no_memory b w.a) t rest_parts w m counted counted is refl
-    (arrival-agrees x y w m h table offered ids answers (awaited (header_of (seen ++ b ∷ [])) stray) rest_parts parts ends counted same window keeps once pongs_same (subst IsWithin is k.taking.within) (subst IsSettled is k.taking.settled) k.taking.not_stopped
-    (stream-text x y no_memory b seen rest_parts w m h k stray parts kind frame_says) come)
+    (arrival-agrees x y w m h table offered ids answers (awaited (header_of (seen ++ b ∷ [])) discarded) rest_parts parts ends counted same window keeps once pongs_same (subst IsWithin is k.taking.within) (subst IsReaped is k.taking.reaped) k.taking.not_stopped
+    (stream-text x y no_memory b seen rest_parts w m h k discarded parts kind frame_says) come)
 
 -- the parts of the frame stand first
 pub frame-says : (x y : Role) (no_memory : Bool) (b : ℕ) (seen rest_parts : List ℕ) (w : World) (m : Machine) (h : AgreesAs x y w m) (k : TakingHead x y no_memory b seen rest_parts w m h) → (header_of (seen ++ b ∷ [])).kind < 2 →
@@ -154,7 +154,7 @@ no-record x y no_memory b seen rest_ w m h k kind syn rst none =
     stream-arrives x y no_memory b seen rest_ w m h k true w.a.table w.a.offered m.me.offered w.a.answers more (put hd.id end g.a.ends) 0 kind
     (stream-head no_memory hd (record w.a { incoming = Head [] }) k.good kind syn ∙ (ap (λ o. meets_some hd o (record w.a { incoming = Head [] })) none ∙ expects-is hd true w.a))
     h.a.whole.offered refl (keeps-put w.a.answers hd.id w.a.table.entries w.a.table.entries end g.a.ends (λ i n. h.a.records.each i) (λ i n. refl) kept) h.a.records.once (λ n. refl)
-    (ap (λ ps. ps ++ more) (sym (stray-left hd body))) come
+    (ap (λ ps. ps ++ more) (sym (discarded-left hd body))) come
 
 -- ---- at a record
 

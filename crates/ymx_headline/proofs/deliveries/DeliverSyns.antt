@@ -41,7 +41,7 @@ use Rattle.ymx_headline.proofs.relation.Tables.{keeps-put}
 use Rattle.ymx_headline.proofs.relation.Counts.{own-at, no-record, same-recorded}
 use Rattle.ymx_headline.proofs.deliveries.DeliverMoves.{Arrives, law-step, Plain, syn-refused, syn-offered, parts-come, moves-join, refines-ends}
 use Rattle.ymx_headline.proofs.deliveries.DeliverBytes.{Delivered}
-use Rattle.ymx_headline.proofs.deliveries.DeliverHeads.{plain-rest, plain-came, came, left, came-left, left-is, stray-left, syn-does}
+use Rattle.ymx_headline.proofs.deliveries.DeliverHeads.{plain-rest, plain-came, came, left, came-left, left-is, discarded-left, syn-does}
 use Rattle.ymx_headline.proofs.deliveries.DeliverFaults.{no-syn_fault}
 use Rattle.ymx_headline.proofs.deliveries.DeliverStreams.{TakingHead, body_of, stream-arrives, frame-says, expects-is, parts-split}
 
@@ -56,9 +56,9 @@ same-refuses x y w m h =
     let said : not (is_unsaid m.me.away) ≡ was_said w.a.away.here = ap not h.a.away.said ∙ not-not (was_said w.a.away.here) in
     rw (said, h.a.whole.offered, same-recorded x y w m h) refl
 
--- ---- parts that come behind others
+-- ---- parts that come after others
 
--- behind what has come to an end these parts come
+-- after what has come to an end these parts come
 arrives-then : (id : ℕ) (e : End) (fs : List Part) (more : List (ℕ × Part)) (offered : List ℕ) (counted : ℕ) (g : Streams) (m : Machine) → Plain fs → hears m ≡ true → g.a.over ≡ false → g.ba_stopped ≡ false →
     Arrives (record g { a = put_end id e g.a; ba = tagged id fs ++ more }) m counted offered → Arrives (record g { a = put_end id (all_come false g.a.window fs e) g.a; ba = more }) m counted offered
 arrives-then id e fs more offered counted g m plain h over runs k =
@@ -237,7 +237,7 @@ refused-arrives x y no_memory b seen rest_ w m h k f kind refused =
     stream-arrives x y no_memory b seen rest_ w m h k true w.a.table w.a.offered m.me.offered answers frames (put id refused_end g.a.ends) (counted_by (SynArrives id counted)) kind
     (head ∙ expects-is hd true (record w.a { answers = answers })) h.a.whole.offered refl
     (keeps-refused w.a.answers id w.a.table.entries g.a.ends f.free h.a.records.each) (once-more id w.a.answers f.unrejected h.a.records.once) (λ n. pongs-rejected id n w.a.answers)
-    (ap (λ ps. ps ++ frames) (sym (stray-left hd body)))
+    (ap (λ ps. ps ++ frames) (sym (discarded-left hd body)))
     (subst (λ e. Arrives (record g { a = put_end id e g.a; ba = frames }) m (counted_by (SynArrives id counted)) m.me.offered) (refused-rest (is_data hd) (has_fin hd) body g.a.window) all)
 
 -- ---- offered

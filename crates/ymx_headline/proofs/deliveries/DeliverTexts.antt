@@ -32,7 +32,7 @@ header-text s r b seen rest parts inc t = record {
 
 -- ---- the last byte of a header
 
--- the first frame, whose header is whole now, and those behind it
+-- the first frame, whose header is whole now, and those after it
 pub record FirstFrame (s : Sender) (r : Receiver) (head rest : List ℕ) (parts : List (ℕ × Part)) : Type 0 where
   pub cut : List ℕ
   pub frame : List ℕ
@@ -86,30 +86,30 @@ first-frame s r b seen rest parts inc eleven t =
     let now : seen ++ ((b ∷ rest) ++ (s.outgoing ++ t.cut)) ≡ concat t.frames = rw none at was in
     first-of s r (seen ++ b ∷ []) rest t.cut parts t.frames t.kept t.each t.plain (omega (arith, eleven, length-append seen (b ∷ []))) (assoc seen b (rest ++ (s.outgoing ++ t.cut)) ∙ now) (rw inc at t.says) t.away t.pings t.pongs
 
--- ---- behind the header
+-- ---- after the header
 
--- what is awaited behind it
-abbrev pub awaited : Header → (stray : Bool) → Incoming
-awaited h stray = if payload h == 0 then Head [] else Payload h.id (payload h) (has_fin h) stray
+-- what is awaited after it
+abbrev pub awaited : Header → (discarded : Bool) → Incoming
+awaited h discarded = if payload h == 0 then Head [] else Payload h.id (payload h) (has_fin h) discarded
 
-none-held : (h : Header) (stray : Bool) → held_bytes (awaited h stray) ≡ []
-none-held h stray = split (λ i. held_bytes i ≡ []) (payload h == 0) (Head []) (Payload h.id (payload h) (has_fin h) stray) (λ t. refl) (λ f. refl)
+none-held : (h : Header) (discarded : Bool) → held_bytes (awaited h discarded) ≡ []
+none-held h discarded = split (λ i. held_bytes i ≡ []) (payload h == 0) (Head []) (Payload h.id (payload h) (has_fin h) discarded) (λ t. refl) (λ f. refl)
 
-lacks-all : (h : Header) (stray : Bool) → lacking (awaited h stray) ≡ payload h
-lacks-all h stray = split (λ i. lacking i ≡ payload h) (payload h == 0) (Head []) (Payload h.id (payload h) (has_fin h) stray) (λ t. sym (agrees (payload h) 0 t)) (λ f. refl)
+lacks-all : (h : Header) (discarded : Bool) → lacking (awaited h discarded) ≡ payload h
+lacks-all h discarded = split (λ i. lacking i ≡ payload h) (payload h == 0) (Head []) (Payload h.id (payload h) (has_fin h) discarded) (λ t. sym (agrees (payload h) 0 t)) (λ f. refl)
 
--- the text behind the header: the payload, then the frames behind it
-pub text-after : (s t : Sender) (r q : Receiver) (head rest : List ℕ) (parts now : List (ℕ × Part)) (stray : Bool) (k : FirstFrame s r head rest parts) → t.status ≡ s.status → t.outgoing ≡ s.outgoing →
-    q.incoming ≡ awaited (header_of head) stray → now ≡ parts_left (awaited (header_of head) stray) (drop 12 k.frame) ++ all_parts k.frames →
+-- the text after the header: the payload, then the frames after it
+pub text-after : (s t : Sender) (r q : Receiver) (head rest : List ℕ) (parts now : List (ℕ × Part)) (discarded : Bool) (k : FirstFrame s r head rest parts) → t.status ≡ s.status → t.outgoing ≡ s.outgoing →
+    q.incoming ≡ awaited (header_of head) discarded → now ≡ parts_left (awaited (header_of head) discarded) (drop 12 k.frame) ++ all_parts k.frames →
     AwayUnderWay t k.frames → PingsUnderWay t k.frames → PongsUnderWay t q k.frames → Text t q rest now
-text-after s t r q head rest parts now stray k st be inc says away pings pongs =
+text-after s t r q head rest parts now discarded k st be inc says away pings pongs =
     let h = header_of head in
-    let held : held_bytes q.incoming ≡ [] = ap held_bytes inc ∙ none-held h stray in record {
+    let held : held_bytes q.incoming ≡ [] = ap held_bytes inc ∙ none-held h discarded in record {
       cut = k.cut;
       tail = drop 12 k.frame;
       frames = k.frames;
       kept = λ c. k.kept (ap is_closed (sym st) ∙ c);
-      missing = k.long ∙ sym (ap lacking inc ∙ lacks-all h stray);
+      missing = k.long ∙ sym (ap lacking inc ∙ lacks-all h discarded);
       each = k.each;
       plain = k.plains;
       text = ap (λ xs. xs ++ (rest ++ (t.outgoing ++ k.cut))) held ∙ (ap (λ xs. rest ++ (xs ++ k.cut)) be ∙ k.text);

@@ -28,7 +28,7 @@ use Rattle.ymx_headline.proofs.stream.Happenings.{Can, acts}
 use Rattle.ymx_headline.proofs.stream.Happenings.Act.{Sends}
 use Rattle.ymx_headline.proofs.stream.Worlds.{step}
 use Rattle.ymx_law_session.specs.Limits.{IsWithin}
-use Rattle.ymx_law_session.specs.Settled.{IsSettled}
+use Rattle.ymx_law_session.specs.Reaped.{IsReaped}
 use Rattle.ymx_machine.proofs.Tests.{split}
 use Rattle.ymx_headline.specs.machine.Numbers.{HasNumber, HasNumberAt}
 use Rattle.ymx_machine.proofs.Lists.{look-change_same, look-change_other}
@@ -159,15 +159,15 @@ moved-on s r p parts g m b rest e h =
 -- the records of side A change, and a byte goes out
 pub moved-changes : (x y : Role) (w : World) (m : Machine) (h : AgreesAs x y w m) (t : Table) (begun : Outgoing) (b : ℕ) (streams : List (ℕ × Stream)) (ends : ℕ → End) →
     w.a.outgoing.bytes ≡ b ∷ begun.bytes → t.window ≡ w.a.table.window → ((i : ℕ) → Keeps w.a.answers i (look i t.entries) (ends i)) →
-    IsWithin (record w.a { table = t; outgoing = begun }) → IsSettled (record w.a { table = t; outgoing = begun }) →
+    IsWithin (record w.a { table = t; outgoing = begun }) → IsReaped (record w.a { table = t; outgoing = begun }) →
     Refines (record h.streams { a = record h.streams.a { ends = ends } }) (found (record m { streams = streams })) → IsNumbered (record m { streams = streams }) →
     AgreesAs x y (record w { a = record w.a { table = t; outgoing = begun }; ab = pushed (b ∷ []) w.ab }) (record m { streams = streams })
-moved-changes x y w m h t begun b streams ends eb ew keeps within settled refines order = record {
+moved-changes x y w m h t begun b streams ends eb ew keeps within reaped refines order = record {
   roles = h.roles;
   streams = record h.streams { a = record h.streams.a { ends = ends } };
   refines = refines;
   a = in-streams h.a t w.a.next m.me.next w.a.offered m.me.offered w.a.answers begun (record h.streams.a { ends = ends }) h.a.whole.next h.a.whole.offered ew
-      (record { window = h.a.records.window ∙ sym ew; over = h.a.records.over; each = keeps; once = h.a.records.once }) within settled;
+      (record { window = h.a.records.window ∙ sym ew; over = h.a.records.over; each = keeps; once = h.a.records.once }) within reaped;
   b = h.b;
   ab = moved-on (sending w.a m.me) (hearing w.b m.you) w.ab h.streams.ab h.streams.ab_stopped m.outbound_stopped b begun.bytes eb h.ab;
   ba = h.ba;
@@ -204,8 +204,8 @@ runs-open (Broken f) e = refl
 runs-open Closed e = absurd cc
 
 pub begun-agrees : (x y : Role) (w : World) (m : Machine) (h : AgreesAs x y w m) (id limit : ℕ) (k : FrameKind) (e : End) → is_running w.a.status ≡ true → w.a.outgoing.bytes ≡ [] → limit ≤ first_credit →
-    look id w.a.table.entries ≡ Some e → next_kind w.a.table.window e ≡ Some k → IsWithin (begun_with id limit k e w.a) → IsSettled (begun_with id limit k e w.a) → AgreesAs x y (record w { a = begun_with id limit k e w.a }) m
-begun-agrees x y w m h id limit k e runs none few l due within settled =
+    look id w.a.table.entries ≡ Some e → next_kind w.a.table.window e ≡ Some k → IsWithin (begun_with id limit k e w.a) → IsReaped (begun_with id limit k e w.a) → AgreesAs x y (record w { a = begun_with id limit k e w.a }) m
+begun-agrees x y w m h id limit k e runs none few l due within reaped =
     let g = h.streams in
     let win = w.a.table.window in
     let begun = begun_with id limit k e w.a in
@@ -232,7 +232,7 @@ begun-agrees x y w m h id limit k e runs none few l due within settled =
             each = keeps-put w.a.answers id w.a.table.entries (change id (begin_frame win limit k) w.a.table.entries) f g.a.ends (λ i n. h.a.records.each i)
                 (λ i n. look-change_other id i (begin_frame win limit k) w.a.table.entries n) (subst (λ o. Keeps w.a.answers id o f) (sym now) (same, kept.1));
           })
-          within settled;
+          within reaped;
       b = h.b;
       ab = text-changes (sending w.a m.me) _ (hearing w.b m.you) w.ab g.ab _ _ _
           (λ t. subst (λ ps. Text (sending (begun_with id limit k e w.a) m.me) (hearing w.b m.you) w.ab.bytes (g.ab ++ tagged id ps)) parts

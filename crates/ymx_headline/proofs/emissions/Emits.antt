@@ -11,9 +11,9 @@ use Rattle.ymx_model.specs.declared.types.FrameKind.{FrameKind}
 use Rattle.ymx_model.specs.session.FramesDue.{next_kind, is_due, is_empty}
 use Rattle.ymx_machine.specs.shared.Lists.{look, change, without}
 use Rattle.ymx_model.specs.session.Tables.{remove_record}
-use Rattle.ymx_model.specs.session.Sessions.{Session, Outgoing, nothing_outgoing, is_running, is_broken, belongs_to, is_spent, settle}
-use Rattle.ymx_model.specs.session.Emissions.{Choice, begin, begins, alarm_frame, begin_stream, begin_kind, moves_on, settles, Ready, Flows}
-use Rattle.ymx_model.specs.session.Emissions.Choice.{TheAlarm, AStream}
+use Rattle.ymx_model.specs.session.Sessions.{Session, Outgoing, nothing_outgoing, is_running, is_broken, belongs_to, is_spent, reap}
+use Rattle.ymx_model.specs.session.Emissions.{Choice, begin, begins, error_frame, begin_stream, begin_kind, moves_on, reaps, Ready, Flows}
+use Rattle.ymx_model.specs.session.Emissions.Choice.{TheErrorDue, AStream}
 use Rattle.ymx_model.specs.world.Worlds.{World, Pipe, pushed}
 use Rattle.ymx_machine.specs.machine.Machines.{Machine}
 use Rattle.ymx_machine.specs.machine.FreeMoves.{moved_by, Releases}
@@ -23,11 +23,11 @@ use Rattle.ymx_headline.proofs.stream.Happenings.{Can, put}
 use Rattle.ymx_headline.proofs.stream.Happenings.Act.{Releases as ActReleases}
 use Rattle.ymx_headline.proofs.stream.Worlds.{step}
 use Rattle.ymx_law_session.specs.Limits.{IsWithin}
-use Rattle.ymx_law_session.specs.Settled.{IsSettled}
+use Rattle.ymx_law_session.specs.Reaped.{IsReaped}
 use Rattle.ymx_machine.proofs.Tests.{split, both_of, none_of, not_lt}
 use Rattle.ymx_machine.proofs.Lists.{look-without_same, look-without_other}
 use Rattle.ymx_law_session.proofs.limits.EmissionsKeep.{some_if, none_if, if_some, begin-keeps, moves-keep}
-use Rattle.ymx_law_session.proofs.given_up.SettledFrames.{begin-settled, moves-settled}
+use Rattle.ymx_law_session.proofs.given_up.ReapedFrames.{begin-reaped, moves-reaped}
 use Rattle.ymx_headline.proofs.records.Calls.{lingers, none_due}
 use Rattle.ymx_headline.proofs.world.Emitted.{empty-bytes, first_and_rest, only_one}
 use Rattle.ymx_headline.specs.Agrees.{AgreesAs, Keeps, found}
@@ -48,20 +48,20 @@ pub is_not : (b : Bool) → not b ≡ true → b ≡ false
 is_not true e = cc
 is_not false e = refl
 
-stays-byte : (x y : Role) (w : World) (m : Machine) (h : AgreesAs x y w m) (b : ℕ) (begun : Outgoing) → w.a.outgoing.bytes ≡ b ∷ begun.bytes → IsWithin (record w.a { outgoing = begun }) → IsSettled (record w.a { outgoing = begun }) →
+stays-byte : (x y : Role) (w : World) (m : Machine) (h : AgreesAs x y w m) (b : ℕ) (begun : Outgoing) → w.a.outgoing.bytes ≡ b ∷ begun.bytes → IsWithin (record w.a { outgoing = begun }) → IsReaped (record w.a { outgoing = begun }) →
     Emitted x y (b ∷ []) w (record w.a { outgoing = begun }) m
-stays-byte x y w m h b begun e within settle = record {
+stays-byte x y w m h b begun e within reap = record {
   ids = [];
   now = m;
   releases = refl;
-  agrees = moved-changes x y w m h w.a.table begun b m.streams h.streams.a.ends e refl h.a.records.each within settle h.refines h.order;
+  agrees = moved-changes x y w m h w.a.table begun b m.streams h.streams.a.ends e refl h.a.records.each within reap h.refines h.order;
 }
 
 goes-byte : (x y : Role) (w : World) (m : Machine) (h : AgreesAs x y w m) (b id : ℕ) (o : Option End) → w.a.outgoing.bytes ≡ b ∷ [] → look id w.a.table.entries ≡ o → is_spent w.a.table.window nothing_outgoing id o ≡ true →
-    IsWithin (record w.a { table = remove_record id w.a.table; outgoing = nothing_outgoing }) → IsSettled (record w.a { table = remove_record id w.a.table; outgoing = nothing_outgoing }) →
+    IsWithin (record w.a { table = remove_record id w.a.table; outgoing = nothing_outgoing }) → IsReaped (record w.a { table = remove_record id w.a.table; outgoing = nothing_outgoing }) →
     Emitted x y (b ∷ []) w (record w.a { table = remove_record id w.a.table; outgoing = nothing_outgoing }) m
-goes-byte x y w m h b id None e l spent within settle = absurd cc
-goes-byte x y w m h b id (Some d) e l spent within settle =
+goes-byte x y w m h b id None e l spent within reap = absurd cc
+goes-byte x y w m h b id (Some d) e l spent within reap =
     let g = h.streams in
     let win = w.a.table.window in
     let p = both_of (is_lingering d.phase && not (is_due win d)) (not (belongs_to nothing_outgoing.of id)) spent in
@@ -84,23 +84,23 @@ goes-byte x y w m h b id (Some d) e l spent within settle =
       releases = goes;
       agrees = moved-changes x y w m h (remove_record id w.a.table) nothing_outgoing b streams (put id f g.a.ends) e refl
           (keeps-put w.a.answers id w.a.table.entries (without id w.a.table.entries) f g.a.ends (λ i n. h.a.records.each i) (λ i n. look-without_other id i w.a.table.entries n) now_kept)
-          within settle (refines-same _ r.0 _ (change-found id (after_move Released) r.1.0 _ m r.0 refl r.1.2) r.2) (order-releases m now (id ∷ []) (parity x y w m h) goes h.order);
+          within reap (refines-same _ r.0 _ (change-found id (after_move Released) r.1.0 _ m r.0 refl r.1.2) r.2) (order-releases m now (id ∷ []) (parity x y w m h) goes h.order);
     }
 
 last-byte : (x y : Role) (w : World) (m : Machine) (h : AgreesAs x y w m) (b : ℕ) (of : Option ℕ) → w.a.outgoing.bytes ≡ b ∷ [] →
-    IsWithin (settles of (record w.a { outgoing = nothing_outgoing })) → IsSettled (settles of (record w.a { outgoing = nothing_outgoing })) → Emitted x y (b ∷ []) w (settles of (record w.a { outgoing = nothing_outgoing })) m
-last-byte x y w m h b None e within settle = stays-byte x y w m h b nothing_outgoing e within settle
-last-byte x y w m h b (Some id) e within settle =
+    IsWithin (reaps of (record w.a { outgoing = nothing_outgoing })) → IsReaped (reaps of (record w.a { outgoing = nothing_outgoing })) → Emitted x y (b ∷ []) w (reaps of (record w.a { outgoing = nothing_outgoing })) m
+last-byte x y w m h b None e within reap = stays-byte x y w m h b nothing_outgoing e within reap
+last-byte x y w m h b (Some id) e within reap =
     let s : Session = record w.a { outgoing = nothing_outgoing } in
-    split (λ z. IsWithin z → IsSettled z → Emitted x y (b ∷ []) w z m) (is_spent s.table.window s.outgoing id (look id s.table.entries)) (record s { table = remove_record id s.table }) s
-    (λ t i k. goes-byte x y w m h b id (look id w.a.table.entries) e refl t i k) (λ f i k. stays-byte x y w m h b nothing_outgoing e i k) within settle
+    split (λ z. IsWithin z → IsReaped z → Emitted x y (b ∷ []) w z m) (is_spent s.table.window s.outgoing id (look id s.table.entries)) (record s { table = remove_record id s.table }) s
+    (λ t i k. goes-byte x y w m h b id (look id w.a.table.entries) e refl t i k) (λ f i k. stays-byte x y w m h b nothing_outgoing e i k) within reap
 
 pub one-byte : (x y : Role) (w : World) (m : Machine) (h : AgreesAs x y w m) (b : ℕ) → take 1 w.a.outgoing.bytes ≡ b ∷ [] → Emitted x y (b ∷ []) w (moves_on 1 w.a) m
 one-byte x y w m h b e =
-    split (λ z. IsWithin z → IsSettled z → Emitted x y (b ∷ []) w z m) (nat_lt 1 (length w.a.outgoing.bytes))
-    (record w.a { outgoing = record { bytes = drop 1 w.a.outgoing.bytes; of = w.a.outgoing.of } }) (settles w.a.outgoing.of (record w.a { outgoing = nothing_outgoing }))
+    split (λ z. IsWithin z → IsReaped z → Emitted x y (b ∷ []) w z m) (nat_lt 1 (length w.a.outgoing.bytes))
+    (record w.a { outgoing = record { bytes = drop 1 w.a.outgoing.bytes; of = w.a.outgoing.of } }) (reaps w.a.outgoing.of (record w.a { outgoing = nothing_outgoing }))
     (λ t i k. stays-byte x y w m h b _ (first_and_rest b w.a.outgoing.bytes e) i k) (λ f i k. last-byte x y w m h b w.a.outgoing.of (only_one b w.a.outgoing.bytes e f) i k)
-    (moves-keep 1 w.a h.a.within) (moves-settled 1 w.a h.a.within.table.distinct h.a.settled)
+    (moves-keep 1 w.a h.a.within) (moves-reaped 1 w.a h.a.within.table.distinct h.a.reaped)
 
 -- ---- bytes
 
@@ -154,7 +154,7 @@ stream-begins id limit x y w m t h none b =
     at-kind runs few e l (Some k) n q =
         let same : t ≡ begun_with id limit k e w.a = some-same _ t q in
         subst (λ z. AgreesAs x y (record w { a = z }) m) (sym same) (begun-agrees x y w m h id limit k e runs (empty-bytes w.a.outgoing.bytes none) few l n
-        (subst IsWithin same (begin-keeps (AStream id limit) w.a t b h.a.within)) (subst IsSettled same (begin-settled (AStream id limit) w.a t none b h.a.settled)))
+        (subst IsWithin same (begin-keeps (AStream id limit) w.a t b h.a.within)) (subst IsReaped same (begin-reaped (AStream id limit) w.a t none b h.a.reaped)))
 
     at-look : is_running w.a.status ≡ true → (o : Option End) → look id w.a.table.entries ≡ o → begin_stream id limit o w.a ≡ Some t → AgreesAs x y (record w { a = t }) m
     at-look runs None l q = cc
@@ -163,10 +163,10 @@ stream-begins id limit x y w m t h none b =
         let few = not_lt first_credit limit (none_of (limit == 0) (nat_lt first_credit limit) n.0).1 in
         at-kind runs few e l (next_kind w.a.table.window e) refl n.1
 
--- ---- the alarm is of a session that broke
+-- ---- the error frame is of a session that broke
 
-pub alarm-begins : BeginsAlike TheAlarm
-alarm-begins x y w m t h none b =
-    let p = some_if (w.a.alarm && is_broken w.a.status) (begins alarm_frame (record w.a { alarm = false })) t b in
-    let q = (both_of w.a.alarm (is_broken w.a.status) p.0).1 in
+pub error_due-begins : BeginsAlike TheErrorDue
+error_due-begins x y w m t h none b =
+    let p = some_if (w.a.error_due && is_broken w.a.status) (begins error_frame (record w.a { error_due = false })) t b in
+    let q = (both_of w.a.error_due (is_broken w.a.status) p.0).1 in
     let no : false ≡ true = sym h.a.whole.sound ∙ q in absurd cc

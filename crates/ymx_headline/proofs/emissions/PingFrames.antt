@@ -18,11 +18,11 @@ use Rattle.ymx_model.specs.world.Worlds.{World}
 use Rattle.ymx_machine.specs.machine.Machines.{Machine, PingPlace}
 use Rattle.ymx_machine.specs.machine.Machines.PingPlace.{Asked, There, Back}
 use Rattle.ymx_law_session.specs.Limits.{IsWithin}
-use Rattle.ymx_law_session.specs.Settled.{IsSettled}
+use Rattle.ymx_law_session.specs.Reaped.{IsReaped}
 use Rattle.ymx_law_session.proofs.limits.Pings.{pending-staged}
 use Rattle.ymx_machine.proofs.Tests.{both_of, same_or_not}
 use Rattle.ymx_law_session.proofs.limits.EmissionsKeep.{some_if, if_some, begin-keeps}
-use Rattle.ymx_law_session.proofs.given_up.SettledFrames.{begin-settled}
+use Rattle.ymx_law_session.proofs.given_up.ReapedFrames.{begin-reaped}
 use Rattle.ymx_headline.proofs.world.Emitted.{empty-bytes}
 use Rattle.ymx_headline.proofs.world.Frames.{short-frame}
 use Rattle.ymx_headline.specs.Agrees.{AgreesAs, SameEnds, Sender, Receiver, Text, sending, hearing, count_in, is_go_away, asks, replies, pongs, pongs_of, is_asked_at}
@@ -89,9 +89,9 @@ answers-less : (s : Session) (t : Session) (n : ℕ) (more : List Response) (end
 answers-less s t n more ends h = record { window = h.window; over = h.over; each = h.each; once = h.once }
 
 pong-begins : (x y : Role) (w : World) (m : Machine) (h : AgreesAs x y w m) (n : ℕ) (more : List Response) → w.a.answers ≡ Pong n ∷ more → is_running w.a.status ≡ true → w.a.outgoing.bytes ≡ [] →
-    IsWithin (begins (answer_frame (Pong n)) (record w.a { answers = more })) → IsSettled (begins (answer_frame (Pong n)) (record w.a { answers = more })) →
+    IsWithin (begins (answer_frame (Pong n)) (record w.a { answers = more })) → IsReaped (begins (answer_frame (Pong n)) (record w.a { answers = more })) →
     AgreesAs x y (record w { a = begins (answer_frame (Pong n)) (record w.a { answers = more }) }) m
-pong-begins x y w m h n more e runs none within settled = record {
+pong-begins x y w m h n more e runs none within reaped = record {
   roles = h.roles;
   streams = h.streams;
   refines = h.refines;
@@ -101,7 +101,7 @@ pong-begins x y w m h n more e runs none within settled = record {
     pings = h.a.pings;
     away = h.a.away;
     within = within;
-    settled = settled;
+    reaped = reaped;
   };
   b = h.b;
   ab = text-changes (sending w.a m.me) _ (hearing w.b m.you) w.ab h.streams.ab h.streams.ab _ _
@@ -126,12 +126,12 @@ answer-begins x y w m t h none b =
         let now : Session = begins (answer_frame (Pong n)) (record w.a { answers = more }) in
         let same : t ≡ now = some-is now t q in
         subst (λ z. AgreesAs x y (record w { a = z }) m) (sym same) (pong-begins x y w m h n more e runs (empty-bytes w.a.outgoing.bytes none)
-        (subst IsWithin same (begin-keeps TheAnswer w.a t b h.a.within)) (subst IsSettled same (begin-settled TheAnswer w.a t none b h.a.settled)))
+        (subst IsWithin same (begin-keeps TheAnswer w.a t b h.a.within)) (subst IsReaped same (begin-reaped TheAnswer w.a t none b h.a.reaped)))
     of (Reject j ∷ more) e runs q =
         let now : Session = begins (answer_frame (Reject j)) (record w.a { answers = more }) in
         let same : t ≡ now = some-is now t q in
         subst (λ z. AgreesAs x y (record w { a = z }) m) (sym same) (reject-begins x y w m h j more e runs (empty-bytes w.a.outgoing.bytes none)
-        (subst IsWithin same (begin-keeps TheAnswer w.a t b h.a.within)) (subst IsSettled same (begin-settled TheAnswer w.a t none b h.a.settled)))
+        (subst IsWithin same (begin-keeps TheAnswer w.a t b h.a.within)) (subst IsReaped same (begin-reaped TheAnswer w.a t none b h.a.reaped)))
 
 -- ---- a ping
 
@@ -202,7 +202,7 @@ ping-begins n x y w m t h none b =
             back = λ x. h.a.pings.back x ∙ sym (sent-back n x w.a.pings.pending q.1);
             fits = λ x e. h.a.pings.fits x (sym (pending-staged Sent n x w.a.pings.pending) ∙ e);
           })
-          h.a.away (subst IsWithin p.1 (begin-keeps (ThePing n) w.a t b h.a.within)) (subst IsSettled p.1 (begin-settled (ThePing n) w.a t none b h.a.settled));
+          h.a.away (subst IsWithin p.1 (begin-keeps (ThePing n) w.a t b h.a.within)) (subst IsReaped p.1 (begin-reaped (ThePing n) w.a t none b h.a.reaped));
       b = h.b;
       ab = text-changes (sending w.a m.me) _ (hearing w.b m.you) w.ab h.streams.ab h.streams.ab _ _
           (ping-text (sending w.a m.me) (hearing w.b m.you) w.ab.bytes h.streams.ab n small q.0 (runs-open w.a.status q.0) q.1 (empty-bytes w.a.outgoing.bytes none)) h.ab;

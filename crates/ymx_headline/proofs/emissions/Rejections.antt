@@ -21,7 +21,7 @@ use Rattle.ymx_headline.proofs.stream.Happenings.{Can, acts, put}
 use Rattle.ymx_headline.proofs.stream.Happenings.Act.{Sends}
 use Rattle.ymx_headline.proofs.stream.Worlds.{step, put-same, put-other}
 use Rattle.ymx_law_session.specs.Limits.{IsWithin}
-use Rattle.ymx_law_session.specs.Settled.{IsSettled}
+use Rattle.ymx_law_session.specs.Reaped.{IsReaped}
 use Rattle.ymx_machine.proofs.Tests.{same_or_not}
 use Rattle.ymx_headline.specs.Agrees.{AgreesAs, Keeps, OnlyRejects, RejectsOnce, Sender, Receiver, Text, sending, hearing, found, is_absent, is_rejected, pongs}
 use Rattle.ymx_headline.proofs.relation.Mirrors.{refines-same}
@@ -33,7 +33,7 @@ use Rattle.ymx_headline.proofs.emissions.Begun.{begun-text, spelled-is, fits, ru
 absent-idle : (window : ℕ) (e : End) → is_absent e.phase ≡ true → OnlyRejects true e → next_kind window e ≡ Some Reset
 absent-idle window e a o = rw (o.syn, o.ack, o.rst) refl
 
--- behind another number's rejection a number keeps what it kept
+-- after another number's rejection a number keeps what it kept
 other-rejected : (answers : List Response) (j i : ℕ) → i ≢ j → is_rejected i (Reject j ∷ answers) ≡ is_rejected i answers
 other-rejected answers j i n = let k : (j == i) ≡ false = grind (arith, nat_tests) in rw k refl
 
@@ -84,9 +84,9 @@ text-answers : (s : Sender) (r : Receiver) (bytes : List ℕ) (parts : List (ℕ
 text-answers s r bytes parts j more e t = answered-text s r bytes parts more (λ n. sym (ap (pongs n) e)) t
 
 pub reject-begins : (x y : Role) (w : World) (m : Machine) (h : AgreesAs x y w m) (j : ℕ) (more : List Response) → w.a.answers ≡ Reject j ∷ more → is_running w.a.status ≡ true → w.a.outgoing.bytes ≡ [] →
-    IsWithin (begins (answer_frame (Reject j)) (record w.a { answers = more })) → IsSettled (begins (answer_frame (Reject j)) (record w.a { answers = more })) →
+    IsWithin (begins (answer_frame (Reject j)) (record w.a { answers = more })) → IsReaped (begins (answer_frame (Reject j)) (record w.a { answers = more })) →
     AgreesAs x y (record w { a = begins (answer_frame (Reject j)) (record w.a { answers = more }) }) m
-reject-begins x y w m h j more e runs none within settled =
+reject-begins x y w m h j more e runs none within reaped =
     let g = h.streams in
     let begun = begins (answer_frame (Reject j)) w.a in
     let each : (i : ℕ) → Keeps (Reject j ∷ more) i (look i w.a.table.entries) (g.a.ends i) = subst (λ a. (i : ℕ) → Keeps a i (look i w.a.table.entries) (g.a.ends i)) e h.a.records.each in
@@ -100,7 +100,7 @@ reject-begins x y w m h j more e runs none within settled =
       streams = acts (Sends j Reset 0) g;
       refines = rejects g m j more (look j w.a.table.entries) h.refines over (each j);
       a = in-streams h.a w.a.table w.a.next m.me.next w.a.offered m.me.offered more begun.outgoing (acts (Sends j Reset 0) g).a h.a.whole.next h.a.whole.offered refl
-          (record { window = h.a.records.window; over = h.a.records.over; once = once.1; each = rejection-goes g.a.window more j w.a.table.entries g.a.ends once each }) within settled;
+          (record { window = h.a.records.window; over = h.a.records.over; once = once.1; each = rejection-goes g.a.window more j w.a.table.entries g.a.ends once each }) within reaped;
       b = h.b;
       ab = text-changes (sending w.a m.me) _ (hearing w.b m.you) w.ab g.ab _ _ _
           (λ t. begun-text (record (sending w.a m.me) { answers = more }) (hearing w.b m.you) w.ab.bytes g.ab j (Rst ∷ []) (answer_frame (Reject j)) (runs-open w.a.status runs) none is

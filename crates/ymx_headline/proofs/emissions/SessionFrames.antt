@@ -16,9 +16,9 @@ use Rattle.ymx_model.specs.session.Emissions.Choice.{TheGoAway}
 use Rattle.ymx_model.specs.world.UnderWay.{IsOneFrame, held_bytes}
 use Rattle.ymx_machine.proofs.Tests.{both_of}
 use Rattle.ymx_law_session.specs.Limits.{IsWithin}
-use Rattle.ymx_law_session.specs.Settled.{IsSettled}
+use Rattle.ymx_law_session.specs.Reaped.{IsReaped}
 use Rattle.ymx_law_session.proofs.limits.EmissionsKeep.{some_if, begin-keeps}
-use Rattle.ymx_law_session.proofs.given_up.SettledFrames.{begin-settled}
+use Rattle.ymx_law_session.proofs.given_up.ReapedFrames.{begin-reaped}
 use Rattle.ymx_headline.proofs.world.Emitted.{empty-bytes}
 use Rattle.ymx_headline.proofs.world.Frames.{short-frame}
 use Rattle.ymx_headline.specs.Agrees.{AgreesAs, Sender, Receiver, Text, AwayUnderWay, PingsUnderWay, PongsUnderWay, sending, hearing, IsPlainFrame, parts_in, all_parts, parts_left, count_in, is_go_away, asks, replies}
@@ -106,7 +106,7 @@ go_away-begins x y w m t h none b =
       refines = h.refines;
       a = beside-streams h.a w.a.pings m.me.next_ping m.me.pings Sent m.me.away now.outgoing h.a.pings
           (record { said = h.a.away.said ∙ ap (λ z. not (was_said z)) (is-due w.a.away.here q.1); arrived = h.a.away.arrived })
-          (subst IsWithin p.1 (begin-keeps TheGoAway w.a t b h.a.within)) (subst IsSettled p.1 (begin-settled TheGoAway w.a t none b h.a.settled));
+          (subst IsWithin p.1 (begin-keeps TheGoAway w.a t b h.a.within)) (subst IsReaped p.1 (begin-reaped TheGoAway w.a t none b h.a.reaped));
       b = h.b;
       ab = text-changes (sending w.a m.me) _ (hearing w.b m.you) w.ab h.streams.ab h.streams.ab _ _
           (go_away-text (sending w.a m.me) (hearing w.b m.you) w.ab.bytes h.streams.ab q.0 (runs-open w.a.status q.0) q.1 (empty-bytes w.a.outgoing.bytes none)) h.ab;

@@ -18,7 +18,7 @@ use Rattle.ymx_model.specs.declared.types.FrameKind.{FrameKind}
 use Rattle.ymx_model.specs.session.FramesDue.{next_kind, is_due}
 use Rattle.ymx_machine.specs.shared.Lists.{look, Distinct}
 use Rattle.ymx_model.specs.session.Tables.{remove_record}
-use Rattle.ymx_model.specs.session.Sessions.{Session, is_lost, is_closed, belongs_to, is_spent, on_stream, settle}
+use Rattle.ymx_model.specs.session.Sessions.{Session, is_lost, is_closed, belongs_to, is_spent, on_stream, reap}
 use Rattle.ymx_model.specs.session.Calls.{Outcome, outcome, at_stream, write_outcome, read_outcome, if_done, finish_outcome, reset_outcome, forget_outcome, takes_memory, unsent_count, write_to}
 use Rattle.ymx_model.specs.session.Histories.{CallGives}
 use Rattle.ymx_model.specs.session.Histories.CallGives.{Outcome as HasOutcome, NoMemory}
@@ -49,9 +49,9 @@ pub has-some : (window : ℕ) (e : End) (o : Option End) → o ≡ Some e → Ha
 has-some window e o p = let P : Option End → Type 0 = Has window e in subst P (sym p) refl
 
 -- a record that changes is the changed end, or has gone as one that was given up
-pub settled-has : (id : ℕ) (e : End) (s : Session) → look id s.table.entries ≡ Some e → Distinct s.table.entries →
-    Has s.table.window e (look id (settle id s).table.entries)
-settled-has id e s l d =
+pub reaped-has : (id : ℕ) (e : End) (s : Session) → look id s.table.entries ≡ Some e → Distinct s.table.entries →
+    Has s.table.window e (look id (reap id s).table.entries)
+reaped-has id e s l d =
     split (λ x. Has s.table.window e (look id x.table.entries)) (is_spent s.table.window s.outgoing id (look id s.table.entries)) (record s { table = remove_record id s.table }) s
     (λ t. let z : is_spent s.table.window s.outgoing id (Some e) ≡ true = rw l at t in
     let p = both_of (is_lingering e.phase && not (is_due s.table.window e)) (not (belongs_to s.outgoing.of id)) z in
@@ -159,8 +159,8 @@ forget-follows id e s l w =
     let f = end_forget (is_lost s.status) in record {
       next = if is_done r then f e else e;
       rule = (refl, refl);
-      has = done-follows s.table.window id r e (f e) s (settle id (on_stream id f s)) l
-          (settled-has id (f e) (on_stream id f s) (on-look id f e s l) (distinct-change id f s.table.entries w.table.distinct));
+      has = done-follows s.table.window id r e (f e) s (reap id (on_stream id f s)) l
+          (reaped-has id (f e) (on_stream id f s) (on-look id f e s l) (distinct-change id f s.table.entries w.table.distinct));
     }
 
 -- a call that finds its memory

@@ -14,7 +14,7 @@ use Rattle.ymx_headline.proofs.stream.Happenings.{new_streams as new_streams}
 use Rattle.ymx_headline.proofs.stream.Worlds.{new-refines}
 use Rattle.ymx_headline.specs.machine.Numbers.{HasOrder}
 use Rattle.ymx_law_session.proofs.limits.HistoriesKeep.{new-keeps, odd_some}
-use Rattle.ymx_law_session.proofs.given_up.SettledFrames.{new-settled}
+use Rattle.ymx_law_session.proofs.given_up.ReapedFrames.{new-reaped}
 use Rattle.ymx_headline.specs.Agrees.{Agrees, AgreesAt, AgreesOn, IsPlainFrame, sending, hearing}
 
 new-at : (role : Role) (window first : ℕ) → first_credit ≤ window → window ≤ 16777216 → is_own role first ≡ true → 0 < first → first < 2 ^ 32 →
@@ -25,7 +25,7 @@ new-at role window first low high own some small = record {
   pings = record { next = refl; numbers = refl; back = λ n. refl; fits = λ n t. absurd cc };
   away = record { said = refl; arrived = refl };
   within = new-keeps role window first low high own some small;
-  settled = new-settled role window first;
+  reaped = new-reaped role window first;
 }
 
 new-on : (s r : Role) (ws fs wr fr : ℕ) → AgreesOn (sending (new_session s ws fs) (new_side ws fs)) (hearing (new_session r wr fr) (new_side wr fr)) new_pipe [] false false

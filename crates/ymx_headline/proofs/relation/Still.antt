@@ -33,7 +33,7 @@ use Rattle.ymx_law_session.specs.Limits.{IsWithin}
 use Rattle.ymx_law_session.proofs.limits.FeedsKeep.{header_few, payload_some}
 use Rattle.ymx_law_session.proofs.limits.Pings.{asked-some}
 use Rattle.ymx_law_session.proofs.due.Ready.{any-of}
-use Rattle.ymx_law_session.proofs.given_up.SettledFrames.{none-linger}
+use Rattle.ymx_law_session.proofs.given_up.ReapedFrames.{none-linger}
 use Rattle.ymx_machine.proofs.Tests.{none_of, both_of, same_or_not}
 use Rattle.ymx_headline.proofs.world.Emitted.{empty-bytes}
 use Rattle.ymx_headline.specs.Agrees.{AgreesAs, Keeps, OnlyRejects, Text, sending, hearing, found, is_absent, is_rejected, parts_left, count_in, is_go_away, asks, replies, is_asked_at, is_there_at}
@@ -66,8 +66,8 @@ no-answers (r ∷ rs) e = absurd cc
 
 pub idle : (s : Session) → is_running s.status ≡ true → is_ready s ≡ false → IsIdle s
 idle s runs r =
-    let p = none_of (not (is_empty s.outgoing.bytes) || (s.alarm && is_broken s.status)) _ r in
-    let q = none_of (not (is_empty s.outgoing.bytes)) (s.alarm && is_broken s.status) p.0 in
+    let p = none_of (not (is_empty s.outgoing.bytes) || (s.error_due && is_broken s.status)) _ r in
+    let q = none_of (not (is_empty s.outgoing.bytes)) (s.error_due && is_broken s.status) p.0 in
     let z : (away_due s.away.here || not (no_answers s.answers) || is_some (first_asked s.pings.pending) || any_due s.table.window s.table.entries) ≡ false = rw runs at p.1 in
     let a = none_of _ (any_due s.table.window s.table.entries) z in
     let b = none_of _ (is_some (first_asked s.pings.pending)) a.0 in
@@ -89,19 +89,19 @@ few-none seen [] few a e = refl
 few-none seen (f ∷ fs) few a e =
     let one = All-head IsOneFrame f fs a in let l = ap length e in absurd (omega (arith, one.header, length-append f (concat fs)))
 
-no-frames : (i : Incoming) (tail : List ℕ) (frames : List (List ℕ)) → ((seen : List ℕ) → i ≡ Head seen → length seen < 12) → ((id n : ℕ) (fin stray : Bool) → i ≡ Payload id n fin stray → 0 < n) →
+no-frames : (i : Incoming) (tail : List ℕ) (frames : List (List ℕ)) → ((seen : List ℕ) → i ≡ Head seen → length seen < 12) → ((id n : ℕ) (fin discarded : Bool) → i ≡ Payload id n fin discarded → 0 < n) →
     length tail ≡ lacking i → All IsOneFrame frames → held_bytes i ++ [] ≡ tail ++ concat frames → (frames ≡ []) × (parts_left i tail ≡ [])
 no-frames (Head seen) [] frames few some l a e = (few-none seen frames (few seen refl) a (sym (append-nil seen) ∙ e), refl)
 no-frames (Head seen) (x ∷ tail) frames few some l a e = absurd (omega arith)
-no-frames (Payload id n fin stray) [] frames few some l a e = let p = some id n fin stray refl in absurd (omega arith)
-no-frames (Payload id n fin stray) (x ∷ tail) frames few some l a e = absurd cc
+no-frames (Payload id n fin discarded) [] frames few some l a e = let p = some id n fin discarded refl in absurd (omega arith)
+no-frames (Payload id n fin discarded) (x ∷ tail) frames few some l a e = absurd cc
 
 text-empty : (held bytes begun cut all : List ℕ) → bytes ≡ [] → begun ≡ [] → cut ≡ [] → held ++ (bytes ++ (begun ++ cut)) ≡ all → held ++ [] ≡ all
 text-empty held bytes begun cut all b g c t = let k : held ++ [] ≡ all = rw (b, g, c) at t in k
 
 pub none-frames : (w : World) (m : Machine) (parts : List (ℕ × Part)) → IsWithin w.b → w.ab.bytes ≡ [] → w.a.outgoing.bytes ≡ [] → is_running w.a.status ≡ true → (t : Text (sending w.a m.me) (hearing w.b m.you) w.ab.bytes parts) → (t.frames ≡ []) × (parts_left w.b.incoming t.tail ≡ [])
 none-frames w m parts within b g r t =
-    no-frames w.b.incoming t.tail t.frames (λ seen inc. header_few seen w.b inc within) (λ id n fin stray inc. payload_some id n fin stray w.b inc within) t.missing t.each
+    no-frames w.b.incoming t.tail t.frames (λ seen inc. header_few seen w.b inc within) (λ id n fin discarded inc. payload_some id n fin discarded w.b inc within) t.missing t.each
     (text-empty (held_bytes w.b.incoming) w.ab.bytes w.a.outgoing.bytes t.cut (t.tail ++ concat t.frames) b g (t.kept (runs-open w.a.status r)) t.text)
 
 -- what is left to say of a direction, seen from its sender
@@ -154,7 +154,7 @@ ends-quiet x y w m h i id =
       where
         not-lingering : (p : Phase) → is_absent p ≡ true → is_lingering p ≡ false
         not-lingering p e = grind arith
-    gone (Some d) l k = subst (λ (z : End). is_lingering z.phase ≡ false) k.0 (none-linger w.a h.a.settled i.runs i.ready id d l)
+    gone (Some d) l k = subst (λ (z : End). is_lingering z.phase ≡ false) k.0 (none-linger w.a h.a.reaped i.runs i.ready id d l)
 
 -- ---- lists
 

@@ -20,7 +20,7 @@ use Rattle.ymx_headline.proofs.stream.Happenings.{Changes, Adds, Same, acts, put
 use Rattle.ymx_headline.proofs.stream.Happenings.Act.{Calls}
 use Rattle.ymx_headline.proofs.stream.Worlds.{step, put-same, put-other}
 use Rattle.ymx_law_session.specs.Limits.{IsWithin}
-use Rattle.ymx_law_session.specs.Settled.{IsSettled}
+use Rattle.ymx_law_session.specs.Reaped.{IsReaped}
 use Rattle.ymx_machine.proofs.Tests.{same_or_not}
 use Rattle.ymx_headline.proofs.machine.order.Maps.{look-change, look-change_other, look-add, look-add_other}
 use Rattle.ymx_headline.specs.Agrees.{AgreesAs, IsNumbered, Keeps, found}
@@ -54,16 +54,16 @@ keeps-put answers j old new f ends h others k i = elim (same_or_not i j) [
 
 pub table-changes : (x y : Role) (w : World) (m : Machine) (h : AgreesAs x y w m) (t : Table) (next number : ℕ) (ids offered : List ℕ) (streams : List (ℕ × Stream)) (ends : ℕ → End) →
     number ≡ next → offered ≡ ids → t.window ≡ w.a.table.window → ((i : ℕ) → Keeps w.a.answers i (look i t.entries) (ends i)) →
-    IsWithin (record w.a { table = t; next = next; offered = ids }) → IsSettled (record w.a { table = t; next = next; offered = ids }) →
+    IsWithin (record w.a { table = t; next = next; offered = ids }) → IsReaped (record w.a { table = t; next = next; offered = ids }) →
     Refines (record h.streams { a = record h.streams.a { ends = ends } }) (found (record m { streams = streams })) →
     IsNumbered (record m { streams = streams; me = record m.me { next = number; offered = offered } }) →
     AgreesAs x y (record w { a = record w.a { table = t; next = next; offered = ids } }) (record m { streams = streams; me = record m.me { next = number; offered = offered } })
-table-changes x y w m h t next number ids offered streams ends en eo ew keeps within settled refines order = record {
+table-changes x y w m h t next number ids offered streams ends en eo ew keeps within reaped refines order = record {
   roles = h.roles;
   streams = record h.streams { a = record h.streams.a { ends = ends } };
   refines = refines;
   a = in-streams h.a t next number ids offered w.a.answers w.a.outgoing (record h.streams.a { ends = ends }) en eo ew
-      (record { window = h.a.records.window ∙ sym ew; over = h.a.records.over; each = keeps; once = h.a.records.once }) within settled;
+      (record { window = h.a.records.window ∙ sym ew; over = h.a.records.over; each = keeps; once = h.a.records.once }) within reaped;
   b = h.b;
   ab = h.ab;
   ba = h.ba;

@@ -16,7 +16,7 @@ use Rattle.ymx_machine.specs.stream.StreamRules.StreamCall.{Writes, Reads, Finis
 use Rattle.ymx_model.specs.session.Sessions.{Session}
 use Rattle.ymx_machine.specs.declared.types.Reply.TheVariants.{Emitted as EmittedReply}
 use Rattle.ymx_model.specs.session.Emissions.{Choice, Flows}
-use Rattle.ymx_model.specs.session.Emissions.Choice.{TheAlarm, TheGoAway, TheAnswer, ThePing, AStream}
+use Rattle.ymx_model.specs.session.Emissions.Choice.{TheErrorDue, TheGoAway, TheAnswer, ThePing, AStream}
 use Rattle.ymx_model.specs.world.Worlds.{World, StepOfA, Steps, Runs, mirror_world as world_mirror}
 use Rattle.ymx_machine.specs.shared.Steps.{is_of_a}
 use Rattle.ymx_machine.specs.machine.Machines.{Machine, mirror_machine, flip_entry}
@@ -32,7 +32,7 @@ use Rattle.ymx_headline.proofs.calls.Opens.{opens-called, opens_with-called}
 use Rattle.ymx_headline.proofs.calls.Accepts.{accept-called}
 use Rattle.ymx_headline.proofs.calls.PingCalls.{ping-called, ponged-called}
 use Rattle.ymx_headline.proofs.calls.SessionCalls.{go_away-called, close-called}
-use Rattle.ymx_headline.proofs.emissions.Emits.{BeginsAlike, flows-agree, stream-begins, alarm-begins}
+use Rattle.ymx_headline.proofs.emissions.Emits.{BeginsAlike, flows-agree, stream-begins, error_due-begins}
 use Rattle.ymx_headline.proofs.emissions.SessionFrames.{go_away-begins}
 use Rattle.ymx_headline.proofs.emissions.PingFrames.{answer-begins, ping-begins}
 use Rattle.ymx_headline.proofs.calls.Ends.{stop-step, end-step}
@@ -83,7 +83,7 @@ emit-step begins may side room given x y w v m s h =
     (k.now, (length s.0, k.ids, s.3, k.releases), subst (λ u. AgreesAs x y u k.now) (sym s.4) k.agrees)
 
 each-begins : (c : Choice) → BeginsAlike c
-each-begins TheAlarm = alarm-begins
+each-begins TheErrorDue = error_due-begins
 each-begins TheGoAway = go_away-begins
 each-begins TheAnswer = answer-begins
 each-begins (ThePing n) = ping-begins n

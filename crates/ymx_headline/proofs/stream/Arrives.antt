@@ -42,7 +42,7 @@ vanished bytes rest wx wy x y xy yx s u c = assumption (
   spoke (Data rest ∷ yx) c.inbound,
 )
 
--- a piece of no bytes, and one behind the end, which has none
+-- a piece of no bytes, and one after the end, which has none
 pub data-nothing : (bytes rest : List ℕ) (wx wy : ℕ) (x y : End) (xy yx : List Part) (s : Stream) →
     bytes ≡ [] → Alive wx wy x y xy (Data (bytes ++ rest) ∷ yx) s → Alive wx wy x y xy (Data rest ∷ yx) s
 data-nothing bytes rest wx wy x y xy yx s e c = rw e at c
@@ -67,7 +67,7 @@ pub credit-lapses : (d : ℕ) (wx wy : ℕ) (x y : End) (xy yx : List Part) (s :
     is_up x.phase ≡ false → Alive wx wy x y xy (Credit d ∷ yx) s → Alive wx wy x y xy yx s
 credit-lapses d wx wy x y xy yx s u c = assumption (kept-dropped d {due = gifts yx} u c.outbound.holds, spoke yx c.inbound)
 
--- the ACK, whose credit counts as credit that comes behind it
+-- the ACK, whose credit counts as credit that comes after it
 pub acknowledged : (d : ℕ) (wx wy : ℕ) (x y : End) (xy yx : List Part) (s : Stream) →
     Alive wx wy x y xy (Ack d ∷ yx) s → Allowed AckArrives s × Alive wx wy (receive_ack x) y xy (Credit d ∷ yx) (after_move AckArrives s)
 acknowledged d wx wy x y xy yx s c = (
@@ -113,7 +113,7 @@ fin-ignored wx wy x y xy yx s u c = assumption (
 pub fin-allowed : (wx wy : ℕ) (x y : End) (xy yx : List Part) (s : Stream) → (x.phase ≡ Unborn → ⊥) → Alive wx wy x y xy (Fin ∷ yx) s → Allowed EndArrives s
 fin-allowed wx wy x y xy yx s n c = let o = c.inbound.ordered in let f = c.inbound.finishes in let i = c.inbound.holds in let m = c.outbound.phase in grind (arith, lists)
 
--- a stream is offered, and the credit of its SYN counts as credit that comes behind it
+-- a stream is offered, and the credit of its SYN counts as credit that comes after it
 pub offered : (d : ℕ) (wx wy : ℕ) (y : End) (xy yx : List Part) (s : Stream) →
     Alive wx wy (new_end wx Unborn false false) y xy (Syn d ∷ yx) s →
     Allowed SynOffered s × Alive wx wy (new_end wx Offered false false) y xy (Credit d ∷ yx) (after_move SynOffered s)

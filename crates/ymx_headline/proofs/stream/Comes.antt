@@ -55,7 +55,7 @@ empty-left : (xs ys : List ℕ) → xs ++ ys ≡ [] → xs ≡ []
 empty-left [] ys e = refl
 empty-left (x ∷ xs) ys e = absurd (cc)
 
--- behind the end there is no payload
+-- after the end there is no payload
 pub ended-empty : (bytes rest : List ℕ) (wx wy : ℕ) (x y : End) (xy yx : List Part) (s : Stream) →
     takes x.phase ≡ true → x.reader.ended ≡ true → Alive wx wy x y xy (Data (bytes ++ rest) ∷ yx) s → bytes ≡ []
 ended-empty bytes rest wx wy x y xy yx s t e c =

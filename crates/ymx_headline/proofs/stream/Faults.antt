@@ -23,10 +23,10 @@ first_load _ = []
 abbrev pub DeltaFits : (theirs d : ℕ) → End → Type 0
 DeltaFits theirs d e = takes e.phase ≡ true → e.writer.credit + d ≤ theirs
 
--- The part f, with `rest` behind it, breaks no rule at the end e, which opened the stream if `own`; the peer's
+-- The part f, with `rest` after it, breaks no rule at the end e, which opened the stream if `own`; the peer's
 -- window is `theirs`. A SYN finds no record and isn't on an own id, and its delta and payload fit a new
 -- record. An ACK is for an own stream. All but a SYN find an end that is born.
--- Payload fits the granted window where it is taken, and none comes behind the end.
+-- Payload fits the granted window where it is taken, and none comes after the end.
 abbrev pub BreaksNothing : (theirs : ℕ) → (own : Bool) → Part → (rest : List Part) → End → Type 0
 BreaksNothing theirs own (Syn d) rest e = (e.phase ≡ Unborn) × (own ≡ false) × (first_credit + d ≤ theirs) × (length (first_load rest) ≤ first_credit)
 BreaksNothing theirs own (Ack d) rest e = (is_unborn e.phase ≡ false) × (own ≡ true) × DeltaFits theirs d e

@@ -20,7 +20,7 @@ use Rattle.ymx_headline.proofs.stream.Flight.{no_list, pushes}
 pub born-sleeps : (window : ℕ) (e : End) (fs : List Part) → (e.phase ≡ Unborn → ⊥) → Sleeps window e fs
 born-sleeps window e fs n = record { new = λ h. absurd (n h); idle = λ h. absurd (n h) }
 
--- behind a part under way an end isn't unborn, and has no SYN to send
+-- after a part under way an end isn't unborn, and has no SYN to send
 pub spoke : {wx wy : ℕ} {x y : End} {xy yx : List Part} {f : Part} {s : Stream} (fs : List Part) →
     Direction wx wy x y (f ∷ xy) yx s → (x.marks.syn ≡ true → fs ≡ []) × (x.phase ≡ Unborn → fs ≡ [])
 spoke fs c = (λ h. absurd (no_list (c.born.first h)), λ h. absurd (no_list (c.sleeps.idle h)))

@@ -36,7 +36,7 @@ whole_credit_is = (refl, refl)
 abbrev pub fresh : End
 fresh = new_end 262144 Live false false
 
--- it has gone out behind the SYN, in sixteen frames of 16,384 bytes
+-- it has gone out after the SYN, in sixteen frames of 16,384 bytes
 abbrev pub frames : ℕ → List ℕ
 frames zero = []
 frames (suc n) = 0 ∷ 0 ∷ 0 ∷ 0 ∷ 0 ∷ 0 ∷ 0 ∷ 1 ∷ 0 ∷ 0 ∷ 0x40 ∷ 0 ∷ (x 16384 ++ frames n)

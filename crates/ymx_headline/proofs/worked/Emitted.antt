@@ -14,7 +14,7 @@ use Rattle.ymx_machine.specs.shared.Lists.{look}
 use Rattle.ymx_model.specs.session.Sessions.{Session, is_running, is_broken}
 use Rattle.ymx_model.specs.session.Emissions.{Choice, begin, begin_answer, begin_stream, is_some_of, Ready, Flows, Emits, moves_on, is_ready, no_answers, in_turn, is_first}
 use Rattle.ymx_machine.specs.shared.Limits.{data_limit}
-use Rattle.ymx_model.specs.session.Emissions.Choice.{TheAlarm, TheGoAway, TheAnswer, ThePing, AStream}
+use Rattle.ymx_model.specs.session.Emissions.Choice.{TheErrorDue, TheGoAway, TheAnswer, ThePing, AStream}
 use Rattle.ymx_law_session.specs.Limits.{IsWithin}
 use Rattle.ymx_machine.proofs.Tests.{split, both_of, agrees, one_some}
 use Rattle.ymx_law_session.proofs.limits.EmissionsKeep.{some_if, if_some, ready-keeps, moves-keep}
@@ -35,8 +35,8 @@ running_not_broken Lost r = refl
 running_not_broken (Broken f) r = sym r
 running_not_broken Closed r = refl
 
-no_alarm : (s : Session) → is_running s.status ≡ true → (s.alarm && is_broken s.status) ≡ false
-no_alarm s r = rw (running_not_broken s.status r) (and_false s.alarm)
+no_error_due : (s : Session) → is_running s.status ≡ true → (s.error_due && is_broken s.status) ≡ false
+no_error_due s r = rw (running_not_broken s.status r) (and_false s.error_due)
   where
     and_false : (b : Bool) → (b && false) ≡ false
     and_false true = refl
@@ -56,19 +56,19 @@ answers_of s t (r ∷ more) b = refl
 
 -- in turn at most one frame may begin
 pub picked : (c : Choice) (s t : Session) → in_turn c s ≡ true → begin c s ≡ Some t → pick s ≡ c
-picked TheAlarm s t turn b =
-    let p = (some_if (s.alarm && is_broken s.status) _ t b).0 in rw p refl
+picked TheErrorDue s t turn b =
+    let p = (some_if (s.error_due && is_broken s.status) _ t b).0 in rw p refl
 picked TheGoAway s t turn b =
     let p = both_of (is_running s.status) (away_due s.away.here) (some_if (is_running s.status && away_due s.away.here) _ t b).0 in
-    rw (no_alarm s p.0, p.1) refl
+    rw (no_error_due s p.0, p.1) refl
 picked TheAnswer s t turn b =
     let p = if_some (is_running s.status) (begin_answer s.answers s) t b in
-    rw (no_alarm s p.0, not_true (away_due s.away.here) turn, answers_of s t s.answers p.1) refl
+    rw (no_error_due s p.0, not_true (away_due s.away.here) turn, answers_of s t s.answers p.1) refl
 picked (ThePing n) s t turn b =
     let p = both_of (is_running s.status) (has_asked n s.pings.pending) (some_if (is_running s.status && has_asked n s.pings.pending) _ t b).0 in
     let q = both_of (not (away_due s.away.here) && no_answers s.answers) (is_some_of n (first_asked s.pings.pending)) turn in
     let r = both_of (not (away_due s.away.here)) (no_answers s.answers) q.0 in
-    rw (no_alarm s p.0, not_true (away_due s.away.here) r.0, r.1, asked_of n (first_asked s.pings.pending) q.1) refl
+    rw (no_error_due s p.0, not_true (away_due s.away.here) r.0, r.1, asked_of n (first_asked s.pings.pending) q.1) refl
 picked (AStream id limit) s t turn b =
     let p = (if_some (is_running s.status) (begin_stream id limit (look id s.table.entries) s) t b).0 in
     let q = both_of (not (away_due s.away.here) && no_answers s.answers && not (is_some (first_asked s.pings.pending)) && is_first id (round s.table)) (limit == data_limit) turn in
@@ -76,7 +76,7 @@ picked (AStream id limit) s t turn b =
     let u = both_of (not (away_due s.away.here) && no_answers s.answers) (not (is_some (first_asked s.pings.pending))) r.0 in
     let v = both_of (not (away_due s.away.here)) (no_answers s.answers) u.0 in
     let same : limit ≡ data_limit = agrees limit data_limit q.1 in
-    rw (no_alarm s p, not_true (away_due s.away.here) v.0, v.1, none_asked (first_asked s.pings.pending) u.1, same) (stream_picked id (round s.table) r.1)
+    rw (no_error_due s p, not_true (away_due s.away.here) v.0, v.1, none_asked (first_asked s.pings.pending) u.1, same) (stream_picked id (round s.table) r.1)
   where
     none_asked : (o : Option ℕ) → not (is_some o) ≡ true → o ≡ None
     none_asked None e = refl

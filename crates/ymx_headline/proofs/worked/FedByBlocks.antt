@@ -53,12 +53,12 @@ same_incoming s inc = grind (arith, common_steps)
 
 -- ---- one block
 
-piece-drank : (b : ℕ) (bs : List ℕ) (id n : ℕ) (fin stray : Bool) (s : Session) → s.status ≡ Running → s.incoming ≡ Payload id n fin stray → 0 < n →
-    DrankSome (record { rest = b ∷ bs; state = s }) (piece (b ∷ bs) (take n (b ∷ bs)) id n fin stray s)
-piece-drank b bs id n fin stray s st inc some =
+piece-drank : (b : ℕ) (bs : List ℕ) (id n : ℕ) (fin discarded : Bool) (s : Session) → s.status ≡ Running → s.incoming ≡ Payload id n fin discarded → 0 < n →
+    DrankSome (record { rest = b ∷ bs; state = s }) (piece (b ∷ bs) (take n (b ∷ bs)) id n fin discarded s)
+piece-drank b bs id n fin discarded s st inc some =
     let l : 0 < length (take n (b ∷ bs)) = omega (arith, length-take n (b ∷ bs)) in
     let m : length (take n (b ∷ bs)) ≤ n = omega (arith, length-take n (b ∷ bs)) in record {
-      drank = record { front = take n (b ∷ bs); bytes = take-drop n (b ∷ bs); takes = block-takes (take n (b ∷ bs)) id n fin stray s st inc l m };
+      drank = record { front = take n (b ∷ bs); bytes = take-drop n (b ∷ bs); takes = block-takes (take n (b ∷ bs)) id n fin discarded s st inc l m };
       some = l;
     }
 
@@ -99,7 +99,7 @@ block-drank b bs s (Head (c ∷ cs)) inc st free w = record {
   };
   some = omega arith;
 }
-block-drank b bs s (Payload id n fin stray) inc st free w = piece-drank b bs id n fin stray s st inc (payload_some id n fin stray s inc w)
+block-drank b bs s (Payload id n fin discarded) inc st free w = piece-drank b bs id n fin discarded s st inc (payload_some id n fin discarded s inc w)
 
 -- ---- all blocks
 

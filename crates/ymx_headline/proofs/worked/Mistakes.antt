@@ -16,11 +16,11 @@ use Rattle.ymx_headline.proofs.worked.Frames.{syn_and_fin, two_bytes}
 use Rattle.ymx_headline.proofs.worked.Windows.{with_window}
 use Rattle.ymx_headline.specs.worked.Words.{client, server, after_call, window_frame, go_away_with, unread_count}
 
--- the end comes behind the last byte of the payload, not before it
+-- the end comes after the last byte of the payload, not before it
 end_behind_the_last_byte : (one_by_one.feed (0 ∷ 0 ∷ 0 ∷ 5 ∷ 0 ∷ 0 ∷ 0 ∷ 1 ∷ 0 ∷ 0 ∷ 0 ∷ 2 ∷ 0x68 ∷ 0x69 ∷ []) server).state ≡ syn_and_fin.state
 end_behind_the_last_byte = refl
 
--- what comes behind a reset is dropped
+-- what comes after a reset is dropped
 nothing_behind_a_reset : unread_count 1 (play_feed (0x6c ∷ 0x6c ∷ 0x6f ∷ []) (after_call (Reset 1) two_bytes).next).state ≡ 0
 nothing_behind_a_reset = refl
 

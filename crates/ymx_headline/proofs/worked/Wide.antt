@@ -1,4 +1,4 @@
--- Examples of wide windows: credit behind half of them.
+-- Examples of wide windows: credit after half of them.
 use Rattle.std.proofs.Common.{◌≡◌, [], ◌∷◌, ◌++◌, true, false, refl}
 use Rattle.ymx_machine.specs.declared.types.Call.TheVariants.{Open, Accept, Write, Read}
 use Rattle.ymx_machine.specs.declared.types.Answer.TheVariants.{Read as GaveBytes}

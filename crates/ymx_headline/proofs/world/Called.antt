@@ -10,10 +10,10 @@ use Rattle.ymx_machine.specs.shared.Replies.{write_reply, read_reply, finish_rep
 use Rattle.ymx_machine.specs.shared.Limits.{most_pings, most_records, most_unacknowledged}
 use Rattle.ymx_model.specs.session.Pings.{has_back}
 use Rattle.ymx_machine.specs.shared.Lists.{look}
-use Rattle.ymx_model.specs.session.Sessions.{Session, is_lost, is_closed, on_stream, settle}
+use Rattle.ymx_model.specs.session.Sessions.{Session, is_lost, is_closed, on_stream, reap}
 use Rattle.ymx_model.specs.session.Calls.{Outcome, outcome, open_or, accept, accept_of, at_record, at_stream, write_outcome, read_outcome, if_done, finish_outcome, reset_outcome, forget_outcome, is_unacknowledged}
 use Rattle.ymx_machine.proofs.Tests.{split}
-use Rattle.ymx_headline.proofs.world.Emitted.{settled-begun}
+use Rattle.ymx_headline.proofs.world.Emitted.{reaped-begun}
 
 abbrev Leaves : Session → Session → Type 0
 Leaves s x = (is_closed x.status ≡ false → (x.status ≡ s.status) × (x.outgoing ≡ s.outgoing)) × (x.incoming ≡ s.incoming)
@@ -62,8 +62,8 @@ read-keeps id max s e =
 
 forget-keeps : (id : ℕ) (s : Session) (e : End) → Keeps s (forget_outcome id s e)
 forget-keeps id s e =
-    let b = settled-begun id (on_stream id (end_forget (is_lost s.status)) s) _ refl in
-    done-keeps (forget_reply e.phase) s (settle id (on_stream id (end_forget (is_lost s.status)) s)) (λ c. (b.1.status, b.0), b.1.incoming)
+    let b = reaped-begun id (on_stream id (end_forget (is_lost s.status)) s) _ refl in
+    done-keeps (forget_reply e.phase) s (reap id (on_stream id (end_forget (is_lost s.status)) s)) (λ c. (b.1.status, b.0), b.1.incoming)
 
 pub call-keeps : (c : Call) (s : Session) → Leaves s (outcome c s).next
 call-keeps call.Open s = open-keeps s _ (λ c. (refl, refl), refl)

@@ -16,9 +16,9 @@ use Rattle.ymx_model.specs.session.Pings.{has_asked, begin_ping}
 use Rattle.ymx_model.specs.session.GoAway.{away_due, begin_away}
 use Rattle.ymx_machine.specs.shared.Lists.{look}
 use Rattle.ymx_model.specs.session.Tables.{remove_record}
-use Rattle.ymx_model.specs.session.Sessions.{Session, nothing_outgoing, is_running, is_broken, is_spent, settle}
-use Rattle.ymx_model.specs.session.Emissions.{Choice, begin, begin_answer, begin_stream, begin_kind, begins, alarm_frame, go_away_frame, answer_frame, ping_frame, moves_on, settles, Flows}
-use Rattle.ymx_model.specs.session.Emissions.Choice.{TheAlarm, TheGoAway, TheAnswer, ThePing, AStream}
+use Rattle.ymx_model.specs.session.Sessions.{Session, nothing_outgoing, is_running, is_broken, is_spent, reap}
+use Rattle.ymx_model.specs.session.Emissions.{Choice, begin, begin_answer, begin_stream, begin_kind, begins, error_frame, go_away_frame, answer_frame, ping_frame, moves_on, reaps, Flows}
+use Rattle.ymx_model.specs.session.Emissions.Choice.{TheErrorDue, TheGoAway, TheAnswer, ThePing, AStream}
 use Rattle.ymx_model.specs.world.UnderWay.{IsOneFrame}
 use Rattle.ymx_machine.proofs.Tests.{split, none_of, not_lt, one_some}
 use Rattle.ymx_law_session.proofs.limits.EmissionsKeep.{some_if, none_if, if_some}
@@ -75,8 +75,8 @@ stream-begins id limit (Some e) s t b =
     kind-begins id limit e (next_kind s.table.window e) s t few n.1
 
 begin-begins : (c : Choice) (s t : Session) → begin c s ≡ Some t → Begins s t
-begin-begins TheAlarm s t b =
-    let p = some_if (s.alarm && is_broken s.status) (begins alarm_frame (record s { alarm = false })) t b in
+begin-begins TheErrorDue s t b =
+    let p = some_if (s.error_due && is_broken s.status) (begins error_frame (record s { error_due = false })) t b in
     let P : Session → Type 0 = Begins s in
     subst P (sym p.1) (record { one = short-frame 3 0 0 1 (omega arith) (omega arith); same = record { status = refl; incoming = refl } })
 begin-begins TheGoAway s t b =
@@ -98,15 +98,15 @@ record Moves (b : ℕ) (s t : Session) : Type 0 where
   bytes : s.outgoing.bytes ≡ b ∷ t.outgoing.bytes
   same : SameInput s t
 
-pub settled-begun : (id : ℕ) (s t : Session) → t ≡ settle id s → (t.outgoing ≡ s.outgoing) × SameInput s t
-settled-begun id s t e =
+pub reaped-begun : (id : ℕ) (s t : Session) → t ≡ reap id s → (t.outgoing ≡ s.outgoing) × SameInput s t
+reaped-begun id s t e =
     let P : Session → Type 0 = λ x. (x.outgoing ≡ s.outgoing) × SameInput s x in
     subst P (sym e) (split P (is_spent s.table.window s.outgoing id (look id s.table.entries)) (record s { table = remove_record id s.table }) s
     (λ y. (refl, record { status = refl; incoming = refl })) (λ n. (refl, record { status = refl; incoming = refl })))
 
-settles-begun : (of : Option ℕ) (s : Session) → ((settles of s).outgoing ≡ s.outgoing) × SameInput s (settles of s)
-settles-begun None s = (refl, record { status = refl; incoming = refl })
-settles-begun (Some id) s = settled-begun id s (settle id s) refl
+reaps-begun : (of : Option ℕ) (s : Session) → ((reaps of s).outgoing ≡ s.outgoing) × SameInput s (reaps of s)
+reaps-begun None s = (refl, record { status = refl; incoming = refl })
+reaps-begun (Some id) s = reaped-begun id s (reap id s) refl
 
 pub first_and_rest : (b : ℕ) (xs : List ℕ) → take 1 xs ≡ b ∷ [] → xs ≡ b ∷ drop 1 xs
 first_and_rest b [] e = absurd cc
@@ -119,9 +119,9 @@ only_one b (x ∷ y ∷ xs) e l = absurd (grind (arith, nat_tests))
 
 moves : (b : ℕ) (s : Session) → take 1 s.outgoing.bytes ≡ b ∷ [] → Moves b s (moves_on 1 s)
 moves b s e =
-    split (Moves b s) (nat_lt 1 (length s.outgoing.bytes)) (record s { outgoing = record { bytes = drop 1 s.outgoing.bytes; of = s.outgoing.of } }) (settles s.outgoing.of (record s { outgoing = nothing_outgoing }))
+    split (Moves b s) (nat_lt 1 (length s.outgoing.bytes)) (record s { outgoing = record { bytes = drop 1 s.outgoing.bytes; of = s.outgoing.of } }) (reaps s.outgoing.of (record s { outgoing = nothing_outgoing }))
     (λ t. record { bytes = first_and_rest b s.outgoing.bytes e; same = record { status = refl; incoming = refl } })
-    (λ f. let r = settles-begun s.outgoing.of (record s { outgoing = nothing_outgoing }) in
+    (λ f. let r = reaps-begun s.outgoing.of (record s { outgoing = nothing_outgoing }) in
     record { bytes = rw r.0 (only_one b s.outgoing.bytes e f); same = record { status = r.1.status; incoming = r.1.incoming } })
 
 -- ---- bytes go out

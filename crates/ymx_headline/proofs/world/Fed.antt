@@ -1,4 +1,4 @@
--- What is fed leaves whole frames under way, behind the rest of a payload.
+-- What is fed leaves whole frames under way, after the rest of a payload.
 use Rattle.std.proofs.Common.{◌≡◌, inl, inr, ℕ, suc, ◌+◌, ◌-◌, ◌<◌, ◌≤◌, List, [], ◌∷◌, ◌++◌, length, drop, Bool, true, false, ◌||◌, ◌==◌, nat_lt, if◌then◌else◌, Option, None, Some, refl, sym, ap, ◌∙◌, subst, arith, length-append}
 use Rattle.std.specs.List.{All, concat}
 use Rattle.std.proofs.Math.Seq.{drop-append_seam}
@@ -15,7 +15,7 @@ use Rattle.ymx_model.specs.session.Records.{End, receive_rst}
 use Rattle.ymx_model.specs.session.Pings.{receive_answer}
 use Rattle.ymx_machine.specs.shared.Lists.{look, drop_id}
 use Rattle.ymx_model.specs.session.Tables.{insert_record, remove_record}
-use Rattle.ymx_model.specs.session.Sessions.{Session, Incoming, is_own, is_deaf, is_closed, on_stream, settle}
+use Rattle.ymx_model.specs.session.Sessions.{Session, Incoming, is_own, is_deaf, is_closed, on_stream, reap}
 use Rattle.ymx_model.specs.session.Sessions.Incoming.{Head, Payload}
 use Rattle.ymx_model.specs.session.Arrivals.{answers_with, ping_comes, go_away_comes, payload, expects, record_fault, reset_comes, acknowledges, take_head, meets, meets_some, offer, session_refuses, syn_fault, syn_comes, header_fault, head_comes, piece_comes}
 use Rattle.ymx_model.specs.session.Feeds.{Takes, byte_comes, byte_in}
@@ -26,20 +26,20 @@ use Rattle.ymx_law_session.proofs.pieces.Frames.{Awaits, head-awaits}
 use Rattle.ymx_law_session.proofs.limits.FramesKeep.{unless_fault-keeps}
 use Rattle.ymx_law_session.proofs.limits.FeedsKeep.{header_few, payload_some, byte-keeps}
 use Rattle.ymx_header.proofs.Frames.{header_of-append}
-use Rattle.ymx_headline.proofs.world.Emitted.{settled-begun}
+use Rattle.ymx_headline.proofs.world.Emitted.{reaped-begun}
 
 -- ---- what comes leaves the frame begun, and a session that runs after it ran before it
 
 abbrev Hears : Session → Session → Type 0
 Hears s x = (x.status ≡ Running → s.status ≡ Running) × (x.outgoing ≡ s.outgoing)
 
-expects-hears : (h : Header) (stray : Bool) (s x : Session) → Hears s x → Hears s (expects h stray x)
-expects-hears h stray s x p = split (Hears s) (payload h == 0) x (record x { incoming = Payload h.id (payload h) _ stray }) (λ t. p) (λ f. p)
+expects-hears : (h : Header) (discarded : Bool) (s x : Session) → Hears s x → Hears s (expects h discarded x)
+expects-hears h discarded s x p = split (Hears s) (payload h == 0) x (record x { incoming = Payload h.id (payload h) _ discarded }) (λ t. p) (λ f. p)
 
 reset-hears : (id : ℕ) (e : End) (s : Session) → Hears s (reset_comes id e s)
 reset-hears id e s =
-    split (Hears s) (is_offered e.phase) (record s { table = remove_record id s.table; offered = drop_id id s.offered }) (settle id (on_stream id receive_rst s))
-    (λ t. (λ r. r, refl)) (λ f. let b = settled-begun id (on_stream id receive_rst s) _ refl in (λ r. sym b.1.status ∙ r, b.0))
+    split (Hears s) (is_offered e.phase) (record s { table = remove_record id s.table; offered = drop_id id s.offered }) (reap id (on_stream id receive_rst s))
+    (λ t. (λ r. r, refl)) (λ f. let b = reaped-begun id (on_stream id receive_rst s) _ refl in (λ r. sym b.1.status ∙ r, b.0))
 
 meets-hears : (h : Header) (e : End) (s : Session) → Hears s (meets h e s)
 meets-hears h e s =
@@ -102,14 +102,14 @@ takes-heard (b ∷ bytes) s t starved (no_memory, more, free, e, p) =
 
 -- ---- the bytes of frames
 
--- Behind what has come of a frame these bytes follow, which are the rest of its payload and then frames.
+-- After what has come of a frame these bytes follow, which are the rest of its payload and then frames.
 pub record Follow (incoming : Incoming) (rest : List ℕ) (frames : List (List ℕ)) : Type 0 where
   pub tail : List ℕ
   pub missing : length tail ≡ lacking incoming
   pub each : All IsOneFrame frames
   pub text : held_bytes incoming ++ rest ≡ tail ++ concat frames
 
--- so it is of the frames behind the first few, whose last bytes have come or are a payload's
+-- so it is of the frames after the first few, whose last bytes have come or are a payload's
 pub record Left (incoming : Incoming) (rest : List ℕ) (frames : List (List ℕ)) : Type 0 where
   pub gone : List (List ℕ)
   pub left : List (List ℕ)
@@ -128,17 +128,17 @@ all-rest f fs a = λ k d l. let z = a (suc k) d (omega arith) in z
 
 -- ---- a byte of a payload
 
-payload-left : (more : Bool) (id n : ℕ) (fin stray : Bool) (b : ℕ) (rest tail : List ℕ) (frames : List (List ℕ)) → nat_lt 1 n ≡ more → 0 < n →
-    length tail ≡ n → All IsOneFrame frames → b ∷ rest ≡ tail ++ concat frames → Left (if more then Payload id (n - 1) fin stray else Head []) rest frames
-payload-left more id n fin stray b rest [] frames m some l a e = absurd (omega arith)
-payload-left true id n fin stray b rest (x ∷ tail) frames m some l a e =
+payload-left : (more : Bool) (id n : ℕ) (fin discarded : Bool) (b : ℕ) (rest tail : List ℕ) (frames : List (List ℕ)) → nat_lt 1 n ≡ more → 0 < n →
+    length tail ≡ n → All IsOneFrame frames → b ∷ rest ≡ tail ++ concat frames → Left (if more then Payload id (n - 1) fin discarded else Head []) rest frames
+payload-left more id n fin discarded b rest [] frames m some l a e = absurd (omega arith)
+payload-left true id n fin discarded b rest (x ∷ tail) frames m some l a e =
     record { gone = []; left = frames; sum = refl; follow = record { tail = tail; missing = omega arith; each = a; text = cc } }
-payload-left false id n fin stray b rest (x ∷ []) frames m some l a e =
+payload-left false id n fin discarded b rest (x ∷ []) frames m some l a e =
     record { gone = []; left = frames; sum = refl; follow = record { tail = []; missing = refl; each = a; text = cc } }
-payload-left false id n fin stray b rest (x ∷ y ∷ tail) frames m some l a e = absurd (grind (arith, nat_tests))
+payload-left false id n fin discarded b rest (x ∷ y ∷ tail) frames m some l a e = absurd (grind (arith, nat_tests))
 
-pub piece-incoming : (b id n : ℕ) (fin stray : Bool) (s : Session) →
-    (piece_comes (b ∷ []) id n fin stray s).incoming ≡ (if nat_lt 1 n then Payload id (n - 1) fin stray else Head [])
+pub piece-incoming : (b id n : ℕ) (fin discarded : Bool) (s : Session) →
+    (piece_comes (b ∷ []) id n fin discarded s).incoming ≡ (if nat_lt 1 n then Payload id (n - 1) fin discarded else Head [])
 piece-incoming b id n fin true s = refl
 piece-incoming b id n fin false s = refl
 
@@ -148,7 +148,7 @@ pub assoc : (xs : List ℕ) (b : ℕ) (rest : List ℕ) → (xs ++ b ∷ []) ++ 
 assoc [] b rest = refl
 assoc (x ∷ xs) b rest = ap (λ ys. x ∷ ys) (assoc xs b rest)
 
--- behind twelve bytes of a text stands what follows them in its first frame
+-- after twelve bytes of a text stands what follows them in its first frame
 pub behind : (head rest f more : List ℕ) → length head ≡ 12 → 12 ≤ length f → head ++ rest ≡ f ++ more → rest ≡ drop 12 f ++ more
 behind head rest f more l m e =
     let at : drop 12 (head ++ rest) ≡ rest = rw (← l) (drop-append_seam head rest) in
@@ -174,7 +174,7 @@ whole-left h s head rest f fs is awaits l a e =
     of (inl (none, now)) n t =
         let z = no-tail (drop 12 f) (n ∙ none) in
         rw now (record { gone = f ∷ []; left = fs; sum = refl; follow = record { tail = []; missing = refl; each = all-rest f fs a; text = rw z at t } })
-    of (inr (stray, some, now)) n t =
+    of (inr (discarded, some, now)) n t =
         rw now (record { gone = f ∷ []; left = fs; sum = refl; follow = record { tail = drop 12 f; missing = n; each = all-rest f fs a; text = t } })
 
 -- the twelfth byte of a header
@@ -199,10 +199,10 @@ in-left no_memory b rest frames s (Head seen) inc w u r =
     let z = no-tail u.tail u.missing in
     let e : seen ++ b ∷ rest ≡ concat frames = rw z at u.text in
     head-left no_memory b seen rest frames s (header_few seen s inc w) u.each e r
-in-left no_memory b rest frames s (Payload id n fin stray) inc w u r =
-    let l = payload-left (nat_lt 1 n) id n fin stray b rest u.tail frames refl (payload_some id n fin stray s inc w) u.missing u.each u.text in
+in-left no_memory b rest frames s (Payload id n fin discarded) inc w u r =
+    let l = payload-left (nat_lt 1 n) id n fin discarded b rest u.tail frames refl (payload_some id n fin discarded s inc w) u.missing u.each u.text in
     let P : Incoming → Type 0 = λ i. Left i rest frames in
-    subst P (sym (piece-incoming b id n fin stray s)) l
+    subst P (sym (piece-incoming b id n fin discarded s)) l
 
 running-free : (st : Status) → st ≡ Running → is_deaf st ≡ false
 running-free st e = rw e refl

@@ -7,7 +7,7 @@ use Rattle.ymx_model.specs.session.Sessions.{Session}
 use Rattle.ymx_model.specs.world.Worlds.{Pipe}
 use Rattle.ymx_model.specs.world.UnderWay.{IsUnderWay}
 
--- the same bytes are the same frames, behind the rest of a payload
+-- the same bytes are the same frames, after the rest of a payload
 pub one-text : (receiver : Session) (pipe : Pipe) (sender : Session) (frames others : List (List ℕ)) →
     IsUnderWay receiver pipe sender frames → IsUnderWay receiver pipe sender others → frames ≡ others
 one-text receiver pipe sender frames others u v =

@@ -23,7 +23,7 @@ few_none seen (f ∷ fs) few a e =
 
 -- nothing is under way
 between : (i : Incoming) (rest : List ℕ) (tail : List ℕ) (frames : List (List ℕ)) → ((seen : List ℕ) → i ≡ Head seen → length seen < 12) →
-    ((id n : ℕ) (fin stray : Bool) → i ≡ Payload id n fin stray → 0 < n) → rest ≡ [] → length tail ≡ lacking i → All IsOneFrame frames →
+    ((id n : ℕ) (fin discarded : Bool) → i ≡ Payload id n fin discarded → 0 < n) → rest ≡ [] → length tail ≡ lacking i → All IsOneFrame frames →
     held_bytes i ++ rest ≡ tail ++ concat frames → i ≡ Head []
 between (Head seen) rest [] frames few some z l a e =
     let same : seen ≡ concat frames = sym (nothing-more seen) ∙ ap (λ xs. seen ++ xs) (sym z) ∙ e in
@@ -33,8 +33,8 @@ between (Head seen) rest [] frames few some z l a e =
     nothing-more [] = refl
     nothing-more (x ∷ xs) = ap (λ ys. x ∷ ys) (nothing-more xs)
 between (Head seen) rest (x ∷ tail) frames few some z l a e = absurd (omega arith)
-between (Payload id n fin stray) rest [] frames few some z l a e = let p = some id n fin stray refl in absurd (omega arith)
-between (Payload id n fin stray) rest (x ∷ tail) frames few some z l a e = let y : [] ≡ x ∷ (tail ++ concat frames) = rw z at e in absurd cc
+between (Payload id n fin discarded) rest [] frames few some z l a e = let p = some id n fin discarded refl in absurd (omega arith)
+between (Payload id n fin discarded) rest (x ∷ tail) frames few some z l a e = let y : [] ≡ x ∷ (tail ++ concat frames) = rw z at e in absurd cc
 
 quiet-way : (receiver : Session) (pipe : Pipe) (sender : Session) → IsWithin receiver → is_quiet_pipe pipe ≡ true → is_running receiver.status ≡ true → is_running sender.status ≡ true →
     is_ready sender ≡ false → HasFrames receiver pipe sender → receiver.incoming ≡ Head []
@@ -45,7 +45,7 @@ quiet-way receiver pipe sender w q r s d h =
     let k = h (flows-so receiver pipe sender (record { on = is_on pipe.stopped o.1; runs = running_is receiver.status r; sends = sends })) in
     let u = k.1 in
     let none = none-begun sender.outgoing.bytes refl in
-    between receiver.incoming (pipe.bytes ++ sender.outgoing.bytes) u.tail k.0 (λ seen inc. header_few seen receiver inc w) (λ id n fin stray inc. payload_some id n fin stray receiver inc w)
+    between receiver.incoming (pipe.bytes ++ sender.outgoing.bytes) u.tail k.0 (λ seen inc. header_few seen receiver inc w) (λ id n fin discarded inc. payload_some id n fin discarded receiver inc w)
     (rw (empty-bytes pipe.bytes o.0, none) refl) u.missing u.each u.text
   where
     none-begun : (xs : List ℕ) → sender.outgoing.bytes ≡ xs → xs ≡ []

@@ -42,7 +42,7 @@ moved held pipe out rest begun tail frames more e p =
     ap (λ xs. held ++ xs) (append_assoc pipe out rest ∙ ap (λ xs. pipe ++ xs) (sym p) ∙ sym (append_assoc pipe begun more))
     ∙ sym (append_assoc held (pipe ++ begun) more) ∙ ap (λ xs. xs ++ more) e ∙ append_assoc tail frames more
 
--- what is emitted goes behind the frames under way
+-- what is emitted goes after the frames under way
 pub emitted : (may : Choice → Session → Bool) (room : ℕ) (out : List ℕ) (receiver : Session) (pipe : Pipe) (s t : Session) (frames : List (List ℕ)) →
     Emits may s room out t → pipe.stopped ≡ false → IsUnderWay receiver pipe s frames → IsLater receiver pipe t out frames
 emitted may room out receiver pipe s t frames e on u =

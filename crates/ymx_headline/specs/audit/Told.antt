@@ -19,14 +19,14 @@ use Rattle.ymx_headline.specs.Laws.{AreGood, HasRun}
 use Rattle.ymx_headline.specs.audit.Joints.{IsJoint}
 
 -- What the world answers to the steps of an event with this reply. The end of the input is two steps; a feed
--- behind it is none.
+-- after it is none.
 abbrev pub answers_of : (ended : Bool) → Event → Reply → List Answer
 answers_of ended (event.Call c) told = answer_of told ∷ []
 answers_of ended (event.Emit n) told = answer_of told ∷ []
 answers_of ended (event.Feed bytes) told = if ended then [] else answer_of told ∷ []
 answers_of ended event.FeedEnd told = answer.Done ∷ answer.Done ∷ []
 
--- whether a side's input has ended, behind this event
+-- whether a side's input has ended, after this event
 abbrev pub is_ended_behind : (ended : Bool) → Event → Bool
 is_ended_behind ended (event.Call c) = ended
 is_ended_behind ended (event.Emit n) = ended

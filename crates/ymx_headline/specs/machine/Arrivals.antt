@@ -45,7 +45,7 @@ only_takes (step.At side (call.Read id room)) = true
 only_takes (step.At side call.Accept) = true
 only_takes _ = false
 
--- Whether all is at rest after these steps: the world was quiet after one of them, and those behind it were reads and
+-- Whether all is at rest after these steps: the world was quiet after one of them, and those after it were reads and
 -- accepts. `now`: it was at rest before them.
 abbrev pub is_at_rest : (now : Bool) → List Step → (quiet : List Bool) → Bool
 is_at_rest now [] quiet = now
@@ -82,7 +82,7 @@ abbrev pub away_by : Side → Step → Answer → Bool
 away_by side (step.At at call.GoAway) answer.Done = is_same_side side at
 away_by side _ _ = false
 
--- whether a step was a delivery that refused a stream for want of memory
+-- whether a step was a delivery that refused a stream for lack of memory
 abbrev pub lacked_by : Step → Answer → Bool
 lacked_by st (answer.Fed fed) = nat_lt 0 fed.no_memory
 lacked_by st _ = false
@@ -109,7 +109,7 @@ AllAreGiven steps answers quiet = (made id : ℕ) (side other : Side) →
     takes_streams side (take made steps) (take made answers) ≡ true → has_stream other id (take made steps) (take made answers) ≡ true →
     any_step (began_by side id) (take made steps) (take made answers) ≡ true
 
--- Where all is at rest, one side's read of a stream isn't refused, and the other side's accept right behind it finds none
+-- Where all is at rest, one side's read of a stream isn't refused, and the other side's accept right after it finds none
 -- that waits: then the other side was given this one.
 abbrev pub AllAreOffered : List Step → List Answer → (quiet : List Bool) → Type 0
 AllAreOffered steps answers quiet = (made id room : ℕ) (reader other : Side) (given : Answer) →
@@ -127,7 +127,7 @@ TakesEnough window unread bytes (answer.Wrote (Took n)) = (n ≡ length bytes) �
 TakesEnough window unread bytes (answer.Wrote Wait) = window < 2 * unread
 TakesEnough window unread bytes given = given ≡ answer.Refused (OutOfMemory evidence)
 
--- so does each write, right behind a step after which the world is quiet, to a stream that both sides have and that the
+-- so does each write, right after a step after which the world is quiet, to a stream that both sides have and that the
 -- writer has not finished: the windows of A and B
 abbrev pub AllTakeEnough : (window_a window_b : ℕ) → List Step → List Answer → (quiet : List Bool) → Type 0
 AllTakeEnough window_a window_b steps answers quiet = (made id : ℕ) (bytes : List ℕ) (writer reader : Side) (given : Answer) →

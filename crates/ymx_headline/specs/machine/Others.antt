@@ -31,7 +31,7 @@ touched_by (OfStream id move) = Some id
 touched_by (SynArrives id counted) = Some id
 touched_by _ = None
 
--- an answer in whose place want of memory may be answered: a stream opened, or bytes taken
+-- an answer in whose place lack of memory may be answered: a stream opened, or bytes taken
 abbrev pub needs_memory : Reply → Bool
 needs_memory (reply.Opened id) = true
 needs_memory (reply.OpenedWith id count) = true

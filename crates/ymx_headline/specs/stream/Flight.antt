@@ -61,7 +61,7 @@ holds_fin = list_any part_is_fin
 abbrev pub holds_rst : List Part → Bool
 holds_rst = list_any part_is_rst
 
--- what may come behind a part: one ACK, no payload and no FIN behind FIN, nothing behind RST
+-- what may come after a part: one ACK, no payload and no FIN after FIN, nothing after RST
 abbrev pub Behind : Part → List Part → Type 0
 Behind (Syn d) fs = Unit {0}
 Behind (Ack d) fs = holds_ack fs ≡ false

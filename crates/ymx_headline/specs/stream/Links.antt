@@ -10,7 +10,7 @@ use Rattle.ymx_model.specs.session.Parts.{Part}
 use Rattle.ymx_headline.specs.stream.Flight.{loads, gifts, holds_syn, holds_ack, holds_fin, holds_rst, Ordered}
 use Rattle.ymx_headline.specs.stream.Directions.{mark_if, fin_waits, to_announce, LaneHolds, LaneEnds}
 
--- an end whose reset is due or under way is over, and sends nothing else; behind the reset, nothing
+-- an end whose reset is due or under way is over, and sends nothing else; after the reset, nothing
 pub record Stops (p : Phase) (w : Writer) (syn ack rst : Bool) (fs : List Part) : Type 0 where
   pub down : (rst || holds_rst fs) ≡ true → (is_up p ≡ false) × (w.unsent ≡ []) × (fin_waits w ≡ false) × (ack ≡ false)
   pub once : holds_rst fs ≡ true → (rst ≡ false) × (syn ≡ false)

@@ -17,7 +17,7 @@ use Rattle.ymx_model.specs.session.Arrivals.{head_comes, piece_comes}
 use Rattle.ymx_model.specs.session.Feeds.{is_stuck, byte_comes, why_of}
 use Rattle.ymx_model.specs.session.Emissions.{Choice, begin, moves_on, no_answers}
 use Rattle.ymx_machine.specs.shared.Limits.{data_limit}
-use Rattle.ymx_model.specs.session.Emissions.Choice.{TheAlarm, TheGoAway, TheAnswer, ThePing, AStream}
+use Rattle.ymx_model.specs.session.Emissions.Choice.{TheErrorDue, TheGoAway, TheAnswer, ThePing, AStream}
 use Rattle.ymx_model.specs.world.Worlds.{World, pushed, without_front, stopped_now, mirror_world}
 use Rattle.ymx_machine.specs.shared.Steps.{answer_of, is_of_a}
 
@@ -29,7 +29,7 @@ pub record Poured : Type 0 where
   pub state : Session
 
 abbrev pub pick_stream : List ℕ → Choice
-pick_stream [] = TheAlarm
+pick_stream [] = TheErrorDue
 pick_stream (id ∷ ids) = AStream id data_limit
 
 abbrev pub pick_ping : Option ℕ → List ℕ → Choice
@@ -39,7 +39,7 @@ pick_ping (Some n) ids = ThePing n
 -- the frame that is next in turn, if one is due
 abbrev pub pick : Session → Choice
 pick s =
-    if s.alarm && is_broken s.status then TheAlarm
+    if s.error_due && is_broken s.status then TheErrorDue
     else if away_due s.away.here then TheGoAway
     else if not (no_answers s.answers) then TheAnswer
     else pick_ping (first_asked s.pings.pending) (round s.table)
@@ -74,8 +74,8 @@ pub record Drunk : Type 0 where
   pub state : Session
 
 -- one block: a piece of payload, a whole header, or one byte of a header
-abbrev pub piece : (bytes part : List ℕ) → (id missing : ℕ) → (fin stray : Bool) → Session → Drunk
-piece bytes part id missing fin stray s = record { rest = drop missing bytes; state = piece_comes part id missing fin stray s }
+abbrev pub piece : (bytes part : List ℕ) → (id missing : ℕ) → (fin discarded : Bool) → Session → Drunk
+piece bytes part id missing fin discarded s = record { rest = drop missing bytes; state = piece_comes part id missing fin discarded s }
 
 abbrev pub whole_head : (bytes twelve : List ℕ) → Session → Drunk
 whole_head bytes twelve s =
@@ -86,7 +86,7 @@ abbrev pub block : (bytes : List ℕ) → Session → Incoming → Drunk
 block [] s i = record { rest = []; state = s }
 block (b ∷ bs) s (Head []) = whole_head (b ∷ bs) (take 12 (b ∷ bs)) s
 block (b ∷ bs) s (Head (c ∷ cs)) = record { rest = bs; state = byte_comes false b s }
-block (b ∷ bs) s (Payload id missing fin stray) = piece (b ∷ bs) (take missing (b ∷ bs)) id missing fin stray s
+block (b ∷ bs) s (Payload id missing fin discarded) = piece (b ∷ bs) (take missing (b ∷ bs)) id missing fin discarded s
 
 abbrev pub drink_on : (Drunk → Drunk) → Drunk → Drunk
 drink_on more d =

@@ -23,7 +23,7 @@ pub record AreWithin (w : World) : Type 0 where
   pub a : IsWithin w.a
   pub b : IsWithin w.b
 
--- The sender has emitted these bytes: behind the frames that were under way some more may have begun.
+-- The sender has emitted these bytes: after the frames that were under way some more may have begun.
 pub record IsLater (receiver : Session) (pipe : Pipe) (sender : Session) (out : List ℕ) (frames : List (List ℕ)) : Type 0 where
   pub more : List (List ℕ)
   pub under : IsUnderWay receiver (pushed out pipe) sender (frames ++ more)

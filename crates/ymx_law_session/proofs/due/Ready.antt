@@ -15,8 +15,8 @@ use Rattle.ymx_model.specs.session.GoAway.{away_due, begin_away}
 use Rattle.ymx_model.specs.session.Tables.{Table, any_due, due_ids, round}
 use Rattle.ymx_machine.specs.shared.Lists.{look, Distinct}
 use Rattle.ymx_model.specs.session.Sessions.{Session, is_running, is_broken}
-use Rattle.ymx_model.specs.session.Emissions.{Choice, begin, begin_answer, begin_stream, begin_kind, begins, alarm_frame, go_away_frame, ping_frame, Ready, Flows, Emits, moves_on, is_ready, no_answers, in_turn, is_first, freely}
-use Rattle.ymx_model.specs.session.Emissions.Choice.{TheAlarm, TheGoAway, TheAnswer, ThePing, AStream}
+use Rattle.ymx_model.specs.session.Emissions.{Choice, begin, begin_answer, begin_stream, begin_kind, begins, error_frame, go_away_frame, ping_frame, Ready, Flows, Emits, moves_on, is_ready, no_answers, in_turn, is_first, freely}
+use Rattle.ymx_model.specs.session.Emissions.Choice.{TheErrorDue, TheGoAway, TheAnswer, ThePing, AStream}
 use Rattle.ymx_law_session.specs.Limits.{IsWithin}
 use Rattle.ymx_machine.proofs.Tests.{both_of, none_of, or_true}
 use Rattle.ymx_law_session.proofs.limits.Pings.{asked-first, asked-some}
@@ -176,11 +176,11 @@ running_next s w run due = of_away (away_due s.away.here) refl
 
 -- where something is due and no frame is begun, the next in turn begins
 pub next_of : (s : Session) → IsWithin s → is_empty s.outgoing.bytes ≡ true → is_ready s ≡ true → Next s
-next_of s w e r = of_alarm (s.alarm && is_broken s.status) refl
+next_of s w e r = of_error_due (s.error_due && is_broken s.status) refl
   where
-    of_alarm : (b : Bool) → (s.alarm && is_broken s.status) ≡ b → Next s
-    of_alarm true a = record { choice = TheAlarm; turn = refl; after = begins alarm_frame (record s { alarm = false }); begins = rw a refl }
-    of_alarm false a =
+    of_error_due : (b : Bool) → (s.error_due && is_broken s.status) ≡ b → Next s
+    of_error_due true a = record { choice = TheErrorDue; turn = refl; after = begins error_frame (record s { error_due = false }); begins = rw a refl }
+    of_error_due false a =
         let d = rw (e, a) at r in
         let both = both_of (is_running s.status) _ d in running_next s w both.0 both.1
 
@@ -209,7 +209,7 @@ stream_has id limit (Some e) s t b =
     kind_has id limit e (next_kind s.table.window e) s t (none_if (limit == 0 || nat_lt first_credit limit) (begin_kind id limit e (next_kind s.table.window e) s) t b).1
 
 pub begin-has : (c : Choice) (s t : Session) → begin c s ≡ Some t → is_empty t.outgoing.bytes ≡ false
-begin-has TheAlarm s t b = let p = some_if (s.alarm && is_broken s.status) (begins alarm_frame (record s { alarm = false })) t b in rw p.1 refl
+begin-has TheErrorDue s t b = let p = some_if (s.error_due && is_broken s.status) (begins error_frame (record s { error_due = false })) t b in rw p.1 refl
 begin-has TheGoAway s t b = let p = some_if (is_running s.status && away_due s.away.here) (begins go_away_frame (record s { away = begin_away s.away })) t b in rw p.1 refl
 begin-has TheAnswer s t b = answer_has s.answers s t (if_some (is_running s.status) (begin_answer s.answers s) t b).1
 begin-has (ThePing n) s t b =
@@ -278,8 +278,8 @@ answers_there [] s t b = cc
 answers_there (r ∷ more) s t b = refl
 
 pub begin-ready : (c : Choice) (s t : Session) → begin c s ≡ Some t → is_ready s ≡ true
-begin-ready TheAlarm s t b =
-    let p = (some_if (s.alarm && is_broken s.status) (begins alarm_frame (record s { alarm = false })) t b).0 in
+begin-ready TheErrorDue s t b =
+    let p = (some_if (s.error_due && is_broken s.status) (begins error_frame (record s { error_due = false })) t b).0 in
     rw p (or_left _ _ (or_true (not (is_empty s.outgoing.bytes))))
 begin-ready TheGoAway s t b =
     let p = both_of (is_running s.status) (away_due s.away.here) (some_if (is_running s.status && away_due s.away.here) (begins go_away_frame (record s { away = begin_away s.away })) t b).0 in

@@ -15,7 +15,7 @@ use Rattle.ymx_machine.specs.shared.Lists.{look}
 use Rattle.ymx_model.specs.session.Tables.{round, with_record, pass_turn}
 use Rattle.ymx_model.specs.session.Sessions.{Session, is_running, is_broken}
 use Rattle.ymx_model.specs.session.Emissions.{Choice, begin, begin_answer, begin_stream, begin_kind, Ready, Flows, Emits, moves_on, is_ready, no_answers, in_turn, is_first, is_some_of}
-use Rattle.ymx_model.specs.session.Emissions.Choice.{TheAlarm, TheGoAway, TheAnswer, ThePing, AStream}
+use Rattle.ymx_model.specs.session.Emissions.Choice.{TheErrorDue, TheGoAway, TheAnswer, ThePing, AStream}
 use Rattle.ymx_machine.proofs.Tests.{both_of, agrees, negated, one_some}
 use Rattle.ymx_law_session.proofs.limits.EmissionsKeep.{some_if, none_if, if_some}
 use Rattle.ymx_law_session.proofs.due.Ready.{given-due}
@@ -37,7 +37,7 @@ running s = if away_due s.away.here then begin TheGoAway s else if not (no_answe
 
 -- what begins in turn
 abbrev turned : Session → Option Session
-turned s = if is_broken s.status then begin TheAlarm s else running s
+turned s = if is_broken s.status then begin TheErrorDue s else running s
 
 not-broken : (status : Status) → is_running status ≡ true → is_broken status ≡ false
 not-broken Running e = refl
@@ -70,14 +70,14 @@ else-is true x y e = cc
 else-is false x y e = refl
 
 runs : (s : Session) → is_running s.status ≡ true → turned s ≡ running s
-runs s e = else-is (is_broken s.status) (begin TheAlarm s) (running s) (not-broken s.status e)
+runs s e = else-is (is_broken s.status) (begin TheErrorDue s) (running s) (not-broken s.status e)
 
 no-session-frame : (s : Session) → away_due s.away.here ≡ false → no_answers s.answers ≡ true → running s ≡ of_pings (first_asked s.pings.pending) s
 no-session-frame s e f = else-is (away_due s.away.here) (begin TheGoAway s) _ e ∙ else-is (not (no_answers s.answers)) (begin TheAnswer s) _ (ap not f)
 
 by-turn : (c : Choice) (s t : Session) → in_turn c s ≡ true → begin c s ≡ Some t → turned s ≡ Some t
-by-turn TheAlarm s t e b =
-    let p = both_of s.alarm (is_broken s.status) (some_if (s.alarm && is_broken s.status) _ t b).0 in then-is (is_broken s.status) (begin TheAlarm s) (running s) p.1 ∙ b
+by-turn TheErrorDue s t e b =
+    let p = both_of s.error_due (is_broken s.status) (some_if (s.error_due && is_broken s.status) _ t b).0 in then-is (is_broken s.status) (begin TheErrorDue s) (running s) p.1 ∙ b
 by-turn TheGoAway s t e b =
     let p = both_of (is_running s.status) (away_due s.away.here) (some_if (is_running s.status && away_due s.away.here) _ t b).0 in
     runs s p.0 ∙ (then-is (away_due s.away.here) (begin TheGoAway s) _ p.1 ∙ b)

@@ -14,7 +14,7 @@ use Rattle.ymx_machine.specs.shared.Replies.{write_reply, read_reply, finish_rep
 use Rattle.ymx_model.specs.session.Records.{End, takes_payload, new_end, end_write, end_read, end_finish, end_accept, end_reset, end_forget}
 use Rattle.ymx_model.specs.session.Pings.{Pings, ask, has_back, collect}
 use Rattle.ymx_machine.specs.shared.Lists.{look}
-use Rattle.ymx_model.specs.session.Sessions.{Session, Incoming, is_own, is_lost, is_closed, on_stream, settle}
+use Rattle.ymx_model.specs.session.Sessions.{Session, Incoming, is_own, is_lost, is_closed, on_stream, reap}
 use Rattle.ymx_model.specs.session.Sessions.Incoming.{Head, Payload}
 use Rattle.ymx_model.specs.session.Calls.{Outcome, outcome, open_or, session_opened, accept, accept_of, at_stream, at_record, write_outcome, read_outcome, finish_outcome, reset_outcome, forget_outcome, is_unacknowledged}
 use Rattle.ymx_law_session.specs.Limits.{IsEndWithin, IsOfferedWithin, HasBegunRecord, IsIncomingWithin, IsPingsWithin, IsWithin, is_offered_at, is_listed}
@@ -24,7 +24,7 @@ use Rattle.ymx_law_session.proofs.limits.Ends.{takes_offered, new-within, write-
 use Rattle.ymx_law_session.proofs.limits.Offers.{taken-added, offered-added_other, offered-accepted}
 use Rattle.ymx_law_session.proofs.limits.Pings.{pinged-within, collected-within}
 use Rattle.ymx_law_session.proofs.limits.Owns.{next-on, next-opened}
-use Rattle.ymx_law_session.proofs.limits.Records.{Keeps, table-on, table-added, begun-on, incoming-on, within-on, within-settled}
+use Rattle.ymx_law_session.proofs.limits.Records.{Keeps, table-on, table-added, begun-on, incoming-on, within-on, within-reaped}
 
 -- ---- opening
 
@@ -203,10 +203,10 @@ lingering_live p e = grind arith
 
 forget-at : (id : ℕ) (s : Session) (e : End) → look id s.table.entries ≡ Some e → IsWithin s → IsWithin (forget_outcome id s e).next
 forget-at id s e l h =
-    split IsWithin (is_done (forget_reply e.phase)) (settle id (on_stream id (end_forget (is_lost s.status)) s)) s (λ t.
+    split IsWithin (is_done (forget_reply e.phase)) (reap id (on_stream id (end_forget (is_lost s.status)) s)) s (λ t.
     let off = offered_forget e.phase t in
     let gone = lingering_off (end_forget (is_lost s.status) e).phase (forget_phase (is_lost s.status) e) in
-    within-settled id _ (within-at id (end_forget (is_lost s.status)) s e l (λ w. record {
+    within-reaped id _ (within-at id (end_forget (is_lost s.status)) s e l (λ w. record {
       within = forget-within s.table.window (is_lost s.status) e;
       offered = gone.0 ∙ sym off;
       payload = λ q. let n = (both_of (takes (end_forget (is_lost s.status) e).phase) _ q).0 in let m = gone.1 in absurd cc;

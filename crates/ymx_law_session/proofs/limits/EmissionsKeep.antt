@@ -13,14 +13,14 @@ use Rattle.ymx_model.specs.session.GoAway.{away_due, begin_away}
 use Rattle.ymx_machine.specs.shared.Lists.{look, change}
 use Rattle.ymx_model.specs.session.Tables.{with_record, pass_turn}
 use Rattle.ymx_model.specs.session.Sessions.{Session, nothing_outgoing, is_running, is_broken}
-use Rattle.ymx_model.specs.session.Emissions.{Choice, begin, begin_answer, begin_stream, begin_kind, begins, alarm_frame, go_away_frame, answer_frame, ping_frame, moves_on, settles, Ready, Flows}
-use Rattle.ymx_model.specs.session.Emissions.Choice.{TheAlarm, TheGoAway, TheAnswer, ThePing, AStream}
+use Rattle.ymx_model.specs.session.Emissions.{Choice, begin, begin_answer, begin_stream, begin_kind, begins, error_frame, go_away_frame, answer_frame, ping_frame, moves_on, reaps, Ready, Flows}
+use Rattle.ymx_model.specs.session.Emissions.Choice.{TheErrorDue, TheGoAway, TheAnswer, ThePing, AStream}
 use Rattle.ymx_law_session.specs.Limits.{IsEndWithin, IsSilent, IsWithin, IsAnswersWithin}
 use Rattle.ymx_machine.proofs.Tests.{split, one_some}
 use Rattle.ymx_machine.proofs.Lists.{look-change_same}
 use Rattle.ymx_law_session.proofs.limits.Ends.{sends-within}
 use Rattle.ymx_law_session.proofs.limits.Offers.{offered-on}
-use Rattle.ymx_law_session.proofs.limits.Records.{table-on, table-served, incoming-on, within-settled}
+use Rattle.ymx_law_session.proofs.limits.Records.{table-on, table-served, incoming-on, within-reaped}
 use Rattle.ymx_law_session.proofs.limits.Owns.{next-on}
 use Rattle.ymx_law_session.proofs.limits.Pings.{staged-within}
 
@@ -132,9 +132,9 @@ look-begins id limit (Some e) s t l b w =
     kind-begins id limit e (next_kind s.table.window e) s t l refl n.1 w
 
 pub begin-keeps : (c : Choice) (s t : Session) → begin c s ≡ Some t → IsWithin s → IsWithin t
-begin-keeps TheAlarm s t b w =
-    let p = some_if (s.alarm && is_broken s.status) (begins alarm_frame (record s { alarm = false })) t b in
-    subst IsWithin (sym p.1) (session-begins alarm_frame (record s { alarm = false })
+begin-keeps TheErrorDue s t b w =
+    let p = some_if (s.error_due && is_broken s.status) (begins error_frame (record s { error_due = false })) t b in
+    subst IsWithin (sym p.1) (session-begins error_frame (record s { error_due = false })
     record { table = w.table; offered = w.offered; pings = w.pings; answers = w.answers; outgoing = w.outgoing; incoming = w.incoming; next = w.next })
 begin-keeps TheGoAway s t b w =
     let p = some_if (is_running s.status && away_due s.away.here) (begins go_away_frame (record s { away = begin_away s.away })) t b in
@@ -152,15 +152,15 @@ begin-keeps (AStream id limit) s t b w =
 
 -- ---- bytes that go out
 
-settles-keeps : (of : Option ℕ) (s : Session) → IsWithin s → IsWithin (settles of s)
-settles-keeps None s w = w
-settles-keeps (Some id) s w = within-settled id s w
+reaps-keeps : (of : Option ℕ) (s : Session) → IsWithin s → IsWithin (reaps of s)
+reaps-keeps None s w = w
+reaps-keeps (Some id) s w = within-reaped id s w
 
 pub moves-keep : (n : ℕ) (s : Session) → IsWithin s → IsWithin (moves_on n s)
 moves-keep n s w =
-    split IsWithin (nat_lt n (length s.outgoing.bytes)) _ (settles s.outgoing.of (record s { outgoing = nothing_outgoing }))
+    split IsWithin (nat_lt n (length s.outgoing.bytes)) _ (reaps s.outgoing.of (record s { outgoing = nothing_outgoing }))
     (λ t. record { table = w.table; offered = w.offered; pings = w.pings; answers = w.answers; outgoing = w.outgoing; incoming = w.incoming; next = w.next })
-    (λ f. settles-keeps s.outgoing.of (record s { outgoing = nothing_outgoing })
+    (λ f. reaps-keeps s.outgoing.of (record s { outgoing = nothing_outgoing })
     record { table = w.table; offered = w.offered; pings = w.pings; answers = w.answers; outgoing = tt; incoming = w.incoming; next = w.next })
 
 pub ready-keeps : (may : Choice → Session → Bool) (s t : Session) → Ready may s t → IsWithin s → IsWithin t

@@ -39,7 +39,7 @@ header_few seen s inc w =
 pub few_more : (seen : List ℕ) (b : ℕ) → length seen < 12 → (length seen == 11) ≡ false → length (seen ++ b ∷ []) < 12
 few_more seen b few f = let n = differs (length seen) 11 f in omega (arith, n, length-append seen (b ∷ []))
 
-pub payload_some : (id n : ℕ) (fin stray : Bool) (s : Session) → s.incoming ≡ Payload id n fin stray → IsWithin s → 0 < n
+pub payload_some : (id n : ℕ) (fin discarded : Bool) (s : Session) → s.incoming ≡ Payload id n fin discarded → IsWithin s → 0 < n
 payload_some id n fin true s inc w =
     let p : 0 < n = (let P : Incoming → Type 0 = λ i. IsIncomingWithin i s.role s.next s.table.entries in subst P inc w.incoming) in p
 payload_some id n fin false s inc w =
@@ -51,8 +51,8 @@ in-keeps no_memory b s (Head seen) inc d free w =
     split IsWithin (length seen == 11) (head_comes no_memory (header_of (seen ++ b ∷ [])) (record s { incoming = Head [] })) (record s { incoming = Head (seen ++ b ∷ []) })
     (λ t. head-keeps no_memory (header_of (seen ++ b ∷ [])) (record s { incoming = Head [] }) refl l (header-keeps [] s (omega arith) l w))
     (λ f. header-keeps (seen ++ b ∷ []) s (few_more seen b (header_few seen s inc w) f) l w)
-in-keeps no_memory b s (Payload id n fin stray) inc d free w =
-    let some = payload_some id n fin stray s inc w in piece-keeps (b ∷ []) id n fin stray s inc (omega arith) w
+in-keeps no_memory b s (Payload id n fin discarded) inc d free w =
+    let some = payload_some id n fin discarded s inc w in piece-keeps (b ∷ []) id n fin discarded s inc (omega arith) w
 
 pub byte-keeps : (no_memory : Bool) (b : ℕ) (s : Session) → is_stuck s ≡ false → IsWithin s → IsWithin (byte_comes no_memory b s)
 byte-keeps no_memory b s free w =

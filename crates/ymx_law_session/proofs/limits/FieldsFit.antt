@@ -26,13 +26,13 @@ use Rattle.ymx_model.specs.session.Pings.{Ping, is_pending, has_back, has_asked,
 use Rattle.ymx_model.specs.session.GoAway.{away_due, begin_away}
 use Rattle.ymx_machine.specs.shared.Lists.{look, change, without, drop_id}
 use Rattle.ymx_model.specs.session.Tables.{insert_record, remove_record, with_record, pass_turn}
-use Rattle.ymx_model.specs.session.Sessions.{Session, Incoming, new_session, nothing_outgoing, is_running, is_lost, is_closed, is_broken, is_deaf, is_own, is_spent, on_stream, settle}
+use Rattle.ymx_model.specs.session.Sessions.{Session, Incoming, new_session, nothing_outgoing, is_running, is_lost, is_closed, is_broken, is_deaf, is_own, is_spent, on_stream, reap}
 use Rattle.ymx_model.specs.session.Sessions.Incoming.{Head, Payload}
 use Rattle.ymx_model.specs.session.Calls.{Outcome, outcome, accept, accept_of, session_opened}
 use Rattle.ymx_model.specs.session.Arrivals.{head_comes, piece_comes, ping_comes, go_away_comes, syn_comes, meets, meets_some, reset_comes, expects, answers_with, acknowledges, take_head, payload, is_data, record_fault, header_fault, syn_fault, session_refuses, offer}
 use Rattle.ymx_model.specs.session.Feeds.{Takes, byte_comes, byte_in}
-use Rattle.ymx_model.specs.session.Emissions.{Choice, begin, begin_answer, begin_stream, begin_kind, begins, alarm_frame, go_away_frame, answer_frame, ping_frame, moves_on, settles, Ready, Flows}
-use Rattle.ymx_model.specs.session.Emissions.Choice.{TheAlarm, TheGoAway, TheAnswer, ThePing, AStream}
+use Rattle.ymx_model.specs.session.Emissions.{Choice, begin, begin_answer, begin_stream, begin_kind, begins, error_frame, go_away_frame, answer_frame, ping_frame, moves_on, reaps, Ready, Flows}
+use Rattle.ymx_model.specs.session.Emissions.Choice.{TheErrorDue, TheGoAway, TheAnswer, ThePing, AStream}
 use Rattle.ymx_model.specs.session.Histories.{CallGives, Gives, ReplaysFrom}
 use Rattle.ymx_model.specs.session.Histories.CallGives.{Outcome as HasOutcome, NoMemory}
 use Rattle.ymx_law_session.specs.Limits.{IsWithin, is_listed, is_offered_at}
@@ -75,12 +75,12 @@ on_stream-fits id f s h = record { ids = ids-change id f s.table.entries h.ids; 
 removed-fits : (id : ℕ) (s : Session) → NumbersFit s → NumbersFit (record s { table = remove_record id s.table })
 removed-fits id s h = record { ids = ids-without id s.table.entries h.ids; answers = h.answers; pings = h.pings; incoming = h.incoming }
 
-settled-fits : (id : ℕ) (s : Session) → NumbersFit s → NumbersFit (settle id s)
-settled-fits id s h =
+reaped-fits : (id : ℕ) (s : Session) → NumbersFit s → NumbersFit (reap id s)
+reaped-fits id s h =
     split NumbersFit (is_spent s.table.window s.outgoing id (look id s.table.entries)) (record s { table = remove_record id s.table }) s (λ t. removed-fits id s h) (λ n. h)
 
 fit-stays : (id : ℕ) (s : Session) → NumbersFit s → StaysAt NumbersFit id s
-fit-stays id s h = record { now = h; changed = λ f. on_stream-fits id f s h; gone = λ f. settled-fits id (on_stream id f s) (on_stream-fits id f s h) }
+fit-stays id s h = record { now = h; changed = λ f. on_stream-fits id f s h; gone = λ f. reaped-fits id (on_stream id f s) (on_stream-fits id f s h) }
 
 -- ---- the numbers of the pings
 
@@ -157,15 +157,15 @@ answer-fits r s l w = record { ids = w.ids; answers = All-push ResponseFits s.an
 payload-fits : (h : Header) → HeaderFits h → payload h < 2 ^ 32
 payload-fits h f = split Fits (is_data h) h.length 0 (λ t. f.length) (λ t. omega arith)
 
-expects-fits : (h : Header) (stray : Bool) (s : Session) → HeaderFits h → NumbersFit s → NumbersFit (expects h stray s)
-expects-fits h stray s f w =
-    split NumbersFit (payload h == 0) s (record s { incoming = Payload h.id (payload h) (has_fin h) stray }) (λ t. w)
+expects-fits : (h : Header) (discarded : Bool) (s : Session) → HeaderFits h → NumbersFit s → NumbersFit (expects h discarded s)
+expects-fits h discarded s f w =
+    split NumbersFit (payload h == 0) s (record s { incoming = Payload h.id (payload h) (has_fin h) discarded }) (λ t. w)
     (λ n. record { ids = w.ids; answers = w.answers; pings = w.pings; incoming = (f.id, payload-fits h f) })
 
 reset-fits : (id : ℕ) (e : End) (s : Session) → NumbersFit s → NumbersFit (reset_comes id e s)
 reset-fits id e s w =
-    split NumbersFit (is_offered e.phase) (record s { table = remove_record id s.table; offered = drop_id id s.offered }) (settle id (on_stream id receive_rst s))
-    (λ t. removed-fits id (record s { offered = drop_id id s.offered }) w) (λ n. settled-fits id _ (on_stream-fits id receive_rst s w))
+    split NumbersFit (is_offered e.phase) (record s { table = remove_record id s.table; offered = drop_id id s.offered }) (reap id (on_stream id receive_rst s))
+    (λ t. removed-fits id (record s { offered = drop_id id s.offered }) w) (λ n. reaped-fits id _ (on_stream-fits id receive_rst s w))
 
 meets-fits : (h : Header) (e : End) (s : Session) → HeaderFits h → NumbersFit s → NumbersFit (meets h e s)
 meets-fits h e s f w =
@@ -202,14 +202,14 @@ head-fits no_memory h s f w = unless_fault-keeps NumbersFit (header_fault h s) s
     of None = expects-fits h true s f w
     of (Some e) = unless_fault-keeps NumbersFit (record_fault h e) s (meets h e s) (λ fault. w) (λ n. meets-fits h e s f w)
 
-pub piece-fits : (bytes : List ℕ) (id n : ℕ) (fin stray : Bool) (s : Session) → Fits id → Fits n → NumbersFit s → NumbersFit (piece_comes bytes id n fin stray s)
-piece-fits bytes id n fin stray s l m w =
+pub piece-fits : (bytes : List ℕ) (id n : ℕ) (fin discarded : Bool) (s : Session) → Fits id → Fits n → NumbersFit s → NumbersFit (piece_comes bytes id n fin discarded s)
+piece-fits bytes id n fin discarded s l m w =
     let more = nat_lt (length bytes) n in
-    let t = record s { incoming = if more then Payload id (n - length bytes) fin stray else Head [] } in
+    let t = record s { incoming = if more then Payload id (n - length bytes) fin discarded else Head [] } in
     let rest : n - length bytes < 2 ^ 32 = omega arith in
-    let i : IncomingFits t.incoming = split IncomingFits more (Payload id (n - length bytes) fin stray) (Head []) (λ q. (l, rest)) (λ q. All-nil IsByte) in
+    let i : IncomingFits t.incoming = split IncomingFits more (Payload id (n - length bytes) fin discarded) (Head []) (λ q. (l, rest)) (λ q. All-nil IsByte) in
     let u : NumbersFit t = record { ids = w.ids; answers = w.answers; pings = w.pings; incoming = i } in
-    split NumbersFit stray t (on_stream id (receive_piece (fin && not more) bytes) t) (λ q. u) (λ q. on_stream-fits id (receive_piece (fin && not more) bytes) t u)
+    split NumbersFit discarded t (on_stream id (receive_piece (fin && not more) bytes) t) (λ q. u) (λ q. on_stream-fits id (receive_piece (fin && not more) bytes) t u)
 
 -- ---- bytes that come
 
@@ -233,7 +233,7 @@ in-fits no_memory b s (Head seen) l i w =
     (λ t. head-fits no_memory (header_of (seen ++ b ∷ [])) (record s { incoming = Head [] }) (header-fits (seen ++ b ∷ []) all)
     (record { ids = w.ids; answers = w.answers; pings = w.pings; incoming = All-nil IsByte }))
     (λ t. record { ids = w.ids; answers = w.answers; pings = w.pings; incoming = all })
-in-fits no_memory b s (Payload id n fin stray) l i w = piece-fits (b ∷ []) id n fin stray s i.0 i.1 w
+in-fits no_memory b s (Payload id n fin discarded) l i w = piece-fits (b ∷ []) id n fin discarded s i.0 i.1 w
 
 pub byte-fits : (no_memory : Bool) (b : ℕ) (s : Session) → b < 256 → NumbersFit s → NumbersFit (byte_comes no_memory b s)
 byte-fits no_memory b s l w = split NumbersFit (is_deaf s.status) s (byte_in no_memory b s s.incoming) (λ t. w) (λ d. in-fits no_memory b s s.incoming l w.incoming w)
@@ -269,8 +269,8 @@ begin_answer-fits (r ∷ more) s t a b w =
     subst NumbersFit (sym is) v
 
 pub begin-fits : (c : Choice) (s t : Session) → begin c s ≡ Some t → NumbersFit s → NumbersFit t
-begin-fits TheAlarm s t b w =
-    subst NumbersFit (sym (some_if (s.alarm && is_broken s.status) (begins alarm_frame (record s { alarm = false })) t b).1) w
+begin-fits TheErrorDue s t b w =
+    subst NumbersFit (sym (some_if (s.error_due && is_broken s.status) (begins error_frame (record s { error_due = false })) t b).1) w
 begin-fits TheGoAway s t b w =
     subst NumbersFit (sym (some_if (is_running s.status && away_due s.away.here) (begins go_away_frame (record s { away = begin_away s.away })) t b).1) w
 begin-fits TheAnswer s t b w = begin_answer-fits s.answers s t w.answers (if_some (is_running s.status) (begin_answer s.answers s) t b).1 w
@@ -281,12 +281,12 @@ begin-fits (ThePing n) s t b w =
 begin-fits (AStream id limit) s t b w =
     stream-fits id limit (look id s.table.entries) s t (if_some (is_running s.status) (begin_stream id limit (look id s.table.entries) s) t b).1 w
 
-settles-fits : (of : Option ℕ) (s : Session) → NumbersFit s → NumbersFit (settles of s)
-settles-fits None s w = w
-settles-fits (Some id) s w = settled-fits id s w
+reaps-fits : (of : Option ℕ) (s : Session) → NumbersFit s → NumbersFit (reaps of s)
+reaps-fits None s w = w
+reaps-fits (Some id) s w = reaped-fits id s w
 
 pub moves-fit : (n : ℕ) (s : Session) → NumbersFit s → NumbersFit (moves_on n s)
-moves-fit n s w = split NumbersFit (nat_lt n (length s.outgoing.bytes)) _ _ (λ t. w) (λ f. settles-fits s.outgoing.of (record s { outgoing = nothing_outgoing }) w)
+moves-fit n s w = split NumbersFit (nat_lt n (length s.outgoing.bytes)) _ _ (λ t. w) (λ f. reaps-fits s.outgoing.of (record s { outgoing = nothing_outgoing }) w)
 
 ready-fits : (may : Choice → Session → Bool) (s t : Session) → Ready may s t → NumbersFit s → NumbersFit t
 ready-fits may s t (inl h) w = subst NumbersFit (sym h.1) w

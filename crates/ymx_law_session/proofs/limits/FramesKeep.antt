@@ -18,7 +18,7 @@ use Rattle.ymx_machine.specs.shared.Lists.{look, change, without, drop_id}
 use Rattle.ymx_model.specs.session.Tables.{insert_record, remove_record}
 use Rattle.ymx_machine.specs.shared.Limits.{most_records, most_offered, most_answers}
 use Rattle.ymx_model.specs.session.GoAway.{was_said}
-use Rattle.ymx_model.specs.session.Sessions.{Session, Incoming, is_own, breaks, on_stream, settle}
+use Rattle.ymx_model.specs.session.Sessions.{Session, Incoming, is_own, breaks, on_stream, reap}
 use Rattle.ymx_model.specs.session.Sessions.Incoming.{Head, Payload}
 use Rattle.ymx_model.specs.session.Arrivals.{answers_with, ping_comes, go_away_comes, payload, delta, expects, record_fault, reset_comes, ends_now, acknowledges, take_head, meets, unless_fault, meets_some, offer, session_refuses, syn_fault, syn_comes, header_fault, head_comes, piece_comes}
 use Rattle.ymx_law_session.specs.Limits.{IsEndWithin, HasBegunRecord, IsIncomingWithin, IsPayloadWithin, IsWithin, is_taken_at, is_in_header}
@@ -28,7 +28,7 @@ use Rattle.ymx_law_session.proofs.limits.Ends.{new-within, credit-within, fin-wi
 use Rattle.ymx_law_session.proofs.limits.Offers.{offered-on, offered-added, offered-removed}
 use Rattle.ymx_law_session.proofs.limits.Owns.{next-on, next-removed, next-offered}
 use Rattle.ymx_law_session.proofs.limits.Pings.{staged-within}
-use Rattle.ymx_law_session.proofs.limits.Records.{Keeps, table-on, table-added, table-removed, begun-on, incoming-removed, within-on, within-settled}
+use Rattle.ymx_law_session.proofs.limits.Records.{Keeps, table-on, table-added, table-removed, begun-on, incoming-removed, within-on, within-reaped}
 use Rattle.ymx_law_session.proofs.limits.CallsKeep.{within-at, pings-keep, begun-added}
 
 -- ---- parts that no limit speaks of
@@ -74,9 +74,9 @@ go_away-keeps h s w =
 above_zero : (n : ℕ) → (n == 0) ≡ false → 0 < n
 above_zero n e = grind (arith, nat_tests)
 
--- a stray payload is dropped
-pub stray-keeps : (h : Header) (s : Session) → IsWithin s → IsWithin (expects h true s)
-stray-keeps h s w =
+-- a discarded payload is dropped
+pub discarded-keeps : (h : Header) (s : Session) → IsWithin s → IsWithin (expects h true s)
+discarded-keeps h s w =
     split IsWithin (payload h == 0) s (record s { incoming = Payload h.id (payload h) (has_fin h) true }) (λ t. w) (λ f. record { table = w.table; offered = w.offered; pings = w.pings; answers = record { count = w.answers.count; room = λ t. absurd cc }; outgoing = w.outgoing; incoming = above_zero (payload h) f; next = w.next })
 
 taken-keeps : (h : Header) (s : Session) → (0 < payload h → IsPayloadWithin h.id (payload h) s.role s.next s.table.entries) → IsWithin s → IsWithin (expects h false s)
@@ -178,9 +178,9 @@ offer-goes id e s l o w = record {
 
 reset-keeps : (id : ℕ) (e d : End) (s : Session) → look id s.table.entries ≡ Some d → d.phase ≡ e.phase → IsWithin s → IsWithin (reset_comes id e s)
 reset-keeps id e d s l same w =
-    split IsWithin (is_offered e.phase) (record s { table = remove_record id s.table; offered = drop_id id s.offered }) (settle id (on_stream id receive_rst s))
+    split IsWithin (is_offered e.phase) (record s { table = remove_record id s.table; offered = drop_id id s.offered }) (reap id (on_stream id receive_rst s))
     (λ t. offer-goes id d s l (rw same t) w)
-    (λ f. within-settled id _ (within-at id receive_rst s d l (λ k. record {
+    (λ f. within-reaped id _ (within-at id receive_rst s d l (λ k. record {
       within = rst-within s.table.window d (rw same f);
       offered = struck_off d.phase (rw same f) ∙ sym (rw same f);
       payload = λ q. let z = (both_of (takes (struck d.phase)) _ q).0 in let y = struck_deaf d.phase k.phase in absurd cc;
@@ -193,7 +193,7 @@ meets-keeps : (h : Header) (e : End) (s : Session) → look h.id s.table.entries
 meets-keeps h e s l f w =
     let own = is_own s.role h.id in
     split IsWithin (has_rst h) (expects h true (reset_comes h.id e (on_stream h.id (acknowledges own h) s))) (expects h false (on_stream h.id (take_head own h) s))
-    (λ t. stray-keeps h _ (reset-keeps h.id e (acknowledges own h e) (on_stream h.id (acknowledges own h) s) (look-change_there h.id (acknowledges own h) s.table.entries e l) (same_phase own)
+    (λ t. discarded-keeps h _ (reset-keeps h.id e (acknowledges own h e) (on_stream h.id (acknowledges own h) s) (look-change_there h.id (acknowledges own h) s.table.entries e l) (same_phase own)
     (within-on h.id (acknowledges own h) s (λ d m k. acknowledges-keeps s.table.window own h d) w)))
     (λ r. let n = no_fault h e r f in
     let keeps = head-keeps-record s.table.window own h e n in
@@ -246,7 +246,7 @@ syn-keeps no_memory h s inc l w = unless_fault-keeps IsWithin (syn_fault h s) s 
     let chain = syn_chain (h.id == 0 || is_own s.role h.id) (is_some (look h.id s.table.entries)) BadSyn StreamInUse (record_fault h (offer s)) none in
     let free = none_of_look (look h.id s.table.entries) chain.1 in
     split IsWithin (session_refuses s || no_memory) (expects h true (answers_with (Reject h.id) s)) (meets h (offer s) (record s { table = insert_record h.id (offer s) s.table; offered = s.offered ++ h.id ∷ [] }))
-    (λ t. stray-keeps h _ (answer-keeps (Reject h.id) s inc l w))
+    (λ t. discarded-keeps h _ (answer-keeps (Reject h.id) s inc l w))
     (λ f. let a = none_of (session_refuses s) no_memory f in
     let b = none_of (was_said s.away.here || nat_le most_offered (length s.offered)) (nat_le most_records (length s.table.entries)) a.0 in
     let c = none_of (was_said s.away.here) (nat_le most_offered (length s.offered)) b.0 in
@@ -263,7 +263,7 @@ head-keeps no_memory h s inc l w = unless_fault-keeps IsWithin (header_fault h s
     of (look h.id s.table.entries) refl))))
   where
     of : (o : Option End) → look h.id s.table.entries ≡ o → IsWithin (meets_some h o s)
-    of None k = stray-keeps h s w
+    of None k = discarded-keeps h s w
     of (Some e) k = unless_fault-keeps IsWithin (record_fault h e) s (meets h e s) (λ f. break-keeps f s w) (λ n. meets-keeps h e s k n w)
 
 -- ---- a piece of a payload
@@ -308,32 +308,32 @@ payload-piece id n fin bytes role next ps some h = record { some = some; granted
         let m : n - length bytes ≤ (receive_piece fin bytes d).reader.granted = omega (arith, a.1) in rw now m
     of e (d, was, inr (n, now)) t = absurd (n refl)
 
-in_header_piece : (more : Bool) (id n : ℕ) (fin stray : Bool) → is_in_header (if more then Payload id n fin stray else Head []) ≡ false
-in_header_piece true id n fin stray = refl
-in_header_piece false id n fin stray = refl
+in_header_piece : (more : Bool) (id n : ℕ) (fin discarded : Bool) → is_in_header (if more then Payload id n fin discarded else Head []) ≡ false
+in_header_piece true id n fin discarded = refl
+in_header_piece false id n fin discarded = refl
 
 incoming-piece : (more : Bool) (id n : ℕ) (fin last : Bool) (bytes : List ℕ) (role : Role) (next : ℕ) (ps : List (ℕ × End)) → (more ≡ true → 0 < n - length bytes) →
     IsPayloadWithin id n role next ps → IsIncomingWithin (if more then Payload id (n - length bytes) fin false else Head []) role next (change id (receive_piece last bytes) ps)
 incoming-piece true id n fin last bytes role next ps some h = payload-piece id n last bytes role next ps (some refl) h
 incoming-piece false id n fin last bytes role next ps some h = omega arith
 
-incoming-stray : (more : Bool) (id n : ℕ) (fin : Bool) (role : Role) (next : ℕ) (ps : List (ℕ × End)) → (more ≡ true → 0 < n) →
+incoming-discarded : (more : Bool) (id n : ℕ) (fin : Bool) (role : Role) (next : ℕ) (ps : List (ℕ × End)) → (more ≡ true → 0 < n) →
     IsIncomingWithin (if more then Payload id n fin true else Head []) role next ps
-incoming-stray true id n fin role next ps some = some refl
-incoming-stray false id n fin role next ps some = omega arith
+incoming-discarded true id n fin role next ps some = some refl
+incoming-discarded false id n fin role next ps some = omega arith
 
 lacks_more : (n m : ℕ) → nat_lt m n ≡ true → 0 < n - m
 lacks_more n m t = let l = is_lt m n t in omega arith
 
-pub piece-keeps : (bytes : List ℕ) (id n : ℕ) (fin stray : Bool) (s : Session) → s.incoming ≡ Payload id n fin stray → length bytes ≤ n → IsWithin s →
-    IsWithin (piece_comes bytes id n fin stray s)
+pub piece-keeps : (bytes : List ℕ) (id n : ℕ) (fin discarded : Bool) (s : Session) → s.incoming ≡ Payload id n fin discarded → length bytes ≤ n → IsWithin s →
+    IsWithin (piece_comes bytes id n fin discarded s)
 piece-keeps bytes id n fin true s inc l w = record {
   table = w.table;
   offered = w.offered;
   pings = w.pings;
   answers = record { count = w.answers.count; room = λ t. let z = in_header_piece (nat_lt (length bytes) n) id (n - length bytes) fin true in absurd cc };
   outgoing = w.outgoing;
-  incoming = incoming-stray (nat_lt (length bytes) n) id (n - length bytes) fin s.role s.next s.table.entries (lacks_more n (length bytes));
+  incoming = incoming-discarded (nat_lt (length bytes) n) id (n - length bytes) fin s.role s.next s.table.entries (lacks_more n (length bytes));
   next = w.next;
 }
 piece-keeps bytes id n fin false s inc l w =

@@ -58,7 +58,7 @@ once-added n stage (p ∷ ps) a o =
 
 -- ---- the number of the next ping isn't pending
 
--- the number k places behind n
+-- the number k places after n
 abbrev ahead : (k n : ℕ) → ℕ
 ahead k n = (n + k) % 2 ^ 32
 

@@ -9,7 +9,7 @@ use Rattle.ymx_model.specs.session.FramesDue.{is_due}
 use Rattle.ymx_model.specs.session.Tables.{Table, with_record, insert_record, remove_record, pass_turn}
 use Rattle.ymx_machine.specs.shared.Lists.{look, change, without, place, Distinct}
 use Rattle.ymx_machine.specs.shared.Limits.{most_records}
-use Rattle.ymx_model.specs.session.Sessions.{Session, Outgoing, Incoming, belongs_to, is_spent, settle, on_stream}
+use Rattle.ymx_model.specs.session.Sessions.{Session, Outgoing, Incoming, belongs_to, is_spent, reap, on_stream}
 use Rattle.ymx_model.specs.session.Sessions.Incoming.{Head, Payload}
 use Rattle.ymx_law_session.specs.Limits.{IsEndWithin, IsTableWithin, HasBegunRecord, IsIncomingWithin, IsPayloadWithin, IsWithin, is_offered_at}
 use Rattle.ymx_machine.proofs.Tests.{split, differs, both_of, negated}
@@ -158,7 +158,7 @@ spent window begun id (Some e) q =
     let b = both_of (is_lingering e.phase) (not (is_due window e)) a.0 in
     (refl, lingers e.phase b.0, negated (belongs_to begun.of id) a.1)
 
-pub within-settled : (id : ℕ) (s : Session) → IsWithin s → IsWithin (settle id s)
-within-settled id s h =
+pub within-reaped : (id : ℕ) (s : Session) → IsWithin s → IsWithin (reap id s)
+within-reaped id s h =
     split IsWithin (is_spent s.table.window s.outgoing id (look id s.table.entries)) (record s { table = remove_record id s.table }) s
     (λ t. let p = spent s.table.window s.outgoing id (look id s.table.entries) t in within-removed id s p.0 p.1 p.2 h) (λ n. h)

@@ -13,7 +13,7 @@ use Rattle.ymx_model.specs.session.Records.{End, receive_rst}
 use Rattle.ymx_model.specs.session.Pings.{receive_answer}
 use Rattle.ymx_machine.specs.shared.Lists.{look, change, without, drop_id}
 use Rattle.ymx_model.specs.session.Tables.{insert_record, remove_record}
-use Rattle.ymx_model.specs.session.Sessions.{Session, is_own, is_spent, on_stream, settle, breaks}
+use Rattle.ymx_model.specs.session.Sessions.{Session, is_own, is_spent, on_stream, reap, breaks}
 use Rattle.ymx_model.specs.session.Sessions.Incoming.{Payload}
 use Rattle.ymx_model.specs.session.Calls.{outcome}
 use Rattle.ymx_model.specs.session.Arrivals.{answers_with, ping_comes, go_away_comes, payload, expects, record_fault, reset_comes, acknowledges, take_head, meets, meets_some, offer, session_refuses, syn_fault, syn_comes, header_fault, head_comes, piece_comes}
@@ -35,7 +35,7 @@ others-without id (p ∷ ps) = let h = others-without id ps in grind (arith, nat
 one-changed : (id : ℕ) (f : End → End) (s : Session) → OnlyRecord id s (on_stream id f s)
 one-changed id f s = record { only = refl; window = refl; rest = others-change id f s.table.entries }
 
-one-gone : (id : ℕ) (f : End → End) (s : Session) → OnlyRecord id s (settle id (on_stream id f s))
+one-gone : (id : ℕ) (f : End → End) (s : Session) → OnlyRecord id s (reap id (on_stream id f s))
 one-gone id f s =
     let t = on_stream id f s in
     split (OnlyRecord id s) (is_spent t.table.window t.outgoing id (look id t.table.entries)) (record t { table = remove_record id t.table }) t
@@ -78,7 +78,7 @@ forget-alone id s = (forget-one id s).only
 
 -- ---- a piece of a payload
 
-pub piece-alone : (bytes : List ℕ) (id missing : ℕ) (fin stray : Bool) (s : Session) → OnlyArrived s (piece_comes bytes id missing fin stray s)
+pub piece-alone : (bytes : List ℕ) (id missing : ℕ) (fin discarded : Bool) (s : Session) → OnlyArrived s (piece_comes bytes id missing fin discarded s)
 piece-alone bytes id missing fin true s = refl
 piece-alone bytes id missing fin false s = refl
 
@@ -87,13 +87,13 @@ piece-alone bytes id missing fin false s = refl
 own-same : (s : Session) → KeepsOwn s s
 own-same s = record { role = refl; window = refl; next = refl; pings = refl; away = refl; outgoing = refl }
 
-own-expects : (h : Header) (stray : Bool) (s t : Session) → KeepsOwn s t → KeepsOwn s (expects h stray t)
-own-expects h stray s t k =
-    split (KeepsOwn s) (payload h == 0) t (record t { incoming = Payload h.id (payload h) (has_fin h) stray }) (λ e. k)
+own-expects : (h : Header) (discarded : Bool) (s t : Session) → KeepsOwn s t → KeepsOwn s (expects h discarded t)
+own-expects h discarded s t k =
+    split (KeepsOwn s) (payload h == 0) t (record t { incoming = Payload h.id (payload h) (has_fin h) discarded }) (λ e. k)
     (λ e. record { role = k.role; window = k.window; next = k.next; pings = k.pings; away = k.away; outgoing = k.outgoing })
 
-own-settled : (id : ℕ) (s t : Session) → KeepsOwn s t → KeepsOwn s (settle id t)
-own-settled id s t k =
+own-reaped : (id : ℕ) (s t : Session) → KeepsOwn s t → KeepsOwn s (reap id t)
+own-reaped id s t k =
     split (KeepsOwn s) (is_spent t.table.window t.outgoing id (look id t.table.entries)) (record t { table = remove_record id t.table }) t
     (λ e. record { role = k.role; window = k.window; next = k.next; pings = k.pings; away = k.away; outgoing = k.outgoing }) (λ e. k)
 
@@ -102,9 +102,9 @@ own-on id f s t k = record { role = k.role; window = k.window; next = k.next; pi
 
 own-reset : (id : ℕ) (e : End) (s t : Session) → KeepsOwn s t → KeepsOwn s (reset_comes id e t)
 own-reset id e s t k =
-    split (KeepsOwn s) (is_offered e.phase) (record t { table = remove_record id t.table; offered = drop_id id t.offered }) (settle id (on_stream id receive_rst t))
+    split (KeepsOwn s) (is_offered e.phase) (record t { table = remove_record id t.table; offered = drop_id id t.offered }) (reap id (on_stream id receive_rst t))
     (λ r. record { role = k.role; window = k.window; next = k.next; pings = k.pings; away = k.away; outgoing = k.outgoing })
-    (λ r. own-settled id s (on_stream id receive_rst t) (own-on id receive_rst s t k))
+    (λ r. own-reaped id s (on_stream id receive_rst t) (own-on id receive_rst s t k))
 
 own-meets : (h : Header) (e : End) (s t : Session) → KeepsOwn s t → KeepsOwn s (meets h e t)
 own-meets h e s t k =

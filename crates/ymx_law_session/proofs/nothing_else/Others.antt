@@ -9,7 +9,7 @@ use Rattle.ymx_model.specs.session.Records.{End, receive_rst, receive_piece}
 use Rattle.ymx_model.specs.session.Pings.{receive_answer}
 use Rattle.ymx_machine.specs.shared.Lists.{look, drop_id}
 use Rattle.ymx_model.specs.session.Tables.{insert_record, remove_record}
-use Rattle.ymx_model.specs.session.Sessions.{Session, is_own, is_spent, on_stream, settle}
+use Rattle.ymx_model.specs.session.Sessions.{Session, is_own, is_spent, on_stream, reap}
 use Rattle.ymx_model.specs.session.Sessions.Incoming.{Payload}
 use Rattle.ymx_model.specs.session.Calls.{Outcome, outcome}
 use Rattle.ymx_model.specs.session.Arrivals.{answers_with, ping_comes, go_away_comes, payload, expects, record_fault, reset_comes, acknowledges, take_head, meets, meets_some, offer, session_refuses, syn_fault, syn_comes, header_fault, head_comes, piece_comes}
@@ -27,8 +27,8 @@ OthersIn id s o = OthersSame id s o.next
 others-on : (id : ℕ) (f : End → End) (s t : Session) → OthersSame id s t → OthersSame id s (on_stream id f t)
 others-on id f s t h j n = look-change_other id j f t.table.entries n ∙ h j n
 
-pub others-settled : (id : ℕ) (s t : Session) → OthersSame id s t → OthersSame id s (settle id t)
-others-settled id s t h =
+pub others-reaped : (id : ℕ) (s t : Session) → OthersSame id s t → OthersSame id s (reap id t)
+others-reaped id s t h =
     split (OthersSame id s) (is_spent t.table.window t.outgoing id (look id t.table.entries)) (record t { table = remove_record id t.table }) t
     (λ e j n. look-without_other id j t.table.entries n ∙ h j n) (λ e. h)
 
@@ -38,7 +38,7 @@ others-stay : (id : ℕ) (s : Session) → StaysAt (OthersSame id s) id s
 others-stay id s = record {
   now = λ j n. refl;
   changed = λ f. others-on id f s s (λ j n. refl);
-  gone = λ f. others-settled id s (on_stream id f s) (others-on id f s s (λ j n. refl));
+  gone = λ f. others-reaped id s (on_stream id f s) (others-on id f s s (λ j n. refl));
 }
 
 pub write-others : (id : ℕ) (bytes : List ℕ) (s : Session) → OthersIn id s (outcome (call.Write id bytes) s)
@@ -58,8 +58,8 @@ forget-others id s = forget-stays (OthersSame id s) id s (others-stay id s)
 
 -- ---- frames
 
-others-expects : (id : ℕ) (h : Header) (stray : Bool) (s t : Session) → OthersSame id s t → OthersSame id s (expects h stray t)
-others-expects id h stray s t o = split (OthersSame id s) (payload h == 0) t (record t { incoming = Payload h.id (payload h) (has_fin h) stray }) (λ e. o) (λ e. o)
+others-expects : (id : ℕ) (h : Header) (discarded : Bool) (s t : Session) → OthersSame id s t → OthersSame id s (expects h discarded t)
+others-expects id h discarded s t o = split (OthersSame id s) (payload h == 0) t (record t { incoming = Payload h.id (payload h) (has_fin h) discarded }) (λ e. o) (λ e. o)
 
 others-meets : (h : Header) (e : End) (s t : Session) → OthersSame h.id s t → OthersSame h.id s (meets h e t)
 others-meets h e s t o =
@@ -68,8 +68,8 @@ others-meets h e s t o =
     (λ r. others-expects h.id h false s _ (others-on h.id (take_head (is_own t.role h.id) h) s t o))
   where
     of : (u : Session) → OthersSame h.id s u → OthersSame h.id s (reset_comes h.id e u)
-    of u q = split (OthersSame h.id s) (is_offered e.phase) (record u { table = remove_record h.id u.table; offered = drop_id h.id u.offered }) (settle h.id (on_stream h.id receive_rst u))
-        (λ r j n. look-without_other h.id j u.table.entries n ∙ q j n) (λ r. others-settled h.id s _ (others-on h.id receive_rst s u q))
+    of u q = split (OthersSame h.id s) (is_offered e.phase) (record u { table = remove_record h.id u.table; offered = drop_id h.id u.offered }) (reap h.id (on_stream h.id receive_rst u))
+        (λ r j n. look-without_other h.id j u.table.entries n ∙ q j n) (λ r. others-reaped h.id s _ (others-on h.id receive_rst s u q))
 
 -- a head changes no record but that of its id
 pub head-others : (no_memory : Bool) (h : Header) (s : Session) → OthersSame h.id s (head_comes no_memory h s)
@@ -90,6 +90,6 @@ head-others no_memory h s =
     of (Some e) = unless_fault-keeps (OthersSame h.id s) (record_fault h e) s (meets h e s) (λ f j n. refl) (λ n0. others-meets h e s s (λ j n. refl))
 
 -- nor does a piece of a payload
-pub piece-others : (bytes : List ℕ) (id missing : ℕ) (fin stray : Bool) (s : Session) → OthersSame id s (piece_comes bytes id missing fin stray s)
+pub piece-others : (bytes : List ℕ) (id missing : ℕ) (fin discarded : Bool) (s : Session) → OthersSame id s (piece_comes bytes id missing fin discarded s)
 piece-others bytes id missing fin true s j n = refl
 piece-others bytes id missing fin false s j n = look-change_other id j (receive_piece (fin && not (nat_lt (length bytes) missing)) bytes) s.table.entries n

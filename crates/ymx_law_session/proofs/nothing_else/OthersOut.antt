@@ -11,13 +11,13 @@ use Rattle.ymx_machine.specs.shared.Lists.{look}
 use Rattle.ymx_model.specs.session.Tables.{with_record, pass_turn}
 use Rattle.ymx_model.specs.session.Sessions.{Session, nothing_outgoing, is_running, is_lost, is_closed, on_stream}
 use Rattle.ymx_model.specs.session.Calls.{Outcome, outcome, answers, accept_of, open_or, session_opened, refused, is_unacknowledged}
-use Rattle.ymx_model.specs.session.Emissions.{begin, begin_stream, begin_kind, moves_on, settles}
+use Rattle.ymx_model.specs.session.Emissions.{begin, begin_stream, begin_kind, moves_on, reaps}
 use Rattle.ymx_model.specs.session.Emissions.Choice.{AStream}
 use Rattle.ymx_law_session.specs.Refusals.{OthersSame}
 use Rattle.ymx_machine.proofs.Tests.{split}
 use Rattle.ymx_machine.proofs.Lists.{look-change_other, look-added_other}
 use Rattle.ymx_law_session.proofs.limits.EmissionsKeep.{if_some, none_if}
-use Rattle.ymx_law_session.proofs.nothing_else.Others.{OthersIn, others-settled}
+use Rattle.ymx_law_session.proofs.nothing_else.Others.{OthersIn, others-reaped}
 
 -- ---- opening
 
@@ -75,6 +75,6 @@ begin-others id limit s t b = stream-others id limit (look id s.table.entries) s
 
 pub moves-others : (n id : ℕ) (s : Session) → s.outgoing.of ≡ Some id → OthersSame id s (moves_on n s)
 moves-others n id s e =
-    split (OthersSame id s) (nat_lt n (length s.outgoing.bytes)) (record s { outgoing = record { bytes = drop n s.outgoing.bytes; of = s.outgoing.of } }) (settles s.outgoing.of (record s { outgoing = nothing_outgoing }))
+    split (OthersSame id s) (nat_lt n (length s.outgoing.bytes)) (record s { outgoing = record { bytes = drop n s.outgoing.bytes; of = s.outgoing.of } }) (reaps s.outgoing.of (record s { outgoing = nothing_outgoing }))
     (λ l j m. refl)
-    (λ l. subst (λ o. OthersSame id s (settles o (record s { outgoing = nothing_outgoing }))) (sym e) (others-settled id s (record s { outgoing = nothing_outgoing }) (λ j m. refl)))
+    (λ l. subst (λ o. OthersSame id s (reaps o (record s { outgoing = nothing_outgoing }))) (sym e) (others-reaped id s (record s { outgoing = nothing_outgoing }) (λ j m. refl)))

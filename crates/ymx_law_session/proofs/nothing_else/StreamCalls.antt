@@ -4,16 +4,16 @@ use Rattle.ymx_machine.specs.declared.types.Call.TheVariants as call
 use Rattle.ymx_machine.specs.shared.Phases.Phase.{WasReset}
 use Rattle.ymx_machine.specs.shared.Replies.{write_reply, read_reply, finish_reply, reset_reply, forget_reply, bytes_moved, is_done}
 use Rattle.ymx_model.specs.session.Records.{End, end_write, end_read, end_finish, end_reset, end_forget}
-use Rattle.ymx_model.specs.session.Sessions.{Session, is_lost, on_stream, settle}
+use Rattle.ymx_model.specs.session.Sessions.{Session, is_lost, on_stream, reap}
 use Rattle.ymx_model.specs.session.Calls.{outcome, write_outcome, read_outcome, finish_outcome, reset_outcome, forget_outcome}
 use Rattle.ymx_machine.proofs.Tests.{split}
 use Rattle.ymx_law_session.proofs.limits.CallsKeep.{with-keeps}
 
--- it holds now, after any change of the record, and after one behind which the record may go
+-- it holds now, after any change of the record, and after one after which the record may go
 pub record StaysAt (P : Session → Type 0) (id : ℕ) (s : Session) : Type 0 where
   pub now : P s
   pub changed : (f : End → End) → P (on_stream id f s)
-  pub gone : (f : End → End) → P (settle id (on_stream id f s))
+  pub gone : (f : End → End) → P (reap id (on_stream id f s))
 
 pub write-stays : (P : Session → Type 0) (id : ℕ) (bytes : List ℕ) (s : Session) → StaysAt P id s → P (outcome (call.Write id bytes) s).next
 write-stays P id bytes s h = with-keeps P id (write_outcome id bytes s) s h.now (λ e l.
@@ -34,4 +34,4 @@ reset-stays P id s h = with-keeps P id (reset_outcome id s) s h.now (λ e l.
 
 pub forget-stays : (P : Session → Type 0) (id : ℕ) (s : Session) → StaysAt P id s → P (outcome (call.Forget id) s).next
 forget-stays P id s h = with-keeps P id (forget_outcome id s) s h.now (λ e l.
-    split P (is_done (forget_reply e.phase)) (settle id (on_stream id (end_forget (is_lost s.status)) s)) s (λ t. h.gone (end_forget (is_lost s.status))) (λ n. h.now))
+    split P (is_done (forget_reply e.phase)) (reap id (on_stream id (end_forget (is_lost s.status)) s)) s (λ t. h.gone (end_forget (is_lost s.status))) (λ n. h.now))

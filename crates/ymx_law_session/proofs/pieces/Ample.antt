@@ -1,4 +1,4 @@
--- A feed that counted no want of memory is the one with ample memory.
+-- A feed that counted no lack of memory is the one with ample memory.
 use Rattle.std.proofs.Common.{◌≡◌, ◌≤◌, ℕ, zero, suc, ◌<◌, List, [], ◌∷◌, ◌++◌, length, take, drop, min, Bool, true, false, not, ◌||◌, ◌==◌, nat_lt, if◌then◌else◌, Option, None, Some, refl, sym, ◌∙◌, subst, arith}
 use Rattle.std.proofs.lemmas.Bool.Decides.{nat_tests}
 use Rattle.ymx_header.specs.declared.header.Header.{Header}
@@ -57,7 +57,7 @@ in-same b s (Head seen) d z =
     then-same (length seen == 11) (head_comes true (header_of (seen ++ b ∷ [])) (record s { incoming = Head [] })) (head_comes false (header_of (seen ++ b ∷ [])) (record s { incoming = Head [] })) (record s { incoming = Head (seen ++ b ∷ []) }) (λ l.
     let is : starves true b s (Head seen) ≡ (if is_starved (header_of (seen ++ b ∷ [])) s then 1 else 0) = rw (d, l) refl in
     head-same (header_of (seen ++ b ∷ [])) (record s { incoming = Head [] }) (zero_one (is_starved (header_of (seen ++ b ∷ [])) s) (starves true b s (Head seen)) is z))
-in-same b s (Payload id n fin stray) d z = refl
+in-same b s (Payload id n fin discarded) d z = refl
 
 byte-same : (no_memory : Bool) (b : ℕ) (s : Session) → starves no_memory b s s.incoming ≡ 0 → byte_comes no_memory b s ≡ byte_comes false b s
 byte-same false b s z = refl

@@ -11,7 +11,7 @@ use Rattle.ymx_model.specs.session.Records.{End, receive_rst}
 use Rattle.ymx_model.specs.session.Pings.{receive_answer}
 use Rattle.ymx_machine.specs.shared.Lists.{look, drop_id}
 use Rattle.ymx_model.specs.session.Tables.{insert_record, remove_record}
-use Rattle.ymx_model.specs.session.Sessions.{Session, Incoming, is_own, is_spent, is_deaf, on_stream, settle}
+use Rattle.ymx_model.specs.session.Sessions.{Session, Incoming, is_own, is_spent, is_deaf, on_stream, reap}
 use Rattle.ymx_model.specs.session.Sessions.Incoming.{Head, Payload}
 use Rattle.ymx_model.specs.session.Arrivals.{answers_with, ping_comes, go_away_comes, payload, expects, record_fault, reset_comes, acknowledges, take_head, meets, meets_some, offer, session_refuses, syn_fault, syn_comes, header_fault, head_comes, piece_comes}
 use Rattle.ymx_model.specs.session.Feeds.{Takes, is_stuck, byte_comes, starves}
@@ -21,28 +21,28 @@ use Rattle.ymx_law_session.proofs.limits.FramesKeep.{unless_fault-keeps}
 
 -- ---- what follows a head
 
--- behind the head the payload is awaited, if there is one
+-- after the head the payload is awaited, if there is one
 abbrev pub Awaits : Header → Session → Type 0
-Awaits h s = ((payload h ≡ 0) × (s.incoming ≡ Head [])) ⊎ ((stray : Bool) × (0 < payload h) × (s.incoming ≡ Payload h.id (payload h) (has_fin h) stray))
+Awaits h s = ((payload h ≡ 0) × (s.incoming ≡ Head [])) ⊎ ((discarded : Bool) × (0 < payload h) × (s.incoming ≡ Payload h.id (payload h) (has_fin h) discarded))
 
 abbrev pub AwaitsRunning : Header → Session → Type 0
 AwaitsRunning h s = s.status ≡ Running → Awaits h s
 
-expects-awaits : (h : Header) (stray : Bool) (s : Session) → s.incoming ≡ Head [] → AwaitsRunning h (expects h stray s)
-expects-awaits h stray s inc =
-    split (AwaitsRunning h) (payload h == 0) s (record s { incoming = Payload h.id (payload h) (has_fin h) stray })
-    (λ t r. inl (agrees (payload h) 0 t, inc)) (λ f r. inr (stray, grind (arith, nat_tests), refl))
+expects-awaits : (h : Header) (discarded : Bool) (s : Session) → s.incoming ≡ Head [] → AwaitsRunning h (expects h discarded s)
+expects-awaits h discarded s inc =
+    split (AwaitsRunning h) (payload h == 0) s (record s { incoming = Payload h.id (payload h) (has_fin h) discarded })
+    (λ t r. inl (agrees (payload h) 0 t, inc)) (λ f r. inr (discarded, grind (arith, nat_tests), refl))
 
-settled-incoming : (id : ℕ) (s : Session) → (settle id s).incoming ≡ s.incoming
-settled-incoming id s =
+reaped-incoming : (id : ℕ) (s : Session) → (reap id s).incoming ≡ s.incoming
+reaped-incoming id s =
     let P : Session → Type 0 = λ x. x.incoming ≡ s.incoming in
     split P (is_spent s.table.window s.outgoing id (look id s.table.entries)) (record s { table = remove_record id s.table }) s (λ t. refl) (λ f. refl)
 
 reset-incoming : (id : ℕ) (e : End) (s : Session) → (reset_comes id e s).incoming ≡ s.incoming
 reset-incoming id e s =
     let P : Session → Type 0 = λ x. x.incoming ≡ s.incoming in
-    split P (is_offered e.phase) (record s { table = remove_record id s.table; offered = drop_id id s.offered }) (settle id (on_stream id receive_rst s))
-    (λ t. refl) (λ f. settled-incoming id (on_stream id receive_rst s))
+    split P (is_offered e.phase) (record s { table = remove_record id s.table; offered = drop_id id s.offered }) (reap id (on_stream id receive_rst s))
+    (λ t. refl) (λ f. reaped-incoming id (on_stream id receive_rst s))
 
 meets-awaits : (h : Header) (e : End) (s : Session) → s.incoming ≡ Head [] → AwaitsRunning h (meets h e s)
 meets-awaits h e s inc =
@@ -84,7 +84,7 @@ deaf-free s d = of s.status refl d
 
 deaf-starves : (b : ℕ) (s : Session) (i : Incoming) → starves false b s i ≡ 0
 deaf-starves b s (Head seen) = refl
-deaf-starves b s (Payload id n fin stray) = refl
+deaf-starves b s (Payload id n fin discarded) = refl
 
 pub takes-deaf : (bs : List ℕ) (s : Session) → is_deaf s.status ≡ true → Takes bs s s 0
 takes-deaf [] s d = (refl, refl)
@@ -94,7 +94,7 @@ takes-deaf (b ∷ bs) s d =
     (false, 0, deaf-free s d, rw (deaf-starves b s s.incoming) refl, subst P (sym e) (takes-deaf bs s d))
 
 -- a payload's bytes, as a block
-pub block-takes : (bytes : List ℕ) (id n : ℕ) (fin stray : Bool) (s : Session) → s.status ≡ Running → s.incoming ≡ Payload id n fin stray → 0 < length bytes → length bytes ≤ n →
-    Takes bytes s (piece_comes bytes id n fin stray s) 0
-block-takes [] id n fin stray s st inc some fits = absurd (omega arith)
-block-takes (b ∷ bs) id n fin stray s st inc some fits = piece-takes b bs id n fin stray s st inc fits
+pub block-takes : (bytes : List ℕ) (id n : ℕ) (fin discarded : Bool) (s : Session) → s.status ≡ Running → s.incoming ≡ Payload id n fin discarded → 0 < length bytes → length bytes ≤ n →
+    Takes bytes s (piece_comes bytes id n fin discarded s) 0
+block-takes [] id n fin discarded s st inc some fits = absurd (omega arith)
+block-takes (b ∷ bs) id n fin discarded s st inc some fits = piece-takes b bs id n fin discarded s st inc fits

@@ -40,8 +40,8 @@ more a n l = grind (arith, nat_tests)
 sums : (a b : List ℕ) (n : ℕ) → n - length a - length b ≡ n - length (a ++ b)
 sums a b n = omega (arith, length-append a b)
 
-pub piece-join : (a b : List ℕ) (id n : ℕ) (fin stray : Bool) (s : Session) → length a < n →
-    piece_comes b id (n - length a) fin stray (piece_comes a id n fin stray s) ≡ piece_comes (a ++ b) id n fin stray s
+pub piece-join : (a b : List ℕ) (id n : ℕ) (fin discarded : Bool) (s : Session) → length a < n →
+    piece_comes b id (n - length a) fin discarded (piece_comes a id n fin discarded s) ≡ piece_comes (a ++ b) id n fin discarded s
 piece-join a b id n fin true s l =
     rw (less a b n l, sums a b n)
 piece-join a b id n fin false s l =
@@ -52,48 +52,48 @@ piece-join a b id n fin false s l =
 deaf : (no_memory : Bool) (b : ℕ) (s : Session) → s.status ≡ Running → byte_comes no_memory b s ≡ byte_in no_memory b s s.incoming
 deaf no_memory b s st = rw st
 
-pub byte-piece : (no_memory : Bool) (b id n : ℕ) (fin stray : Bool) (s : Session) → s.status ≡ Running → s.incoming ≡ Payload id n fin stray →
-    byte_comes no_memory b s ≡ piece_comes (b ∷ []) id n fin stray s
-byte-piece no_memory b id n fin stray s st inc = deaf no_memory b s st ∙ ap (byte_in no_memory b s) inc
+pub byte-piece : (no_memory : Bool) (b id n : ℕ) (fin discarded : Bool) (s : Session) → s.status ≡ Running → s.incoming ≡ Payload id n fin discarded →
+    byte_comes no_memory b s ≡ piece_comes (b ∷ []) id n fin discarded s
+byte-piece no_memory b id n fin discarded s st inc = deaf no_memory b s st ∙ ap (byte_in no_memory b s) inc
 
-free-payload : (id n : ℕ) (fin stray : Bool) (s : Session) → s.status ≡ Running → s.incoming ≡ Payload id n fin stray → is_stuck s ≡ false
-free-payload id n fin stray s st inc = rw (st, inc) refl
+free-payload : (id n : ℕ) (fin discarded : Bool) (s : Session) → s.status ≡ Running → s.incoming ≡ Payload id n fin discarded → is_stuck s ≡ false
+free-payload id n fin discarded s st inc = rw (st, inc) refl
 
-none-payload : (b id n : ℕ) (fin stray : Bool) (s : Session) → s.incoming ≡ Payload id n fin stray → starves false b s s.incoming ≡ 0
-none-payload b id n fin stray s inc = rw inc refl
+none-payload : (b id n : ℕ) (fin discarded : Bool) (s : Session) → s.incoming ≡ Payload id n fin discarded → starves false b s s.incoming ≡ 0
+none-payload b id n fin discarded s inc = rw inc refl
 
-pub piece-status : (a : List ℕ) (id n : ℕ) (fin stray : Bool) (s : Session) → (piece_comes a id n fin stray s).status ≡ s.status
+pub piece-status : (a : List ℕ) (id n : ℕ) (fin discarded : Bool) (s : Session) → (piece_comes a id n fin discarded s).status ≡ s.status
 piece-status a id n fin true s = refl
 piece-status a id n fin false s = refl
 
-pub piece-incoming : (a : List ℕ) (id n : ℕ) (fin stray : Bool) (s : Session) → length a < n →
-    (piece_comes a id n fin stray s).incoming ≡ Payload id (n - length a) fin stray
+pub piece-incoming : (a : List ℕ) (id n : ℕ) (fin discarded : Bool) (s : Session) → length a < n →
+    (piece_comes a id n fin discarded s).incoming ≡ Payload id (n - length a) fin discarded
 piece-incoming a id n fin true s l = rw (more a n l) refl
 piece-incoming a id n fin false s l = rw (more a n l) refl
 
 -- These bytes do what the piece does.
-pub piece-takes : (b : ℕ) (bs : List ℕ) (id n : ℕ) (fin stray : Bool) (s : Session) →
-    s.status ≡ Running → s.incoming ≡ Payload id n fin stray → length (b ∷ bs) ≤ n →
-    Takes (b ∷ bs) s (piece_comes (b ∷ bs) id n fin stray s) 0
-piece-takes b [] id n fin stray s st inc l = (
+pub piece-takes : (b : ℕ) (bs : List ℕ) (id n : ℕ) (fin discarded : Bool) (s : Session) →
+    s.status ≡ Running → s.incoming ≡ Payload id n fin discarded → length (b ∷ bs) ≤ n →
+    Takes (b ∷ bs) s (piece_comes (b ∷ bs) id n fin discarded s) 0
+piece-takes b [] id n fin discarded s st inc l = (
   false,
   0,
-  free-payload id n fin stray s st inc,
-  rw (none-payload b id n fin stray s inc) refl,
-  (sym (byte-piece false b id n fin stray s st inc), refl),
+  free-payload id n fin discarded s st inc,
+  rw (none-payload b id n fin discarded s inc) refl,
+  (sym (byte-piece false b id n fin discarded s st inc), refl),
 )
-piece-takes b (c ∷ bs) id n fin stray s st inc l =
-    let t = piece_comes (b ∷ []) id n fin stray s in
+piece-takes b (c ∷ bs) id n fin discarded s st inc l =
+    let t = piece_comes (b ∷ []) id n fin discarded s in
     let one : length (b ∷ []) < n = omega arith in
-    let rest : Takes (c ∷ bs) t (piece_comes (c ∷ bs) id (n - 1) fin stray t) 0 =
-    piece-takes c bs id (n - 1) fin stray t (piece-status (b ∷ []) id n fin stray s ∙ st) (piece-incoming (b ∷ []) id n fin stray s one) (omega arith) in
+    let rest : Takes (c ∷ bs) t (piece_comes (c ∷ bs) id (n - 1) fin discarded t) 0 =
+    piece-takes c bs id (n - 1) fin discarded t (piece-status (b ∷ []) id n fin discarded s ∙ st) (piece-incoming (b ∷ []) id n fin discarded s one) (omega arith) in
     let P : Session → Type 0 = λ x. Takes (c ∷ bs) t x 0 in
-    let Q : Session → Type 0 = λ x. Takes (c ∷ bs) x (piece_comes (b ∷ c ∷ bs) id n fin stray s) 0 in (
+    let Q : Session → Type 0 = λ x. Takes (c ∷ bs) x (piece_comes (b ∷ c ∷ bs) id n fin discarded s) 0 in (
       false,
       0,
-      free-payload id n fin stray s st inc,
-      rw (none-payload b id n fin stray s inc) refl,
-      subst Q (sym (byte-piece false b id n fin stray s st inc)) (subst P (piece-join (b ∷ []) (c ∷ bs) id n fin stray s one) rest),
+      free-payload id n fin discarded s st inc,
+      rw (none-payload b id n fin discarded s inc) refl,
+      subst Q (sym (byte-piece false b id n fin discarded s st inc)) (subst P (piece-join (b ∷ []) (c ∷ bs) id n fin discarded s one) rest),
     )
 
 -- ---- a header
@@ -120,7 +120,7 @@ byte-last no_memory b seen s st inc l =
 starves-head : (b : ℕ) (seen : List ℕ) (s : Session) → s.incoming ≡ Head seen → starves false b s s.incoming ≡ 0
 starves-head b seen s inc = ap (starves false b s) inc
 
--- behind its first byte a header is taken on
+-- after its first byte a header is taken on
 free-head : (seen : List ℕ) (b : ℕ) (s : Session) → s.status ≡ Running → is_stuck (record s { incoming = Head (seen ++ b ∷ []) }) ≡ false
 free-head seen b s st = rw (st, not-between seen b) refl
 

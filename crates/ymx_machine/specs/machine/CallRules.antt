@@ -62,7 +62,7 @@ OnStream id c (Some s) m r n = (t : Stream) × StreamRule m.me.lost c s r t × (
 
 -- ---- ping
 
--- the first of `tries` numbers from n on that isn't pending, wrapping behind 4,294,967,295
+-- the first of `tries` numbers from n on that isn't pending, wrapping after 4,294,967,295
 abbrev pub free_number : (tries : ℕ) → ℕ → List (ℕ × PingPlace) → ℕ
 free_number zero n pings = n
 free_number (suc tries) n pings = if is_some (look n pings) then free_number tries ((n + 1) % 2 ^ 32) pings else n

@@ -58,7 +58,7 @@ moved_by AwayArrives m = record m { you = record m.you { away = Here } }
 moved_by (PingThere number) m = record m { you = record m.you { pings = change number (λ _. There) m.you.pings } }
 moved_by (PingBack number) m = record m { me = record m.me { pings = change number (λ _. Back) m.me.pings } }
 
--- how many streams these moves refuse for want of memory
+-- how many streams these moves refuse for lack of memory
 abbrev pub counted_by : FreeMove → ℕ
 counted_by (SynArrives id true) = 1
 counted_by _ = 0

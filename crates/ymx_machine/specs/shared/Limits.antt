@@ -37,6 +37,6 @@ most_pings = 16
 abbrev pub first_exhausted : ℕ
 first_exhausted = 4294967294
 
--- the greatest number of 32 bits: no credit, and no count of streams refused for want of memory, is greater
+-- the greatest number of 32 bits: no credit, and no count of streams refused for lack of memory, is greater
 abbrev pub greatest_number : ℕ
 greatest_number = 4294967295

@@ -11,7 +11,7 @@ abbrev pub change : {X : Type 0} → ℕ → (X → X) → List (ℕ × X) → L
 change id f [] = []
 change id f (p ∷ ps) = if p.0 == id then (p.0, f p.1) ∷ ps else p ∷ change id f ps
 
--- what stands under one number goes, and those behind it move up
+-- what stands under one number goes, and those after it move up
 abbrev pub without : {X : Type 0} → ℕ → List (ℕ × X) → List (ℕ × X)
 without id [] = []
 without id (p ∷ ps) = if p.0 == id then ps else p ∷ without id ps

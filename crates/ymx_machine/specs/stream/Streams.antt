@@ -60,7 +60,7 @@ pub data Move : Type 0 where
 abbrev pub Allowed : Move → Stream → Type 0
 -- a beginning of what is on its way, at an end that is born
 Allowed (Arrive n) s = (is_unborn s.me ≡ false) × (n ≤ length s.inbound.way)
--- the end comes behind the last byte
+-- the end comes after the last byte
 Allowed EndArrives s = (s.inbound.way ≡ []) × (is_unborn s.me ≡ false) × (s.inbound.fin ≡ Said)
 -- some of the owed credit of the lane that this side writes
 Allowed (Return n) s = (takes s.me ≡ true) × (n ≤ s.outbound.owed)

@@ -1,7 +1,7 @@
 -- What a frame does on arrival: its head, and each piece of its payload (framing, flags, flow control, ping, go away).
 use Rattle.std.specs.Prelude.{ℕ, ◌+◌, ◌∷◌, ◌++◌, if◌then◌else◌, ◌==◌, ◌&&◌, ◌||◌, ◌-◌, [], nat_lt, Bool, Option, None, Some, true, false, length, nat_le, is_some, not, is_none, List}
 use Rattle.ymx_model.specs.declared.types.Response.{Response}
-use Rattle.ymx_model.specs.session.Sessions.{Session, breaks, on_stream, settle, is_own}
+use Rattle.ymx_model.specs.session.Sessions.{Session, breaks, on_stream, reap, is_own}
 use Rattle.ymx_machine.specs.shared.Lists.{drop_id, look}
 use Rattle.ymx_machine.specs.shared.Limits.{most_offered, most_records, greatest_number}
 use Rattle.ymx_header.specs.declared.header.Header.{Header}
@@ -48,9 +48,9 @@ payload h = payload_length h
 abbrev pub delta : Header → ℕ
 delta h = if is_data h then 0 else h.length
 
--- the payload follows; a stray one is dropped to its end, whatever becomes of the id
-abbrev pub expects : Header → (stray : Bool) → Session → Session
-expects h stray s = if payload h == 0 then s else record s { incoming = Payload h.id (payload h) (has_fin h) stray }
+-- the payload follows; a discarded one is dropped to its end, whatever becomes of the id
+abbrev pub expects : Header → (discarded : Bool) → Session → Session
+expects h discarded s = if payload h == 0 then s else record s { incoming = Payload h.id (payload h) (has_fin h) discarded }
 
 -- The faults of a frame at a record that is there: payload beyond the window granted, where it would be
 -- taken, and a delta that lifts the credit too far, where it would be used.
@@ -65,7 +65,7 @@ record_fault h e =
 abbrev pub reset_comes : ℕ → End → Session → Session
 reset_comes id e s =
     if is_offered e.phase then record s { table = remove_record id s.table; offered = drop_id id s.offered }
-    else settle id (on_stream id receive_rst s)
+    else reap id (on_stream id receive_rst s)
 
 -- an end without payload comes with its head
 abbrev pub ends_now : Header → Bool
@@ -136,14 +136,14 @@ head_comes no_memory h s =
     else meets_some h (look h.id s.table.entries) s
     )
 
--- a SYN that is refused for want of memory alone
+-- a SYN that is refused for lack of memory alone
 abbrev pub is_starved : Header → Session → Bool
 is_starved h s =
     is_none (header_fault h s) && nat_lt h.kind 2 && has_syn h && is_none (syn_fault h s) && not (session_refuses s)
 
--- These bytes of a payload come, of which so many bytes lacked. The end stands behind the last.
-abbrev pub piece_comes : List ℕ → (id missing : ℕ) → (fin stray : Bool) → Session → Session
-piece_comes bytes id missing fin stray s =
+-- These bytes of a payload come, of which so many bytes lacked. The end stands after the last.
+abbrev pub piece_comes : List ℕ → (id missing : ℕ) → (fin discarded : Bool) → Session → Session
+piece_comes bytes id missing fin discarded s =
     let more = nat_lt (length bytes) missing in
-    let t = record s { incoming = if more then Payload id (missing - length bytes) fin stray else Head [] } in
-    if stray then t else on_stream id (receive_piece (fin && not more) bytes) t
+    let t = record s { incoming = if more then Payload id (missing - length bytes) fin discarded else Head [] } in
+    if discarded then t else on_stream id (receive_piece (fin && not more) bytes) t

@@ -1,7 +1,7 @@
 -- Each call as a function of what the session remembers (this project's own, after the Go package).
 use Rattle.std.specs.Prelude.{ℕ, ◌&&◌, if◌then◌else◌, ◌+◌, ◌∷◌, ◌==◌, Bool, not, length, nat_le, count_by, List, true, [], false, take, min, None, Some, Option, nat_lt}
 use Rattle.ymx_machine.specs.shared.Events.{Reply}
-use Rattle.ymx_model.specs.session.Sessions.{Session, is_own, is_lost, is_closed, on_stream, settle, nothing_outgoing}
+use Rattle.ymx_model.specs.session.Sessions.{Session, is_own, is_lost, is_closed, on_stream, reap, nothing_outgoing}
 use Rattle.ymx_machine.specs.shared.Limits.{most_unacknowledged, most_records, first_credit, most_pings, first_exhausted}
 use Rattle.ymx_machine.specs.declared.types.Reply.TheVariants.{Refused, Opened, OpenedWith, Accepted, Pinged, Ponged, Done}
 use Rattle.ymx_machine.specs.declared.types.CallFault.{CallFault}
@@ -115,7 +115,7 @@ abbrev pub reset : ℕ → Session → Outcome
 reset id s = at_stream id (reset_outcome id s) s
 
 abbrev pub forget_outcome : ℕ → Session → End → Outcome
-forget_outcome id s e = if_done (forget_reply e.phase) (settle id (on_stream id (end_forget (is_lost s.status)) s)) s
+forget_outcome id s e = if_done (forget_reply e.phase) (reap id (on_stream id (end_forget (is_lost s.status)) s)) s
 
 abbrev pub forget : ℕ → Session → Outcome
 forget id s = at_stream id (forget_outcome id s) s

@@ -4,7 +4,7 @@ use Rattle.ymx_model.specs.session.FramesDue.{frame, begin_frame, spelled, next_
 use Rattle.ymx_model.specs.declared.types.FrameKind.{FrameKind}
 use Rattle.ymx_model.specs.declared.types.Response.{Response}
 use Rattle.ymx_model.specs.declared.types.Response.TheVariants.{Pong, Reject}
-use Rattle.ymx_model.specs.session.Sessions.{Session, is_running, is_broken, settle, nothing_outgoing}
+use Rattle.ymx_model.specs.session.Sessions.{Session, is_running, is_broken, reap, nothing_outgoing}
 use Rattle.ymx_model.specs.session.Records.{End}
 use Rattle.ymx_model.specs.session.Tables.{with_record, pass_turn, any_due, round}
 use Rattle.ymx_machine.specs.shared.Lists.{look}
@@ -14,15 +14,15 @@ use Rattle.ymx_model.specs.session.GoAway.{away_due, begin_away}
 
 -- Which due frame goes next. A frame of Data carries at most `limit` bytes.
 pub data Choice : Type 0 where
-  TheAlarm : Choice
+  TheErrorDue : Choice
   TheGoAway : Choice
   TheAnswer : Choice
   ThePing : (number : ℕ) → Choice
   AStream : (id limit : ℕ) → Choice
 
 -- the one spelling of each frame of the session
-abbrev pub alarm_frame : List ℕ
-alarm_frame = frame 3 0 0 1 []
+abbrev pub error_frame : List ℕ
+error_frame = frame 3 0 0 1 []
 
 abbrev pub go_away_frame : List ℕ
 go_away_frame = frame 3 0 0 0 []
@@ -42,7 +42,7 @@ abbrev pub begin_answer : List Response → Session → Option Session
 begin_answer [] s = None
 begin_answer (response ∷ more) s = Some (begins (answer_frame response) (record s { answers = more }))
 
--- the frame of a stream is begun, and the next turn starts behind it
+-- the frame of a stream is begun, and the next turn starts after it
 abbrev pub begin_kind : (id limit : ℕ) → End → Option FrameKind → Session → Option Session
 begin_kind id limit e None s = None
 begin_kind id limit e (Some kind) s = Some (record s {
@@ -57,7 +57,7 @@ begin_stream id limit (Some e) s =
 
 -- the frame is begun, if it is due
 abbrev pub begin : Choice → Session → Option Session
-begin TheAlarm s = if s.alarm && is_broken s.status then Some (begins alarm_frame (record s { alarm = false })) else None
+begin TheErrorDue s = if s.error_due && is_broken s.status then Some (begins error_frame (record s { error_due = false })) else None
 begin TheGoAway s =
     if is_running s.status && away_due s.away.here then Some (begins go_away_frame (record s { away = begin_away s.away })) else None
 begin TheAnswer s = if is_running s.status then begin_answer s.answers s else None
@@ -66,16 +66,16 @@ begin (ThePing n) s =
     then Some (begins (ping_frame n) (record s { pings = begin_ping n s.pings })) else None
 begin (AStream id limit) s = if is_running s.status then begin_stream id limit (look id s.table.entries) s else None
 
--- behind the last byte of its frame a record that was given up may go
-abbrev pub settles : Option ℕ → Session → Session
-settles None s = s
-settles (Some id) s = settle id s
+-- after the last byte of its frame a record that was given up may go
+abbrev pub reaps : Option ℕ → Session → Session
+reaps None s = s
+reaps (Some id) s = reap id s
 
 -- the first n bytes of the frame begun go out
 abbrev pub moves_on : ℕ → Session → Session
 moves_on n s =
     if nat_lt n (length s.outgoing.bytes) then record s { outgoing = record { bytes = drop n s.outgoing.bytes; of = s.outgoing.of } }
-    else settles s.outgoing.of (record s { outgoing = nothing_outgoing })
+    else reaps s.outgoing.of (record s { outgoing = nothing_outgoing })
 
 -- a byte may go out from here: a frame is begun, or a due one begins that `may` go next
 abbrev pub Ready : (may : Choice → Session → Bool) → Session → Session → Type 0
@@ -96,7 +96,7 @@ no_answers (response ∷ more) = false
 -- something is due: an emission into one byte gives one
 abbrev pub is_ready : Session → Bool
 is_ready s = not (is_empty s.outgoing.bytes)
-    || s.alarm && is_broken s.status
+    || s.error_due && is_broken s.status
     || is_running s.status && (away_due s.away.here || not (no_answers s.answers) || is_some (first_asked s.pings.pending) || any_due s.table.window s.table.entries)
 
 -- An emission into a buffer: it gives fewer bytes than the buffer holds only if nothing is left due.
@@ -118,9 +118,9 @@ is_some_of n None = false
 is_some_of n (Some m) = m == n
 
 -- Session frames go first: the go away, the answers oldest first, the pings as asked. Then the streams
--- with something due take turns, by their order in the table, from behind the one served last.
+-- with something due take turns, by their order in the table, from after the one served last.
 abbrev pub in_turn : Choice → Session → Bool
-in_turn TheAlarm s = true
+in_turn TheErrorDue s = true
 in_turn TheGoAway s = true
 in_turn TheAnswer s = not (away_due s.away.here)
 in_turn (ThePing n) s = not (away_due s.away.here) && no_answers s.answers && is_some_of n (first_asked s.pings.pending)

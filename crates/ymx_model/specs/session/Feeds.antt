@@ -15,7 +15,7 @@ use Rattle.ymx_machine.specs.declared.types.Fed.{Fed}
 abbrev pub is_between : Incoming → Bool
 is_between (Head []) = true
 is_between (Head (b ∷ bs)) = false
-is_between (Payload id missing fin stray) = false
+is_between (Payload id missing fin discarded) = false
 
 -- No byte is taken: the session is broken, or its row of answers is full between two frames.
 abbrev pub is_stuck : Session → Bool
@@ -26,20 +26,20 @@ abbrev pub byte_in : (no_memory : Bool) → ℕ → Session → Incoming → Ses
 byte_in no_memory b s (Head seen) =
     if length seen == 11 then head_comes no_memory (header_of (seen ++ b ∷ [])) (record s { incoming = Head [] })
     else record s { incoming = Head (seen ++ b ∷ []) }
-byte_in no_memory b s (Payload id n fin stray) = piece_comes (b ∷ []) id n fin stray s
+byte_in no_memory b s (Payload id n fin discarded) = piece_comes (b ∷ []) id n fin discarded s
 
 -- a session that is lost or closed drops it
 abbrev pub byte_comes : (no_memory : Bool) → ℕ → Session → Session
 byte_comes no_memory b s = if is_deaf s.status then s else byte_in no_memory b s s.incoming
 
--- 1 for a byte that makes a SYN whole which is refused for want of memory alone, else 0
+-- 1 for a byte that makes a SYN whole which is refused for lack of memory alone, else 0
 abbrev pub starves : (no_memory : Bool) → ℕ → Session → Incoming → ℕ
 starves no_memory b s (Head seen) =
     if no_memory && not (is_deaf s.status) && length seen == 11 && is_starved (header_of (seen ++ b ∷ [])) s then 1 else 0
-starves no_memory b s (Payload id n fin stray) = 0
+starves no_memory b s (Payload id n fin discarded) = 0
 
 -- All these bytes are taken. At each byte memory for a record may be found or not, and `starved`
--- counts the streams refused for want of it.
+-- counts the streams refused for lack of it.
 abbrev pub Takes : List ℕ → Session → Session → (starved : ℕ) → Type 0
 Takes [] s t starved = (t ≡ s) × (starved ≡ 0)
 Takes (b ∷ bs) s t starved =

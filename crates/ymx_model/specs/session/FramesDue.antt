@@ -11,11 +11,11 @@ abbrev pub is_empty : List ℕ → Bool
 is_empty [] = true
 is_empty (b ∷ bs) = false
 
--- credit is due when at least half the window is owed, or at once behind a SYN that couldn't announce it
+-- credit is due when at least half the window is owed, or at once after a SYN that couldn't announce it
 abbrev pub credit_due : ℕ → End → Bool
 credit_due window e = is_live e.phase && not e.reader.ended && (e.marks.credit_at_once || nat_le window (2 * e.reader.owed))
 
--- the stream was finished, and its frame with FIN hasn't begun; that goes behind the last byte
+-- the stream was finished, and its frame with FIN hasn't begun; that goes after the last byte
 abbrev pub fin_due : End → Bool
 fin_due e = e.writer.finished && not e.writer.fin_sent
 

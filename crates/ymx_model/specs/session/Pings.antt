@@ -46,7 +46,7 @@ abbrev pub without_ping : ℕ → List Ping → List Ping
 without_ping n [] = []
 without_ping n (p ∷ ps) = if p.number == n then ps else p ∷ without_ping n ps
 
--- the number after this one, which wraps behind 4,294,967,295
+-- the number after this one, which wraps after 4,294,967,295
 abbrev pub number_after : ℕ → ℕ
 number_after n = (n + 1) % 2 ^ 32
 

@@ -123,7 +123,7 @@ end_finish e = record e { writer = writer_finish e.writer }
 abbrev pub end_accept : Bool → End → End
 end_accept lost e = record e { phase = Live; marks = record e.marks { ack = not lost } }
 
--- both halves are over, and a reset is due behind a SYN that hasn't gone out
+-- both halves are over, and a reset is due after a SYN that hasn't gone out
 abbrev pub end_reset : Phase → End → End
 end_reset phase e = record e { phase = phase; writer = dead_writer; reader = dead_reader; marks = only_due e.marks.syn true e.marks }
 
@@ -149,11 +149,11 @@ receive_data bytes e = if takes_payload e then record e { reader = reader_arrive
 abbrev pub receive_credit : ℕ → End → End
 receive_credit d e = if takes e.phase then record e { writer = writer_grant d e.writer } else e
 
--- behind the end no credit is returned
+-- after the end no credit is returned
 abbrev pub receive_fin : End → End
 receive_fin e = if takes_payload e then record e { reader = reader_end e.reader; marks = record e.marks { credit_at_once = false } } else e
 
--- a piece of a payload, behind which the end may stand
+-- a piece of a payload, after which the end may stand
 abbrev pub receive_piece : Bool → List ℕ → End → End
 receive_piece fin bytes e = if fin then receive_fin (receive_data bytes e) else receive_data bytes e
 

@@ -16,10 +16,10 @@ use Rattle.ymx_machine.specs.shared.Phases.{is_lingering}
 use Rattle.ymx_model.specs.session.FramesDue.{is_due}
 
 -- What has come of a frame that isn't whole: the first bytes of its header; or how much of its payload
--- lacks, of which stream, whether FIN stands behind it, and whether it is dropped to its end (`stray`).
+-- lacks, of which stream, whether FIN stands after it, and whether it is dropped to its end (`discarded`).
 pub data Incoming : Type 0 where
   Head : (bytes : List ℕ) → Incoming
-  Payload : (id missing : ℕ) (fin stray : Bool) → Incoming
+  Payload : (id missing : ℕ) (fin discarded : Bool) → Incoming
 
 -- the bytes of a frame begun that have not gone out, and the stream that it is of, if it is one's
 pub record Outgoing : Type 0 where
@@ -27,7 +27,7 @@ pub record Outgoing : Type 0 where
   pub of : Option ℕ
 
 -- `next`: the next own id. `table`: the records. `offered`: the ids of the streams that wait to be
--- accepted. `alarm`: a Go Away with the code for a protocol error is due. `answers`: what is still to
+-- accepted. `error_due`: a Go Away with the code for a protocol error is due. `answers`: what is still to
 -- be answered, oldest first.
 pub record Session : Type 0 where
   pub role : Role
@@ -37,7 +37,7 @@ pub record Session : Type 0 where
   pub offered : List ℕ
   pub pings : Pings
   pub away : Away
-  pub alarm : Bool
+  pub error_due : Bool
   pub answers : List Response
   pub outgoing : Outgoing
   pub incoming : Incoming
@@ -55,7 +55,7 @@ new_session role window first = record {
   offered = [];
   pings = no_pings;
   away = not_away;
-  alarm = false;
+  error_due = false;
   answers = [];
   outgoing = nothing_outgoing;
   incoming = Head [];
@@ -106,7 +106,7 @@ is_told _ = true
 
 -- the session breaks: nothing else changes, and the peer is told
 abbrev pub breaks : Fault → Session → Session
-breaks fault s = record s { status = Broken fault; alarm = is_told fault }
+breaks fault s = record s { status = Broken fault; error_due = is_told fault }
 
 -- a stream of the table changes, and nothing else does
 abbrev pub on_stream : ℕ → (End → End) → Session → Session
@@ -122,7 +122,7 @@ is_spent window begun id None = false
 is_spent window begun id (Some e) = is_lingering e.phase && not (is_due window e) && not (belongs_to begun.of id)
 
 -- a record that was given up goes as soon as nothing of it is left to send
-abbrev pub settle : ℕ → Session → Session
-settle id s =
+abbrev pub reap : ℕ → Session → Session
+reap id s =
     if is_spent s.table.window s.outgoing id (look id s.table.entries)
     then record s { table = remove_record id s.table } else s

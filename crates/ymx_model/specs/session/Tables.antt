@@ -22,14 +22,14 @@ insert_record id e t = record t { entries = t.entries ++ (id, e) ∷ [] }
 abbrev pub with_record : ℕ → (End → End) → Table → Table
 with_record id f t = record t { entries = change id f t.entries }
 
--- one record goes, and the place of the next turn moves with those behind it
+-- one record goes, and the place of the next turn moves with those after it
 abbrev pub remove_record : ℕ → Table → Table
 remove_record id t = record t {
   entries = without id t.entries;
   turn = if nat_lt (place id t.entries) t.turn then t.turn - 1 else t.turn;
 }
 
--- the stream was served: the next turn starts behind it
+-- the stream was served: the next turn starts after it
 abbrev pub pass_turn : ℕ → Table → Table
 pass_turn id t = record t { turn = place id t.entries + 1 }
 

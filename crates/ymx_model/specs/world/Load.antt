@@ -27,12 +27,12 @@ record_load least window e =
 abbrev pub session_load : (least : ℕ) → Session → ℕ
 session_load least s =
     sum_by (λ p. record_load least s.table.window p.1) s.table.entries
-    + length s.answers + one_if (away_due s.away.here) + count_by (λ p. ping_is_asked p.stage) s.pings.pending + one_if s.alarm
+    + length s.answers + one_if (away_due s.away.here) + count_by (λ p. ping_is_asked p.stage) s.pings.pending + one_if s.error_due
 
 -- inside the payload of a frame
 abbrev pub is_inside : Incoming → Bool
 is_inside (Head bytes) = false
-is_inside (Payload id missing fin stray) = true
+is_inside (Payload id missing fin discarded) = true
 
 -- of the world, in which these frames are under way: also each frame begun and not yet wholly fed
 abbrev pub world_load : (least : ℕ) → World → (frames_ab frames_ba : List (List ℕ)) → ℕ

@@ -10,18 +10,18 @@ use Rattle.ymx_model.specs.world.Worlds.{Pipe}
 -- what the receiver holds of a frame, as bytes; a payload is known by what lacks
 abbrev pub held_bytes : Incoming → List ℕ
 held_bytes (Head bytes) = bytes
-held_bytes (Payload id missing fin stray) = []
+held_bytes (Payload id missing fin discarded) = []
 
 abbrev pub lacking : Incoming → ℕ
 lacking (Head bytes) = 0
-lacking (Payload id missing fin stray) = missing
+lacking (Payload id missing fin discarded) = missing
 
 -- These bytes are one frame, which any session takes: at most 262,144 bytes of payload (framing).
 abbrev pub IsOneFrame : List ℕ → Type 0
 IsOneFrame bytes = IsFrame first_credit bytes
 
 -- What the receiver holds of a frame, the pipe, and the rest of the sender's frame begun, in this
--- order, are the bytes of these frames under way, each of them whole, behind the rest of a payload where
+-- order, are the bytes of these frames under way, each of them whole, after the rest of a payload where
 -- the receiver is inside one.
 pub record IsUnderWay (receiver : Session) (pipe : Pipe) (sender : Session) (frames : List (List ℕ)) : Type 0 where
   pub tail : List ℕ

@@ -7,7 +7,7 @@ use Rattle.ymx_arguments.specs.Rows.{OptionRow, stated}
 use Rattle.ymx_arguments.specs.declared.rows.Row.{Row}
 use Rattle.ymx_arguments.proofs.command.subcommand.Goals as goal
 
--- behind one more row the rest gives the same
+-- after one more row the rest gives the same
 one_more : (f : App → OptionRow → App) (rows : List Row) (i : ℕ) (d : Row) (a b : App) → i < length rows → b ≡ f a (stated (get_or rows i d)) →
     fold f b (map stated (drop (i + 1) rows)) ≡ fold f a (map stated (drop i rows))
 one_more f rows i d a b lt e =

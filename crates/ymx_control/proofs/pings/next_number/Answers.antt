@@ -1,4 +1,4 @@
--- The search goes on behind a number that is pending.
+-- The search goes on after a number that is pending.
 use Rattle.std.proofs.Common.{◌≡◌, ◌+◌, ◌-◌, true, arith, ◌∙◌}
 use Rattle.ymx_model.specs.session.Pings.{is_pending}
 use Rattle.ymx_control.proofs.FreeNumbers.{free_from-next}

@@ -8,14 +8,14 @@ returns-then-not-may_push-clause-delivered g c = record { part = part_beside _ p
 
 pub returns-then-unread_count-eq0-clause-delivered : goal.returns-then-unread_count-eq0-clause-delivered
 returns-then-unread_count-eq0-clause-delivered g c = record {
-  part = part_beside _ (part_within (omega arith) c.hear_silence.ensures.part);
+  part = part_beside _ (part_within (omega arith) c.on_silence.ensures.part);
   delivers = λ may. inl (let none : length (waiting c.args.id c.args.session.now) ≤ 0 = omega (arith, c.unread_count.ensures, c.if-unread_count-eq0.true) in omega (arith, none));
 }
 
 pub returns-clause-delivered : goal.returns-clause-delivered
 returns-clause-delivered g c =
     let p = c.push_once.ensures.delivered in
-    let q = part_beside _ c.hear_silence-2.ensures.part in
+    let q = part_beside _ c.on_silence-2.ensures.part in
     record {
       part = part_then p.part q;
       delivers = λ may. elim (p.delivers may) [

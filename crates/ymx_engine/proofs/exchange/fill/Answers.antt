@@ -64,6 +64,6 @@ returns-in-Failed-clause-stops g c = λ open_. absurd (never _ open_ (broken_to 
 pub returns-then-send-clause-fills : goal.returns-then-send-clause-fills
 returns-then-send-clause-fills g c = λ may near some.
     let p = c.in-Gave.ensures in
-    let all = filled c.args.ways.now c.in-Gave.count (min (room_of c.args.id c.args.session.now) (length c.args.buffer.now)) _ _ _ p may near (grind (arith, common_steps)) in
+    let all = filled c.args.directions.now c.in-Gave.count (min (room_of c.args.id c.args.session.now) (length c.args.buffer.now)) _ _ _ p may near (grind (arith, common_steps)) in
     let left = c.send.ensures.left c.if-send.true in
     filled_whole (room_of c.args.id c.args.session.now) (room_of c.args.id c.send.new.session) c.in-Gave.count (length c.args.buffer.now) all (grind (arith, common_steps)) some

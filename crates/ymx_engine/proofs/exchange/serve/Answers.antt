@@ -7,7 +7,7 @@ use Rattle.ymx_engine.proofs.exchange.serve.Goals.{then-writes, else-writes, the
 pub returns-then-read-clause-turn : goal.returns-then-read-clause-turn
 returns-then-read-clause-turn g c =
     let p = c.deliver-writes.ensures in
-    let q = c.hear_stop.ensures in
+    let q = c.on_stop.ensures in
     let v = c.collect-read.ensures in
     turn_of c.deliver-writes.result c.collect-read.result.more _ p.delivered q.part q.same v.part p.stays v.collects v.asks_on (λ h may. c.if-read.true) (λ h. c.if-read.true) (λ over open_. c.if-read.true) v.within v.fills (record { heard = p.ends; ends = v.ends }) (record { takes = p.takes; told = q.tells; stops = v.stops })
     (λ on. ((p.some on).0, (p.some on).1, p.goes_on on))
@@ -24,7 +24,7 @@ returns-then-read-clause-turn g c =
 pub returns-else-read-clause-turn : goal.returns-else-read-clause-turn
 returns-else-read-clause-turn g c =
     let p = c.deliver-writes.ensures in
-    let q = c.hear_stop.ensures in
+    let q = c.on_stop.ensures in
     let v = c.collect-read.ensures in
     let off = c.if-read.false in
     turn_of c.deliver-writes.result c.collect-read.result.more _ p.delivered q.part q.same v.part p.stays v.collects v.asks_on
@@ -41,13 +41,13 @@ returns-else-read-clause-turn g c =
     (λ h. inr (inr (untold _ _ _ c.is_untold.ensures h)))
 
 pub returns-then-read-clause-hears_end : goal.returns-then-read-clause-hears_end
-returns-then-read-clause-hears_end g c = λ may none. elim (c.deliver-writes.ensures.hears_end may none) [ inl shut ↦ inl (stays_shut c.collect-read.ensures.part (stays_shut c.hear_stop.ensures.part shut)) | inr waits ↦ inr waits ]
+returns-then-read-clause-hears_end g c = λ may none. elim (c.deliver-writes.ensures.hears_end may none) [ inl shut ↦ inl (stays_shut c.collect-read.ensures.part (stays_shut c.on_stop.ensures.part shut)) | inr waits ↦ inr waits ]
 
 pub returns-else-read-clause-hears_end : goal.returns-else-read-clause-hears_end
-returns-else-read-clause-hears_end g c = λ may none. elim (c.deliver-writes.ensures.hears_end may none) [ inl shut ↦ inl (stays_shut c.collect-read.ensures.part (stays_shut c.hear_stop.ensures.part shut)) | inr waits ↦ inr waits ]
+returns-else-read-clause-hears_end g c = λ may none. elim (c.deliver-writes.ensures.hears_end may none) [ inl shut ↦ inl (stays_shut c.collect-read.ensures.part (stays_shut c.on_stop.ensures.part shut)) | inr waits ↦ inr waits ]
 
 pub returns-then-read-clause-tells : goal.returns-then-read-clause-tells
-returns-then-read-clause-tells g c = λ off on. let idle = c.deliver-writes.ensures.idle off in tells_from c.args.id c.hear_stop.new.ways idle.0 idle.1 idle.2 c.hear_stop.ensures.tells off (was_open_to c.collect-read.ensures.part on)
+returns-then-read-clause-tells g c = λ off on. let idle = c.deliver-writes.ensures.idle off in tells_from c.args.id c.on_stop.new.directions idle.0 idle.1 idle.2 c.on_stop.ensures.tells off (was_open_to c.collect-read.ensures.part on)
 
 pub returns-else-read-clause-tells : goal.returns-else-read-clause-tells
-returns-else-read-clause-tells g c = λ off on. let idle = c.deliver-writes.ensures.idle off in tells_from c.args.id c.hear_stop.new.ways idle.0 idle.1 idle.2 c.hear_stop.ensures.tells off (was_open_to c.collect-read.ensures.part on)
+returns-else-read-clause-tells g c = λ off on. let idle = c.deliver-writes.ensures.idle off in tells_from c.args.id c.on_stop.new.directions idle.0 idle.1 idle.2 c.on_stop.ensures.tells off (was_open_to c.collect-read.ensures.part on)

@@ -13,7 +13,7 @@ use Rattle.ymx_engine.proofs.Hearing.{took_goes, status_was}
 use Rattle.ymx_engine.proofs.Serving.{reads_one, reads_two}
 use Rattle.ymx_engine.proofs.exchange.take_out_announcing.Goals as goal
 
--- what waits behind the first bytes, while what is due goes out
+-- what waits after the first bytes, while what is due goes out
 rest_waits : (id first count most : ℕ) (told : Reply) (s t u : Session) → Gives in_turn s (event.Call (call.Read id first)) told t → ((j : ℕ) → waiting j u ≡ waiting j t) → 1 ≤ most → first ≡ min most count → 0 < count → first < count → count ≤ length (waiting id s) →
     (waiting id u ≡ drop first (waiting id s)) × (0 < length (waiting id u))
 rest_waits id first count most told s t u g stays one least some less there =

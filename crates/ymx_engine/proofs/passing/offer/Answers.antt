@@ -8,9 +8,9 @@ use Rattle.ymx_engine.proofs.passing.offer.Goals as goal
 
 pub returns-in-Took-clause-offered : goal.returns-in-Took-clause-offered
 returns-in-Took-clause-offered g c =
-    let x = c.settle.ensures in
+    let x = c.commit.ensures in
     let some : 0 < c.in-Took.count = c.in-Took.ensures.some refl (row_some c.args.row c.args.waits.now c.args.session.now c.requires.row c.requires.some) in
-    offered_some c.args.row.id c.in-Took.count c.settle.result _ _ (payload_of c.args.row c.args.waits.now) c.args.waits.now _ _ _ c.in-Took.ensures some x.within x.settled
+    offered_some c.args.row.id c.in-Took.count c.commit.result _ _ (payload_of c.args.row c.args.waits.now) c.args.waits.now _ _ _ c.in-Took.ensures some x.within x.committed
 
 pub returns-in-NotNow-clause-offered : goal.returns-in-NotNow-clause-offered
 returns-in-NotNow-clause-offered g c = offered_none c.args.row.id _ (payload_of c.args.row c.args.waits.now) c.args.waits.now _ _ _ c.in-NotNow.ensures

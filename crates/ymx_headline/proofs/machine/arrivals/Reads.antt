@@ -41,7 +41,7 @@ use Rattle.ymx_headline.proofs.machine.faces.StreamFaces.{not-both}
 
 -- ---- a live end at rest
 
--- the bytes behind a beginning
+-- the bytes after a beginning
 behind : (xs ys : List ℕ) → drop (length xs) (xs ++ ys) ≡ ys
 behind [] ys = grind (arith, lists)
 behind (x ∷ xs) ys = let h = behind xs ys in grind (arith, lists)

@@ -136,7 +136,7 @@ told-quiet before made [] e = absurd (none-there true (slice_get [] made) refl e
 told-quiet before zero (q ∷ told) e = one_some q true e
 told-quiet before (suc made) (q ∷ told) e = told-quiet q made told e
 
--- Where a run from m has come after so many steps, and the step behind them.
+-- Where a run from m has come after so many steps, and the step after them.
 pub record ComesTo (mine yours i : ℕ) (at_rest quiet : Bool) (sts : List Step) (given : List Answer) (po pi : Past) (x y : Tale) (m : Machine) (st : Step) (answered : Answer) : Type 0 where
   pub here : Machine
   pub next : Machine
@@ -146,7 +146,7 @@ pub record ComesTo (mine yours i : ℕ) (at_rest quiet : Bool) (sts : List Step)
   pub run : MachineRun sts given m here
   pub steps : MachineStep st answered here next
 
--- and the one behind that, if there is one
+-- and the one after that, if there is one
 pub record GoesOn (sts : List Step) (given : List Answer) (made : ℕ) (n : Machine) : Type 0 where
   pub on : (st : Step) (answered : Answer) → slice_get sts (suc made) ≡ Some st → slice_get given (suc made) ≡ Some answered → (k : Machine) × MachineStep st answered n k
 

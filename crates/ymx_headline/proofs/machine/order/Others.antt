@@ -62,7 +62,7 @@ others-move (PingBack number) m i d = refl
 
 -- ---- one answer
 
--- the answer of a call, or want of memory in its place
+-- the answer of a call, or lack of memory in its place
 abbrev Or_memory : Reply → Reply → Type 0
 Or_memory r told = (r ≡ told) ⊎ ((r ≡ reply.Refused (fault.OutOfMemory evidence)) × (needs_memory told ≡ true))
 
@@ -179,7 +179,7 @@ one c m r n h = elim (when (m.me.closed && not (is_close c))) [
   | inr b ↦ rw b (one-open_side c m r n (if-so_false _ _ _ b h))
 ]
 
--- two answers of a call in a state are the same, but for want of memory where memory is needed
+-- two answers of a call in a state are the same, but for lack of memory where memory is needed
 pub one-answer : (c : Call) (m : Machine) (r r' : Reply) (n n' : Machine) → Rule c m r n → Rule c m r' n' → r ≢ reply.Refused (fault.OutOfMemory evidence) →
     (r' ≡ r) ⊎ ((r' ≡ reply.Refused (fault.OutOfMemory evidence)) × (needs_memory r ≡ true))
 one-answer c m r r' n n' h h' d = elim (one c m r n h) [

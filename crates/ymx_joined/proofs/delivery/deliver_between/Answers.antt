@@ -3,8 +3,8 @@ use Rattle.ymx_world.proofs.Headlines.{ok-then}
 use Rattle.ymx_joined.proofs.Told.{some-room, more-room, room-fits}
 use Rattle.ymx_joined.proofs.delivery.deliver_between.Goals as goal
 
-pub settle-requires : goal.settle-requires
-settle-requires c = (c.in_ok-send.ensures.1).open_world
+pub drive-requires : goal.drive-requires
+drive-requires c = (c.in_ok-send.ensures.1).open_world
 
 pub receive-requires : goal.receive-requires
 receive-requires c =

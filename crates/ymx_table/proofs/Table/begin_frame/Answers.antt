@@ -1,4 +1,4 @@
--- One record changes, and its flag with it; the next turn starts behind it.
+-- One record changes, and its flag with it; the next turn starts after it.
 use Rattle.std.proofs.Common.{arith, ap, ◌∙◌}
 use Rattle.ymx_model.specs.session.FramesDue.{begin_frame}
 use Rattle.ymx_model.specs.session.Tables.{Table, with_record, pass_turn}

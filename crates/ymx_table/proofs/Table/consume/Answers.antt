@@ -5,12 +5,12 @@ use Rattle.ymx_table.proofs.Writes.{written, kept-written, flags_within, counted
 use Rattle.ymx_table.proofs.Table.consume.Goals as goal
 
 pub set-requires : goal.set-requires
-set-requires c = flags_within c.self.view_is c.self.invariant c.place_of-place.ensures
+set-requires c = flags_within c.self.view_is c.self.invariant c.index_of-place.ensures
 
 pub invariant_of-self : goal.invariant_of-self
 invariant_of-self c =
-    kept-written c.self.view_is c.place_of-place.ensures c.index_mut-stream.ensures.value _ c.self.invariant c.is_due-is_due.ensures c.set.ensures
-    (counted-same c.self.view_is c.place_of-place.ensures c.index_mut-stream.ensures.value _ c.self.invariant (ap (λ (e : End). length e.writer.unsent) c.consume-taken.ensures.after))
+    kept-written c.self.view_is c.index_of-place.ensures c.index_mut-stream.ensures.value _ c.self.invariant c.is_due-is_due.ensures c.set.ensures
+    (counted-same c.self.view_is c.index_of-place.ensures c.index_mut-stream.ensures.value _ c.self.invariant (ap (λ (e : End). length e.writer.unsent) c.consume-taken.ensures.after))
 
 pub returns-clause-after : goal.returns-clause-after
-returns-clause-after c = written c.self.view_is c.place_of-place.ensures c.index_mut-stream.ensures.value (end_read c.consume-taken.result) _ c.consume-taken.ensures.after
+returns-clause-after c = written c.self.view_is c.index_of-place.ensures c.index_mut-stream.ensures.value (end_read c.consume-taken.result) _ c.consume-taken.ensures.after

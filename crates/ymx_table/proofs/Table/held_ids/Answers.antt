@@ -1,4 +1,4 @@
--- Each record is listed, or isn't, behind those before it.
+-- Each record is listed, or isn't, after those before it.
 use Rattle.std.proofs.Common.{◌≡◌, ℕ, Some, sym, ap, ◌∙◌, arith}
 use Rattle.std.specs.Prelude.{slice_get}
 use Rattle.std.specs.Option.{option_map}

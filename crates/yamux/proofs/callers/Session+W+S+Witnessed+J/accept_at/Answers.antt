@@ -3,7 +3,7 @@ use Rattle.std.proofs.Common.{◌≡◌, Option, Some, Ok, false, rules, subst, 
 use Rattle.ymx_hub.specs.Books.{Books}
 use Rattle.ymx_hub.specs.Halves.{HalfView, AcceptsHalves}
 use Rattle.ymx_connect.proofs.Told.{extends_stands}
-use Rattle.yamux.specs.Door.{StreamView}
+use Rattle.yamux.specs.Api.{StreamView}
 use Rattle.yamux.proofs.callers.Session+W+S+Witnessed+J.accept_at.Goals as goal
 
 pub returns-in-Ok-Some-clause-grows : goal.returns-in-Ok-Some-clause-grows

@@ -7,4 +7,4 @@ use Rattle.yamux.proofs.pumps.Pump.read.Goals as goal
 pub returns : goal.returns
 returns g c = λ off.
     has_read g.R.Recorder.KEEPS _ _ _ _ c.into_seat-seat.result c.read_pump-ended.result.0.seat _ _ _ off
-    (subst (λ (v : SeatView). IsNewcomer v.number v.seen) (sym c.into_seat-seat.ensures) c.requires) c.read_pump-ended.ensures.gave c.read_pump-ended.ensures.ended c.into_sight.ensures
+    (subst (λ (v : SeatView). IsNewcomer v.number v.seen) (sym c.into_seat-seat.ensures) c.requires) c.read_pump-ended.ensures.gave c.read_pump-ended.ensures.ended c.into_parked.ensures

@@ -7,4 +7,4 @@ use Rattle.yamux.proofs.pumps.Pump.write.Goals as goal
 pub returns : goal.returns
 returns g c = λ off on.
     has_written g.R.Recorder.KEEPS g.R.Recorder.WITNESSED _ _ _ _ _ _ _ _ c.into_seat-seat.result c.write_pump-ended.result.seat _ _ _ off on
-    (subst (λ (v : SeatView). IsNewcomer v.number v.seen) (sym c.into_seat-seat.ensures) c.requires) c.write_pump-ended.ensures.wrote c.write_pump-ended.ensures.ended c.write_pump-ended.ensures.out c.into_sight.ensures
+    (subst (λ (v : SeatView). IsNewcomer v.number v.seen) (sym c.into_seat-seat.ensures) c.requires) c.write_pump-ended.ensures.wrote c.write_pump-ended.ensures.ended c.write_pump-ended.ensures.out c.into_parked.ensures

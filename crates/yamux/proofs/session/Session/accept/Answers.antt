@@ -2,7 +2,7 @@
 use Rattle.std.proofs.Common.{◌≡◌, rules, Option, Ok, Some, subst, sym, ap}
 use Rattle.ymx_hub.specs.Books.{Books}
 use Rattle.ymx_hub.specs.Halves.{HalfView, AcceptsHalves}
-use Rattle.yamux.specs.Door.{StreamView}
+use Rattle.yamux.specs.Api.{StreamView}
 use Rattle.yamux.proofs.session.Session.accept.Goals as goal
 
 pub returns-in-Ok-Some : goal.returns-in-Ok-Some

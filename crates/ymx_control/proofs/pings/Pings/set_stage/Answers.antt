@@ -18,5 +18,5 @@ returns-in-Some c =
 pub returns-in_default : goal.returns-in_default
 returns-in_default c =
     let absent : position (λ p. p.number == c.args.number) c.self.inside.pending.items ≡ None =
-    rw (c.as_slice.ensures.value, c.in_default.is) at (sym c.place_of.ensures.first) in
+    rw (c.as_slice.ensures.value, c.in_default.is) at (sym c.index_of.ensures.first) in
     rw (← c.self.view_is) (sym (ap (table c.self.inside.next) (staged-none c.args.stage c.args.number c.self.inside.pending.items absent)))

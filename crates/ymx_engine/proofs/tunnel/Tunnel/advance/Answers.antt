@@ -66,7 +66,7 @@ pub returns-clause-waits : goal.returns-clause-waits
 returns-clause-waits g c = λ off. (refl, ap (λ (t : Tunnel). t.engine) (c.payload.invariant.waits off))
 
 pub returns-then-puts_off_next-clause-due : goal.returns-then-puts_off_next-clause-due
-returns-then-puts_off_next-clause-due g c = λ off id due. c.puts_off_next.ensures.due id (subst (λ (t : Tunnel). IsDue id t.lines) (sym (c.payload.invariant.waits off)) due)
+returns-then-puts_off_next-clause-due g c = λ off id due. c.puts_off_next.ensures.due id (subst (λ (t : Tunnel). IsDue id t.connections) (sym (c.payload.invariant.waits off)) due)
 
 pub returns-in_default-clause-due : goal.returns-in_default-clause-due
 returns-in_default-clause-due g c = λ off. let no : ⊥ = never_off _ _ _ (c.payload.invariant.waits off) off c.puts_off_next.ensures.exact c.if-puts_off_next.false in absurd no
@@ -75,7 +75,7 @@ pub returns-then-is_worth_a_call-clause-due : goal.returns-then-is_worth_a_call-
 returns-then-is_worth_a_call-clause-due g c = λ off. let no : ⊥ = never_off _ _ _ (c.payload.invariant.waits off) off c.puts_off_next.ensures.exact c.if-puts_off_next.false in absurd no
 
 pub returns-clause-due : goal.returns-clause-due
-returns-clause-due g c = λ off id due. subst (λ (t : Tunnel). IsDue id t.lines) (sym (c.payload.invariant.waits off)) due
+returns-clause-due g c = λ off id due. subst (λ (t : Tunnel). IsDue id t.connections) (sym (c.payload.invariant.waits off)) due
 
 pub returns-then-puts_off_next-clause-placed : goal.returns-then-puts_off_next-clause-placed
 returns-then-puts_off_next-clause-placed g c = in_place_asked _ _ _ c.payload.invariant.placed c.puts_off_next.ensures.engine c.puts_off_next.ensures.counts

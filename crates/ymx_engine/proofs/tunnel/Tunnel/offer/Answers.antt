@@ -15,7 +15,7 @@ pub returns-clause-rests : goal.returns-clause-rests
 returns-clause-rests g c = rests_from _ _ _ c.self.view_is (rests_offered c.args.row.id c.offer-taken.result _ _ _ _ _ c.offer-taken.ensures.passed refl)
 
 pub returns-clause-closed : goal.returns-clause-closed
-returns-clause-closed g c = subst (λ (t : Tunnel). StaysOver t.lines c.offer-taken.new.self) c.self.view_is (closed_offered c.args.row.id c.offer-taken.result _ _ _ _ _ c.offer-taken.ensures.passed)
+returns-clause-closed g c = subst (λ (t : Tunnel). StaysOver t.connections c.offer-taken.new.self) c.self.view_is (closed_offered c.args.row.id c.offer-taken.result _ _ _ _ _ c.offer-taken.ensures.passed)
 
 pub returns-clause-passed : goal.returns-clause-passed
 returns-clause-passed g c =

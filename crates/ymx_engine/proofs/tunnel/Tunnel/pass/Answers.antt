@@ -10,12 +10,12 @@ returns-then-taken-count-clause-runs g c = reads_on_then _ _ _ c.offer-taken.ens
 pub returns-then-taken-count-clause-stays : goal.returns-then-taken-count-clause-stays
 returns-then-taken-count-clause-stays g c =
     let k = c.feed_payload.ensures.keeps in
-    stays_then _ _ _ c.offer-taken.ensures.stays (stays_kept _ _ k.wire k.lines.lines)
+    stays_then _ _ _ c.offer-taken.ensures.stays (stays_kept _ _ k.wire k.connections.connections)
 
 pub returns-then-taken-count-clause-rests : goal.returns-then-taken-count-clause-rests
 returns-then-taken-count-clause-rests g c =
     let k = c.feed_payload.ensures.keeps in
-    rests_on _ _ _ c.offer-taken.ensures.rests k.wire k.lines.lines
+    rests_on _ _ _ c.offer-taken.ensures.rests k.wire k.connections.connections
 
 pub returns-then-taken-count-clause-passed : goal.returns-then-taken-count-clause-passed
 returns-then-taken-count-clause-passed g c =

@@ -44,7 +44,7 @@ returns-in-Ended-clause-runs g c =
     let x = c.pull_from.ensures in
     let l = c.lose.ensures in
     let k = (keeps_from _ _ _ c.self-in-Ended.view_is (keeps_waits _ c.count_turns-in-Ended.new.self _ c.count_turns-in-Ended.ensures)) in
-    runs_then _ _ _ (runs_from _ _ _ c.self.view_is (reads_lost c.pull_from.result x.0 _ _ _ none x.2 x.1 refl refl x.3 c.in-Ended.is refl l.wire l.over l.event l.bytes l.lines l.serves l.memory l.lost).1.0) (runs_keep _ _ k)
+    runs_then _ _ _ (runs_from _ _ _ c.self.view_is (reads_lost c.pull_from.result x.0 _ _ _ none x.2 x.1 refl refl x.3 c.in-Ended.is refl l.wire l.over l.event l.bytes l.connections l.serves l.memory l.lost).1.0) (runs_keep _ _ k)
 
 pub returns-in-Ended-clause-rests : goal.returns-in-Ended-clause-rests
 returns-in-Ended-clause-rests g c =
@@ -52,7 +52,7 @@ returns-in-Ended-clause-rests g c =
     let x = c.pull_from.ensures in
     let l = c.lose.ensures in
     let k = (keeps_from _ _ _ c.self-in-Ended.view_is (keeps_waits _ c.count_turns-in-Ended.new.self _ c.count_turns-in-Ended.ensures)) in
-    rests_on _ _ _ (rests_from _ _ _ c.self.view_is (reads_lost c.pull_from.result x.0 _ _ _ none x.2 x.1 refl refl x.3 c.in-Ended.is refl l.wire l.over l.event l.bytes l.lines l.serves l.memory l.lost).1.1) k.wire k.lines.lines
+    rests_on _ _ _ (rests_from _ _ _ c.self.view_is (reads_lost c.pull_from.result x.0 _ _ _ none x.2 x.1 refl refl x.3 c.in-Ended.is refl l.wire l.over l.event l.bytes l.connections l.serves l.memory l.lost).1.1) k.wire k.connections.connections
 
 pub returns-in-Ended-clause-reads : goal.returns-in-Ended-clause-reads
 returns-in-Ended-clause-reads g c =
@@ -60,7 +60,7 @@ returns-in-Ended-clause-reads g c =
     let x = c.pull_from.ensures in
     let l = c.lose.ensures in
     let k = (keeps_from _ _ _ c.self-in-Ended.view_is (keeps_waits _ c.count_turns-in-Ended.new.self _ c.count_turns-in-Ended.ensures)) in
-    reads_anew _ _ _ (reads_from _ _ _ c.self.view_is (reads_lost c.pull_from.result x.0 _ _ _ none x.2 x.1 refl refl x.3 c.in-Ended.is refl l.wire l.over l.event l.bytes l.lines l.serves l.memory l.lost).0) k
+    reads_anew _ _ _ (reads_from _ _ _ c.self.view_is (reads_lost c.pull_from.result x.0 _ _ _ none x.2 x.1 refl refl x.3 c.in-Ended.is refl l.wire l.over l.event l.bytes l.connections l.serves l.memory l.lost).0) k
 
 pub returns-in-Gave-clause-full : goal.returns-in-Gave-clause-full
 returns-in-Gave-clause-full g c = λ some. let no : ⊥ = not_empty _ _ (empty_of c.waiting.result.now c.self.inside.incoming c.is_empty.result c.is_empty.ensures c.waiting.ensures c.if-not-is_empty.false) (ap (λ (t : Tunnel). t.engine.incoming) c.self.view_is) some in absurd no
@@ -81,5 +81,5 @@ returns-in-Ended-clause-pulls g c =
     let l = c.lose.ensures in
     let now = c.self-in-Ended.view_is in
     let k = keeps_from _ _ _ now (keeps_waits _ c.count_turns-in-Ended.new.self _ c.count_turns-in-Ended.ensures) in
-    let lost = reads_lost c.pull_from.result x.0 _ _ _ none x.2 x.1 refl refl x.3 c.in-Ended.is refl l.wire l.over l.event l.bytes l.lines l.serves l.memory l.lost in
-    pulls_from _ _ _ c.self.view_is (pulls_lost c.pull_from.result x.0 _ _ _ _ _ _ none x.2 x.3 now l.wire l.bytes l.lost l.event l.lines (((lost.1).0).attends).serves k c.count_turns-in-Ended.ensures refl)
+    let lost = reads_lost c.pull_from.result x.0 _ _ _ none x.2 x.1 refl refl x.3 c.in-Ended.is refl l.wire l.over l.event l.bytes l.connections l.serves l.memory l.lost in
+    pulls_from _ _ _ c.self.view_is (pulls_lost c.pull_from.result x.0 _ _ _ _ _ _ none x.2 x.3 now l.wire l.bytes l.lost l.event l.connections (((lost.1).0).attends).serves k c.count_turns-in-Ended.ensures refl)

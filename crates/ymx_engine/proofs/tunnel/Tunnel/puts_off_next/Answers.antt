@@ -12,7 +12,7 @@ pub returns-clause-keeps : goal.returns-clause-keeps
 returns-clause-keeps g c = keeps_from _ _ _ c.self.view_is (keeps_waits _ c.puts_off.new.self _ c.puts_off.ensures.counts)
 
 pub returns-clause-first : goal.returns-clause-first
-returns-clause-first g c = subst (λ (t : Tunnel). t.lines.turns_to_place ≡ None → (id : ℕ) → Waits id t.lines → IsDue id c.puts_off.new.self) c.self.view_is c.puts_off.ensures.first
+returns-clause-first g c = subst (λ (t : Tunnel). t.connections.turns_to_place ≡ None → (id : ℕ) → Waits id t.connections → IsDue id c.puts_off.new.self) c.self.view_is c.puts_off.ensures.first
 
 pub returns-clause-due : goal.returns-clause-due
-returns-clause-due g c = subst (λ (t : Tunnel). (id : ℕ) → IsDue id t.lines → IsDue id c.puts_off.new.self) c.self.view_is c.puts_off.ensures.due
+returns-clause-due g c = subst (λ (t : Tunnel). (id : ℕ) → IsDue id t.connections → IsDue id c.puts_off.new.self) c.self.view_is c.puts_off.ensures.due

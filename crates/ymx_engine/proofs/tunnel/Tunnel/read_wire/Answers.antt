@@ -23,8 +23,8 @@ payload-preserved g c =
     let p = c.pass.ensures in
     record {
       runs = runs_then _ _ _ i.runs (runs_then _ _ _ (runs_keep _ _ k) p.runs.runs);
-      stays = stays_then _ _ _ i.stays (stays_then _ _ _ (stays_kept _ _ k.wire k.lines.lines) p.stays);
-      rests = rests_past _ _ _ _ i.rests k.wire k.lines.lines p.rests p.closed;
+      stays = stays_then _ _ _ i.stays (stays_then _ _ _ (stays_kept _ _ k.wire k.connections.connections) p.stays);
+      rests = rests_past _ _ _ _ i.rests k.wire k.connections.connections p.rests p.closed;
       reads = reads_then _ _ _ (reads_then _ _ _ i.reads k.moves k.own k.wire k.over k.memory) p.runs.runs.moves p.runs.own p.wire p.over p.runs.memory;
       waits = λ off. let none = (c.advance.ensures.waits (ap is_put_off (i.waits off) ∙ off)).0 in let no : ⊥ = cc in absurd no;
       placed = in_place_passed _ _ _ _ (in_place_then _ _ _ i.placed c.advance.ensures.placed) p.passed;
@@ -36,10 +36,10 @@ pub returns-in-None-clause-runs : goal.returns-in-None-clause-runs
 returns-in-None-clause-runs g c = runs_then _ _ _ c.payload.invariant.runs (runs_keep _ _ c.advance.ensures.keeps)
 
 pub returns-in-None-clause-stays : goal.returns-in-None-clause-stays
-returns-in-None-clause-stays g c = let k = c.advance.ensures.keeps in stays_then _ _ _ c.payload.invariant.stays (stays_kept _ _ k.wire k.lines.lines)
+returns-in-None-clause-stays g c = let k = c.advance.ensures.keeps in stays_then _ _ _ c.payload.invariant.stays (stays_kept _ _ k.wire k.connections.connections)
 
 pub returns-in-None-clause-rests : goal.returns-in-None-clause-rests
-returns-in-None-clause-rests g c = let k = c.advance.ensures.keeps in rests_on _ _ _ c.payload.invariant.rests k.wire k.lines.lines
+returns-in-None-clause-rests g c = let k = c.advance.ensures.keeps in rests_on _ _ _ c.payload.invariant.rests k.wire k.connections.connections
 
 pub returns-in-None-clause-reads : goal.returns-in-None-clause-reads
 returns-in-None-clause-reads g c = let k = c.advance.ensures.keeps in reads_then _ _ _ c.payload.invariant.reads k.moves k.own k.wire k.over k.memory
@@ -72,10 +72,10 @@ pub returns-in-None-clause-due : goal.returns-in-None-clause-due
 returns-in-None-clause-due g c = λ off id due.
     let i = c.payload.invariant in
     let at : is_put_off c.payload.self ≡ true = ap is_put_off (i.waits off) ∙ off in
-    c.advance.ensures.due at id (subst (λ (t : Tunnel). IsDue id t.lines) (sym (i.waits off)) due)
+    c.advance.ensures.due at id (subst (λ (t : Tunnel). IsDue id t.connections) (sym (i.waits off)) due)
 
 pub returns-clause-due : goal.returns-clause-due
-returns-clause-due g c = λ off id due. subst (λ (t : Tunnel). IsDue id t.lines) (sym (c.payload.invariant.waits off)) due
+returns-clause-due g c = λ off id due. subst (λ (t : Tunnel). IsDue id t.connections) (sym (c.payload.invariant.waits off)) due
 
 pub returns-in-None-clause-first : goal.returns-in-None-clause-first
 returns-in-None-clause-first g c = λ free off. c.advance.ensures.first (early_on c.args.self.now c.payload.self free c.payload.invariant.anew) off

@@ -13,6 +13,6 @@ invariant-payload g l = record {
   reads : Reads l.fn.self l.self;
   waits : is_put_off l.fn.self ≡ true → l.self ≡ l.fn.self;
   placed : ReadsInPlace l.fn.self l.self;
-  anew : (l.self ≡ l.fn.self) ⊎ (l.self.lines.turns_to_place ≡ None);
+  anew : (l.self ≡ l.fn.self) ⊎ (l.self.connections.turns_to_place ≡ None);
   few : length l.self.engine.incoming + l.turn ≤ l.rows;
 }

@@ -3,13 +3,13 @@ use Rattle.ymx_engine.proofs.Turned.{FirstHasTurn, first_has_turn, none_runs}
 use Rattle.ymx_engine.proofs.tunnel.Tunnel.serve_next.Goals as goal
 
 pub returns-in_err-id-clause-runs : goal.returns-in_err-id-clause-runs
-returns-in_err-id-clause-runs g c = let n = c.in_err-id.ensures in none_runs _ c.args.self.now c.next.new.self c.self.view_is c.next.ensures.lines n.none.2
+returns-in_err-id-clause-runs g c = let n = c.in_err-id.ensures in none_runs _ c.args.self.now c.next.new.self c.self.view_is c.next.ensures.connections n.none.2
 
 served : (g : _) (c : goal.After-serve-gave g) → FirstHasTurn c.in_ok-id.id c.serve-gave.result c.args.self.now c.serve-gave.new.self
 served g c =
     let s = c.serve-gave.ensures in
     first_has_turn c.in_ok-id.id c.serve-gave.result _ c.args.self.now c.serve-gave.new.self c.next.new.self c.self.view_is (record {
-      lines = c.next.ensures.lines;
+      connections = c.next.ensures.connections;
       first = c.in_ok-id.ensures.some;
       there = c.in_ok-id.ensures.there;
       missed = c.next.ensures.missed;

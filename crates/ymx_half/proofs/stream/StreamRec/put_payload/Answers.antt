@@ -1,4 +1,4 @@
--- The place behind a header is filled with the next unsent bytes.
+-- The place after a header is filled with the next unsent bytes.
 use Rattle.std.proofs.Common.{◌≡◌, ap}
 use Rattle.ymx_model.specs.session.Records.{End}
 use Rattle.ymx_half.proofs.Buffers.{put_mid-filled}

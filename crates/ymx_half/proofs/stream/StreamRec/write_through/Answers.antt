@@ -1,4 +1,4 @@
--- The bytes stand behind their header, and only their credit is spent.
+-- The bytes stand after their header, and only their credit is spent.
 use Rattle.std.proofs.Common.{◌≡◌, ◌≤◌, ◌++◌, ℕ, List, [], length, drop, ap, refl, ◌∙◌}
 use Rattle.ymx_header.specs.Headers.{spelling}
 use Rattle.ymx_header.specs.declared.header.Header.{Header}

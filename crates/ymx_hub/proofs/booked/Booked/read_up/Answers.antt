@@ -1,4 +1,4 @@
--- One read behind another, until nothing waits or nothing more comes.
+-- One read after another, until nothing waits or nothing more comes.
 use Rattle.std.proofs.Common.{◌≡◌, ◌∙◌, length, subst, refl, Ok, Err, rules}
 use Rattle.ymx_machine.specs.shared.Evidence.{evidence}
 use Rattle.ymx_model.specs.declared.types.Got.{Got}

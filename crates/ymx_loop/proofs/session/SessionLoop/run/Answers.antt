@@ -10,34 +10,34 @@ loop-init g c = record { next = (tt, tt); runs = c.begin.ensures; rounds = (0, c
 pub loop-preserved : goal.loop-preserved
 loop-preserved g c = record {
   next = (tt, tt);
-  runs = runs_then _ _ _ c.loop.invariant.runs (runs_then _ _ _ c.hear_silence-limit.ensures (runs_then _ _ _ c.await_events.ensures.runs c.take_turn.ensures.runs));
+  runs = runs_then _ _ _ c.loop.invariant.runs (runs_then _ _ _ c.on_silence-limit.ensures (runs_then _ _ _ c.await_events.ensures.runs c.take_turn.ensures.runs));
   rounds = let r = c.loop.invariant.rounds in (
     suc r.0,
-    round_more r.0 _ _ _ _ r.1 (runs_then _ _ _ c.hear_silence-limit.ensures c.await_events.ensures.runs) c.take_turn.ensures.runs c.take_turn.ensures.works,
+    round_more r.0 _ _ _ _ r.1 (runs_then _ _ _ c.on_silence-limit.ensures c.await_events.ensures.runs) c.take_turn.ensures.runs c.take_turn.ensures.works,
     let few = looks_more _ r.0 _ _ r.2 c.await_events.ensures.looked in omega (arith, few),
   );
-  waits = waits_before _ _ _ _ _ (waits_behind _ _ _ _ _ _ _ c.requires.serves c.loop.invariant.waits (runs_then _ _ _ c.loop.invariant.runs c.hear_silence-limit.ensures) c.hear_silence-limit.ensures c.await_events.ensures.runs c.await_events.ensures.waits) c.take_turn.ensures.runs;
+  waits = waits_before _ _ _ _ _ (waits_behind _ _ _ _ _ _ _ c.requires.serves c.loop.invariant.waits (runs_then _ _ _ c.loop.invariant.runs c.on_silence-limit.ensures) c.on_silence-limit.ensures c.await_events.ensures.runs c.await_events.ensures.waits) c.take_turn.ensures.runs;
 }
 
 pub returns-in-Err-clause-runs : goal.returns-in-Err-clause-runs
-returns-in-Err-clause-runs g c = runs_then _ _ _ c.loop.invariant.runs (runs_then _ _ _ c.hear_silence-limit.ensures (runs_then _ _ _ c.await_events.ensures.runs (runs_then _ _ _ c.give_up_wire.ensures.runs c.leave_all.ensures)))
+returns-in-Err-clause-runs g c = runs_then _ _ _ c.loop.invariant.runs (runs_then _ _ _ c.on_silence-limit.ensures (runs_then _ _ _ c.await_events.ensures.runs (runs_then _ _ _ c.give_up_wire.ensures.runs c.leave_all.ensures)))
 
 pub returns-in-Err-clause-waits : goal.returns-in-Err-clause-waits
-returns-in-Err-clause-waits g c = waits_before _ _ _ _ _ (waits_behind _ _ _ _ _ _ _ c.requires.serves c.loop.invariant.waits (runs_then _ _ _ c.loop.invariant.runs c.hear_silence-limit.ensures) c.hear_silence-limit.ensures c.await_events.ensures.runs c.await_events.ensures.waits) (runs_then _ _ _ c.give_up_wire.ensures.runs c.leave_all.ensures)
+returns-in-Err-clause-waits g c = waits_before _ _ _ _ _ (waits_behind _ _ _ _ _ _ _ c.requires.serves c.loop.invariant.waits (runs_then _ _ _ c.loop.invariant.runs c.on_silence-limit.ensures) c.on_silence-limit.ensures c.await_events.ensures.runs c.await_events.ensures.waits) (runs_then _ _ _ c.give_up_wire.ensures.runs c.leave_all.ensures)
 
 pub returns-then-is_to_be_left-clause-runs : goal.returns-then-is_to_be_left-clause-runs
-returns-then-is_to_be_left-clause-runs g c = runs_then _ _ _ c.loop.invariant.runs (runs_then _ _ _ c.hear_silence-limit.ensures (runs_then _ _ _ c.await_events.ensures.runs c.leave_all-then-is_to_be_left.ensures))
+returns-then-is_to_be_left-clause-runs g c = runs_then _ _ _ c.loop.invariant.runs (runs_then _ _ _ c.on_silence-limit.ensures (runs_then _ _ _ c.await_events.ensures.runs c.leave_all-then-is_to_be_left.ensures))
 
 pub returns-then-is_to_be_left-clause-waits : goal.returns-then-is_to_be_left-clause-waits
-returns-then-is_to_be_left-clause-waits g c = waits_before _ _ _ _ _ (waits_behind _ _ _ _ _ _ _ c.requires.serves c.loop.invariant.waits (runs_then _ _ _ c.loop.invariant.runs c.hear_silence-limit.ensures) c.hear_silence-limit.ensures c.await_events.ensures.runs c.await_events.ensures.waits) c.leave_all-then-is_to_be_left.ensures
+returns-then-is_to_be_left-clause-waits g c = waits_before _ _ _ _ _ (waits_behind _ _ _ _ _ _ _ c.requires.serves c.loop.invariant.waits (runs_then _ _ _ c.loop.invariant.runs c.on_silence-limit.ensures) c.on_silence-limit.ensures c.await_events.ensures.runs c.await_events.ensures.waits) c.leave_all-then-is_to_be_left.ensures
 
 pub returns-then-is_over-clause-rounds : goal.returns-then-is_over-clause-rounds
 returns-then-is_over-clause-rounds g c = let r = c.loop.invariant.rounds in ends_before r.0 _ _ _ _ r.1 r.2
 
 pub returns-in-Err-clause-rounds : goal.returns-in-Err-clause-rounds
 returns-in-Err-clause-rounds g c = let r = c.loop.invariant.rounds in
-    ends_behind r.0 _ _ _ _ _ _ r.1 r.2 (runs_then _ _ _ c.hear_silence-limit.ensures (runs_then _ _ _ c.await_events.ensures.runs (runs_then _ _ _ c.give_up_wire.ensures.runs c.leave_all.ensures))) c.await_events.ensures.looked
+    ends_behind r.0 _ _ _ _ _ _ r.1 r.2 (runs_then _ _ _ c.on_silence-limit.ensures (runs_then _ _ _ c.await_events.ensures.runs (runs_then _ _ _ c.give_up_wire.ensures.runs c.leave_all.ensures))) c.await_events.ensures.looked
 
 pub returns-then-is_to_be_left-clause-rounds : goal.returns-then-is_to_be_left-clause-rounds
 returns-then-is_to_be_left-clause-rounds g c = let r = c.loop.invariant.rounds in
-    ends_behind r.0 _ _ _ _ _ _ r.1 r.2 (runs_then _ _ _ c.hear_silence-limit.ensures (runs_then _ _ _ c.await_events.ensures.runs c.leave_all-then-is_to_be_left.ensures)) c.await_events.ensures.looked
+    ends_behind r.0 _ _ _ _ _ _ r.1 r.2 (runs_then _ _ _ c.on_silence-limit.ensures (runs_then _ _ _ c.await_events.ensures.runs c.leave_all-then-is_to_be_left.ensures)) c.await_events.ensures.looked

@@ -19,4 +19,4 @@ pub returns-clause-runs : goal.returns-clause-runs
 returns-clause-runs g c = c.queued.invariant.0
 
 pub returns-clause-turns : goal.returns-clause-turns
-returns-clause-turns g c = λ id n far. let some = some_queued id n c.args.self.now.tunnel.lines 18446744073709551615 (omega arith) far in c.queued.invariant.1 (omega (arith, some, c.queued_count-end.ensures.count, c.queued-test.false)) id n far
+returns-clause-turns g c = λ id n far. let some = some_queued id n c.args.self.now.tunnel.connections 18446744073709551615 (omega arith) far in c.queued.invariant.1 (omega (arith, some, c.queued_count-end.ensures.count, c.queued-test.false)) id n far

@@ -1,4 +1,4 @@
--- One flag goes, and those behind it move up.
+-- One flag goes, and those after it move up.
 use Rattle.std.proofs.Common.{arith, ap, remove, sym, ◌∙◌, false}
 use Rattle.ymx_table.proofs.DueFlags.{below_len, count_few, count_some, kept-remove, flags_of-remove}
 use Rattle.ymx_table.proofs.due_places.DuePlaces.remove.Goals as goal

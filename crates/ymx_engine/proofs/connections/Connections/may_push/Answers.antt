@@ -1,0 +1,15 @@
+use Rattle.std.proofs.Common.{ap, ◌∙◌, sym, false}
+use Rattle.std.specs.Prelude.{Option}
+use Rattle.std.specs.Option.{option_map_or}
+use Rattle.ymx_engine.specs.Turns.{Connection, Connections}
+use Rattle.ymx_engine.specs.Directions.{may_push}
+use Rattle.ymx_engine.proofs.Entries.{connection_found, connection_none}
+use Rattle.ymx_engine.proofs.connections.Connections.may_push.Goals as goal
+
+pub returns-in-Some : goal.returns-in-Some
+returns-in-Some g c =
+    c.may_push.ensures ∙ sym (ap (λ (o : Option Connection). option_map_or (λ l. may_push l.directions l.seen.marks) o false) (connection_found g.D.Device.seen c.self.inside.by_id.entries c.args.id c.in-Some.found.now c.args.self.now (ap (λ (t : Connections). t.by_id) c.self.view_is) (sym c.in-Some.ensures.value)))
+
+pub returns-in-None : goal.returns-in-None
+returns-in-None g c =
+    sym (ap (λ (o : Option Connection). option_map_or (λ l. may_push l.directions l.seen.marks) o false) (connection_none g.D.Device.seen c.self.inside.by_id.entries c.args.id c.args.self.now (ap (λ (t : Connections). t.by_id) c.self.view_is) (sym c.in-None.ensures.value)))
