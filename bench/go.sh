@@ -1,9 +1,9 @@
 #!/bin/sh
-# Times yamux for Go over libymx (bindings/go) and HashiCorp's package in turn, over TCP on the loopback: words of 64
+# Times yamux for Go (bindings/go) and HashiCorp's package in turn, over TCP on the loopback: words of 64
 # bytes there and back, one stream, 64 streams at once, and streams that are opened and closed: one after another, and
 # each once the other side has closed the one before. Medians of five runs of the speed and the processor time of both
-# sides, and ours as a part of HashiCorp's; and what a new session has on Go's heap. Needs Go,
-# golang-github-hashicorp-yamux-dev and a C compiler. With a number it makes so many runs.
+# sides, and ours as a part of HashiCorp's; and what a new session has on Go's heap. Needs Go
+# and golang-github-hashicorp-yamux-dev. With a number it makes so many runs.
 set -eu
 top=$(cd "$(dirname "$0")/.." && pwd)
 case ${1-5} in
@@ -14,10 +14,7 @@ theirs=/usr/share/gocode/src/github.com/hashicorp/yamux
 work=$(mktemp -d)
 trap 'rm -rf "$work"' EXIT
 trap 'exit 130' INT TERM
-PREFIX=$work/built "$top/c/build.sh" "$work/built" > "$work/log" 2>&1 || { cat "$work/log" >&2; exit 1; }
-export PKG_CONFIG_PATH="$work/built/lib/pkgconfig" LD_LIBRARY_PATH="$work/built/lib"
-# Go's cache would keep where the library stood in an earlier run
-export GOCACHE="$work/cache"
+export CGO_ENABLED=0
 mkdir "$work/bench"
 cp "$top/bench/go_bench.go" "$work/bench/main.go"
 cd "$work/bench"

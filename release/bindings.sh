@@ -1,7 +1,8 @@
 #!/bin/bash
-# bindings.sh FOLDER: packs the bindings with the library in them, for x86-64 and arm64 Linux, so that nothing has to be
-# installed: FOLDER/ymx-VERSION-*.whl for Python, with libymx.so.0; FOLDER/go, a Go module, with libymx.a; FOLDER/rust, crates
-# of which ymx-sys has libymx.a for its feature `bundled`. The same release and the same compilers give the same bytes.
+# bindings.sh FOLDER: packs the bindings with the library in them, so that nothing has to be installed:
+# FOLDER/ymx-VERSION-*.whl for Python, with libymx.so.0, and FOLDER/rust, crates of which ymx-sys has libymx.a for its feature
+# `bundled`, each for x86-64 and arm64 Linux; FOLDER/go, a Go module, and FOLDER/goproxy, in which Go finds the same module by
+# GOPROXY=file://FOLDER/goproxy, each for all systems. The same release and the same compilers give the same bytes.
 # It needs a C compiler for each: `cc`, and aarch64-linux-gnu-gcc with libc6-dev-arm64-cross. CC_x86_64 and CC_aarch64 name
 # others.
 set -euo pipefail
@@ -45,15 +46,7 @@ copy() {
 }
 
 copy go go
-for target in x86_64 aarch64; do
-    processor=$([ $target = x86_64 ] && echo amd64 || echo arm64)
-    mkdir -p "$to/go/libymx/$processor"
-    cp "$scratch/$target/lib/libymx.a" "$to/go/libymx/$processor/"
-done
-cp "$root/c/ymx.h" "$to/go/libymx/"
-# shellcheck disable=SC2016
-flags='#cgo CFLAGS: -I${SRCDIR}/libymx\n#cgo linux,amd64 LDFLAGS: ${SRCDIR}/libymx/amd64/libymx.a\n#cgo linux,arm64 LDFLAGS: ${SRCDIR}/libymx/arm64/libymx.a'
-grep -rlZ '^#cgo pkg-config: ymx$' "$to/go" --include='*.go' | xargs -0 sed -i "s|^#cgo pkg-config: ymx\$|$flags|"
+"$here/go_module.py" "$to/goproxy"
 
 copy rust rust
 for target in x86_64 aarch64; do
@@ -61,6 +54,6 @@ for target in x86_64 aarch64; do
     cp "$scratch/$target/lib/libymx.a" "$to/rust/ymx-sys/bundled/$target/"
 done
 cp "$root/c/ymx.h" "$to/rust/ymx-sys/bundled/"
-(cd "$to" && find . -type f \( -name '*.whl' -o -name libymx.a \) | LC_ALL=C sort | xargs sha256sum)
-rm -rf "${folder:?}/go" "${folder:?}/rust"
+(cd "$to" && find . -type f \( -name '*.whl' -o -name libymx.a -o -name '*.zip' \) | LC_ALL=C sort | xargs sha256sum)
+rm -rf "${folder:?}/go" "${folder:?}/goproxy" "${folder:?}/rust"
 mv "$to"/* "$folder/"

@@ -1,11 +1,13 @@
 #!/bin/bash
 # Makes the release anew, for each target: proves the crates of the program and of the library for C and compiles both, from
-# nothing, links the program, and writes TARGET/ymx.gz, TARGET/libymx_c.a.gz, RELEASE and seconds. That takes an hour and a
-# half of processor time. With --kept it takes over what was proved before, with --gate the libraries as `rt ci` has just
-# proved and built them here: some minutes. Neither makes the library anew where the release has it of the same sources, by
-# the same kit and with the same parts in C.
-# It needs the Rattle kit's `rt` on the PATH, Python 3, and Debian's packages musl-dev for amd64 and arm64, which it fetches
-# where they aren't installed. The sources have to be committed, since RELEASE names their commit.
+# nothing, links the program, and writes TARGET/ymx.gz, TARGET/libymx_c.a.gz, RELEASE and seconds, and of the library the
+# machine code in bindings/go. That takes an hour and a half of processor time. With --kept it takes over what was proved
+# before, with --gate the libraries as `rt ci` has just proved and built them here: some minutes. Neither makes the library
+# anew where the release has it of the same sources, by the same kit, with the same words for its compiler and with the same
+# parts in C.
+# It needs the Rattle kit's `rt` on the PATH, Python 3, Debian's packages binutils and binutils-aarch64-linux-gnu, and its
+# musl-dev for amd64 and arm64, which it fetches where they aren't installed. The sources have to be committed, since RELEASE
+# names their commit.
 set -euo pipefail
 cd "$(dirname "$0")/.."
 case ${1-} in
@@ -41,12 +43,21 @@ sum() {
 parts() {
     sum release/*.c
 }
+# beside: what the library's compiler is given for each target, in one line
+beside() {
+    for target in $targets; do
+        echo "$target $(tools/kit.py beside "$target")"
+    done | paste -sd ';'
+}
+for tool in objdump aarch64-linux-gnu-objdump; do
+    command -v $tool > /dev/null || fail "$tool is not here, by which release/go_code.py reads the library's code: apt-get install binutils binutils-aarch64-linux-gnu"
+done
 
 # what release/prove.py is asked for
 words=(--objects "$room")
 library_sources=$(release/sources.sh ymx_c)
 if [ "${1-}" != '' ] && [ "$(fact library-sources)" = "$library_sources" ] && [ "$(fact kit)" = "$(rt version)" ] &&
-    [ "$(fact parts)" = "$(parts)" ]; then
+    [ "$(fact parts)" = "$(parts)" ] && [ "$(fact library-words)" = "$(beside)" ]; then
     for target in $targets; do
         gunzip -c "release/$target/libymx_c.a.gz" > "$room/$target.a"
     done
@@ -82,6 +93,7 @@ commit: $(git log -1 --format=%h -- crates crates.txt HANDLES)
 kit: $(rt version)
 parts: $(parts)
 library-sources: $library_sources
+library-words: $(beside)
 TEXT
     for target in $targets; do
         cat << TEXT
@@ -96,4 +108,5 @@ TEXT
 } > release/RELEASE.new
 mv release/RELEASE.new release/RELEASE
 cat release/RELEASE
+release/go_code.py
 du -cb release/*/*.gz | tail -n 1

@@ -79,15 +79,16 @@ ssize_t rattle_arg(size_t number, char *buffer, size_t room) {
 /* The kit's entry. The system's is packed on x86-64, and not elsewhere. */
 struct entry { uint32_t events; uint64_t data; };
 
-/* Of a session's wire, which alone has the token 0, the system takes no more while it holds so many bytes that it hasn't sent: what is chosen
+/* Of the link, whose token this is (Source::Link of crates/ymx_sockets/src/source.rt), the system takes no more while it holds so many bytes that it hasn't sent: what is chosen
 late leaves late. */
+#define LINK 0
 #ifndef UNSENT
 #define UNSENT 65536
 #endif
 
 int rattle_epoll_ctl(int epoll, int what, int file, uint32_t events, uint64_t data) {
     struct epoll_event entry = {.events = events, .data.u64 = data};
-    if (what == EPOLL_CTL_ADD && data == 0) setsockopt(file, IPPROTO_TCP, TCP_NOTSENT_LOWAT, &(int){UNSENT}, sizeof(int));
+    if (what == EPOLL_CTL_ADD && data == LINK) setsockopt(file, IPPROTO_TCP, TCP_NOTSENT_LOWAT, &(int){UNSENT}, sizeof(int));
     return epoll_ctl(epoll, what, file == DRAIN ? drain() : file, &entry);
 }
 

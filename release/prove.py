@@ -66,7 +66,7 @@ class Crate:
         """The compiler's words."""
         words = self.tools.proving("build", self.name, self.crates, self.room.library, jobs)
         if self.target:
-            words += [*self.tools.compiling(), *self.tools.targeting(self.target)]
+            words += [*self.tools.compiling(self.toolchain()), *self.tools.targeting(self.target)]
             if self.ending == ".a":
                 words += ["--crate-type", "staticlib", "--backend", "llvm"]
         elif not self.room.keeps:
@@ -76,10 +76,18 @@ class Crate:
             words += ["--incremental", self.room.proofs(self.name)]
         return [*words, "-o", self.made(self.ending)]
 
+    def beside(self):
+        """What clang is given for this crate beside the kit's words."""
+        return kit.BESIDE[self.target] if self.target and self.name == LIBRARY else []
+
+    def toolchain(self):
+        """The toolchain that compiles the crate, where it isn't the kit's own."""
+        return self.tools.toolchain_with(self.beside(), self.made(".toolchain")) if self.beside() else None
+
     def stamp(self, stamps):
         """A sum of all that the crate is made from."""
         below = [stamps[it] if it in stamps else self.room.sum_of(it) for it in kit.below(self.crates, self.name)]
-        total = hashlib.sha256(repr((self.kit_line, self.uses, self.target, below)).encode())
+        total = hashlib.sha256(repr((self.kit_line, self.uses, self.target, below, *self.beside())).encode())
         for file in sources(self.name):
             with open(file, "rb") as it:
                 total.update(repr((os.path.relpath(file, TOP), it.read())).encode())

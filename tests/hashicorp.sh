@@ -5,7 +5,7 @@
 # names that they use, and what is waited for where a test leaves to chance what comes first. Prints a table of how many tries
 # passed, and ends with a count. Their tests wait for 250 ms at most, which a busy machine misses now and then, also with
 # their own package: so a test passes where most of its tries do.
-# Needs Go, that package and a C compiler. With a number it makes so many tries of each test in place of 3.
+# Needs Go and that package. With a number it makes so many tries of each test in place of 3.
 set -eu
 here=$(cd "$(dirname "$0")" && pwd)
 . "$here/over.sh"
@@ -14,14 +14,11 @@ tries=${1-3}
 theirs=/usr/share/gocode/src/github.com/hashicorp/yamux
 has_go || fail "Go or its yamux is not here: apt-get install golang-go golang-github-hashicorp-yamux-dev"
 
-# Go keeps where the library stood; so this has a cache of its own, and leaves the user's alone
-export GOCACHE="$scratch/cache"
-PREFIX=$scratch/built "$root/c/build.sh" "$scratch/built" > "$scratch/log" 2>&1 || fail "libymx can't be built" "$scratch/log"
-export PKG_CONFIG_PATH="$scratch/built/lib/pkgconfig" LD_LIBRARY_PATH="$scratch/built/lib"
+export CGO_ENABLED=0
 mkdir "$scratch/ours" "$scratch/theirs" "$scratch/tests"
 cd "$scratch"
 printf 'module scratch\n\ngo 1.19\n' > go.mod
-cp "$root"/bindings/go/*.go "$here/hashicorp/our_hooks.go" ours/
+cp "$root"/bindings/go/*.go "$root"/bindings/go/*.s "$here/hashicorp/our_hooks.go" ours/
 cp "$theirs"/*.go "$here/hashicorp/their_hooks.go" theirs/
 rm -f ours/*_test.go theirs/*_test.go
 cp "$theirs/const.go" "$theirs/util.go" "$theirs"/*_test.go "$here/hashicorp/sides.go" tests/

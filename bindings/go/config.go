@@ -1,4 +1,4 @@
-//go:build cgo
+//go:build (linux || darwin || freebsd || windows) && (amd64 || arm64)
 
 package yamux
 
@@ -6,7 +6,6 @@ import (
 	"errors"
 	"fmt"
 	"io"
-	"log"
 	"os"
 	"time"
 )
@@ -44,7 +43,14 @@ type Config struct {
 	LogOutput io.Writer
 
 	// Logger is the log. Either Logger or LogOutput is set, not both.
-	Logger *log.Logger
+	Logger Logger
+}
+
+// Logger is what a session writes its log to, such as a *log.Logger.
+type Logger interface {
+	Print(words ...interface{})
+	Printf(format string, words ...interface{})
+	Println(words ...interface{})
 }
 
 // DefaultConfig is what Client and Server take for nil.
@@ -66,7 +72,7 @@ func VerifyConfig(config *Config) error {
 	if config.AcceptBacklog <= 0 {
 		return errors.New("backlog must be positive")
 	}
-	if config.KeepAliveInterval <= 0 {
+	if config.KeepAliveInterval == 0 || config.EnableKeepAlive && config.KeepAliveInterval < 0 {
 		return errors.New("keep-alive interval must be positive")
 	}
 	if config.MaxStreamWindowSize < leastWindow {

@@ -1,204 +1,233 @@
-//go:build cgo
+//go:build (linux || darwin || freebsd || windows) && (amd64 || arm64)
 
 package yamux
 
-/*
-#cgo pkg-config: ymx
-#include <stdlib.h>
-#include <ymx.h>
+import (
+	"runtime"
+	"strconv"
+	"unsafe"
+)
 
-// A session, and what the last call said of it. It lies in C's memory, so that Go reads the answers without a call.
-typedef struct core {
-    ymx_session *session;
-    ymx_touched *touched;
-    int64_t count;   // of ids: the streams that the fed bytes have touched
-    int64_t all;     // 1 where more were touched than ids has room for
-    int64_t pong;    // 1 where an answer to a ping came
-    int64_t offered; // streams that wait to be accepted
-    int64_t due;     // 1 where bytes wait to be emitted
-    int64_t status;
-    int64_t passing; // where a feed stopped before payload that a seat is for: how many bytes of it are to come
-    int64_t owed;    // 1 where payload that went to a seat has made credit due, and nothing else was
-    uint32_t stream; // whose payload that is
-    const void *lent; // bytes that wait on a stream
-    uint32_t ids[YMX_MOST_TOUCHED];
-    uint32_t seats[64]; // streams of which a Read waits with the place for its bytes, by seat_of; 0 where there is none
-    uint32_t seated;    // how many there are
-} core;
+// What the proved functions answer, as ymx.h has it.
+const (
+	refusedNoStream     = -1
+	refusedFinished     = -2
+	refusedReset        = -3
+	refusedLost         = -4
+	refusedClosed       = -5
+	refusedPeerAway     = -6
+	refusedOpensPending = -7
+	refusedTooMany      = -8
+	refusedExhausted    = -9
+	refusedNoMemory     = -11
+	ymxWait             = -12
+	ymxBroken           = 100
+)
 
-static uint32_t *seat_of(core *c, uint32_t id) { return &c->seats[id / 2 % 64]; }
+var errorNames = [...]string{"OK", "NO_STREAM", "FINISHED", "RESET", "LOST", "CLOSED", "PEER_AWAY", "OPENS_PENDING", "TOO_MANY", "EXHAUSTED",
+	"PINGS_PENDING", "NO_MEMORY", "WAIT", "BAD_WINDOW", "BAD_FIRST", "NULL", "BAD_ROLE"}
 
-static void core_free(core *c) {
-    ymx_touched_free(c->touched);
-    ymx_free(c->session);
-    free(c);
+func errorName(answer int64) string {
+	if answer <= 0 && -answer < int64(len(errorNames)) {
+		return errorNames[-answer]
+	}
+	return strconv.FormatInt(answer, 10)
 }
 
-// NULL, and the reason, where there is none.
-static core *core_new(int role, uint32_t window, int64_t *fault) {
-    core *c = calloc(1, sizeof *c);
-    if (c == NULL) {
-        *fault = YMX_E_NO_MEMORY;
-        return NULL;
-    }
-    *fault = ymx_new(role == 0 ? YMX_CLIENT : YMX_SERVER, window, 0, &c->session);
-    if (*fault == 0) *fault = ymx_touched_new(&c->touched);
-    if (*fault == 0) return c;
-    core_free(c);
-    return NULL;
+// The most streams that wait to be accepted, so that one feed makes, and the most blocks that a session keeps beside its streams.
+const (
+	mostOffered = 256
+	mostSpare   = 16
+)
+
+// The most streams that one feed names, and the most bytes that write_through takes.
+const (
+	mostTouched = 1024
+	fewTouched  = 32
+	mostThrough = 16384
+)
+
+// core is the proved session, which does no input or output. The lock of the Session that has it is held during each call.
+type core struct{ c *coreState }
+
+// coreState is a session, and what the last call said of it.
+type coreState struct {
+	session uintptr // memory of the proved part, as touched
+	note    uintptr
+	lent    uintptr // bytes that wait on a stream: memory of the proved part
+	count   int     // of ids: the streams that the fed bytes have touched
+	offered int64   // streams that wait to be accepted
+	state   int64
+	class   int     // the place in heap.large of blocks as wide as the window
+	piece   uintptr // the size of a piece that holds one
+	syns    syns
+	passing int    // where a feed stopped before payload that a seat is for: how many bytes of it are to come
+	stream  uint32 // whose payload that is
+	seated  int    // how many seats there are
+	all     bool   // more were touched than ids has room for
+	pong    bool   // an answer to a ping came
+	due     bool   // bytes wait to be emitted
+	owed    bool   // payload that went to a seat has made credit due, and nothing else was
+	ids     [fewTouched]uint32
+	more    *[mostTouched]uint32 // in place of ids, once they were more
+	seats   [64]uint32           // streams of which a Read waits with the place for its bytes, by seatOf; 0 where there is none
 }
 
-// Feeds bytes, as far as the next payload that a seat is for.
-static size_t feed_to_seat(core *c, const uint8_t *bytes, size_t len) {
-    size_t done = 0;
-    if (c->seated == 0) return (size_t)ymx_feed_touching(c->session, bytes, len, c->touched);
-    while (done < len) {
-        size_t taken = (size_t)ymx_feed_to_payload(c->session, bytes + done, len - done, c->touched);
-        done += taken;
-        int64_t passing = done < len ? ymx_passing(c->session, &c->stream) : 0;
-        if (passing > 0) {
-            if (*seat_of(c, c->stream) == c->stream) {
-                c->passing = passing;
-                break;
-            }
-            size_t most = len - done < (size_t)passing ? len - done : (size_t)passing;
-            taken = (size_t)ymx_feed_touching(c->session, bytes + done, most, c->touched);
-            done += taken;
-        }
-        if (taken == 0) break;
-    }
-    return done;
-}
-
-// Feeds bytes, of which the first `passed` are payload that a Read has got already, as far as the next payload that a seat is
-// for, and says how many were fed. Where it doesn't stop there it says what they did: one call in place of seven.
-static int64_t core_feed(core *c, const uint8_t *bytes, size_t len, size_t passed) {
-    size_t taken = 0;
-    if (passed > 0) {
-        int64_t due = ymx_due(c->session);
-        taken = (size_t)ymx_pass(c->session, bytes, passed);
-        if (due == 0 && ymx_due(c->session) == 1) c->owed = 1;
-    }
-    c->passing = 0;
-    taken += feed_to_seat(c, bytes + taken, len - taken);
-    if (c->passing > 0) return (int64_t)taken;
-    c->count = ymx_touched_ids(c->touched, c->ids, YMX_MOST_TOUCHED);
-    c->all = ymx_touched_is_all(c->touched);
-    c->pong = ymx_touched_has_pong(c->touched);
-    ymx_touched_clear(c->touched);
-    c->offered = ymx_offered_count(c->session);
-    c->due = ymx_due(c->session);
-    c->status = ymx_status(c->session);
-    return (int64_t)taken;
-}
-
-// A read may make credit due, which the caller has to send.
-static int64_t core_read(core *c, uint32_t id, uint8_t *buffer, size_t len) {
-    int64_t count = ymx_read(c->session, id, buffer, len);
-    if (count > 0) c->due = ymx_due(c->session);
-    return count;
-}
-
-// Go looks through what a void pointer leads to, and refuses a buffer that lies beside Go pointers. So bytes come here.
-static int64_t core_write(core *c, uint32_t id, const uint8_t *bytes, size_t len) {
-    return ymx_write(c->session, id, bytes, len);
-}
-
-// The most bytes that ymx_write_through takes.
-enum { most_through = 16384 };
-
-// Writes bytes straight into frames, as many as may go at once, and says how many. The frames fill the front of out.
-static int64_t core_write_through(core *c, uint32_t id, const uint8_t *bytes, size_t len, uint8_t *out, size_t room, size_t *filled) {
-    size_t done = 0;
-    *filled = 0;
-    while (done < len) {
-        size_t count = len - done < most_through ? len - done : most_through;
-        int64_t made = ymx_write_through(c->session, id, bytes + done, count, out + *filled, room - *filled);
-        if (made <= 0) break;
-        *filled += (size_t)made;
-        done += count;
-    }
-    return (int64_t)done;
-}
-
-static int64_t core_emit(core *c, uint8_t *buffer, size_t len) {
-    return ymx_emit(c->session, buffer, len);
-}
-
-static int64_t core_unread(core *c, uint32_t id) {
-    return ymx_unread(c->session, id, &c->lent);
-}
-
-// What core_look answers, as a sum.
-enum { is_acknowledged = 1, is_reset = 2, has_ended = 4, has_unread = 8 };
-
-// Says of a stream what a session asks once bytes have touched it: one call in place of four.
-static int core_look(core *c, uint32_t id) {
-    int said = 0;
-    if (ymx_is_acknowledged(c->session, id) == 1) said |= is_acknowledged;
-    if (ymx_is_reset(c->session, id) == 1) said |= is_reset;
-    if (ymx_has_ended(c->session, id) == 1) said |= has_ended;
-    if (ymx_unread(c->session, id, &c->lent) > 0) said |= has_unread;
-    return said;
-}
-
-// Forgets a stream, which may make a reset due.
-static void core_forget(core *c, uint32_t id) {
-    ymx_forget(c->session, id);
-    c->due = ymx_due(c->session);
-}
-*/
-import "C"
-
-import "unsafe"
-
-// core is libymx's session, which does no input or output. The lock of the Session that has it is held during each call.
-type core struct{ c *C.core }
+func seatOf(c *coreState, id uint32) *uint32 { return &c.seats[id/2%64] }
 
 func newCore(client bool, window uint32) (core, error) {
-	role := C.int(C.YMX_SERVER)
+	role := uintptr(1)
 	if client {
-		role = C.YMX_CLIENT
+		role = 0
 	}
-	var fault C.int64_t
-	c := C.core_new(role, C.uint32_t(window), &fault)
-	if c == nil {
-		return core{}, refusal(int64(fault))
+	c := &coreState{class: bufferClass, piece: bufferPiece}
+	if window != leastWindow {
+		c.class, c.piece = int(ymxClass(uintptr(window))), uintptr(ymxPiece(uintptr(window)))
 	}
+	c.promise(demand{})
+	defer c.done(demand{})
+	if fault := ymxNew(role, uintptr(window), 0, &c.session); fault != 0 {
+		return core{}, refusal(fault)
+	}
+	if fault := ymxTouchedNew(&c.note); fault != 0 {
+		core{c}.freeSession()
+		return core{}, refusal(fault)
+	}
+	// Where nobody calls free. Who makes a call uses the Session, and so this, after the call.
+	runtime.SetFinalizer(c, func(c *coreState) { core{c}.free() })
 	return core{c}, nil
 }
 
-func (core core) free() { C.core_free(core.c) }
+func (core core) freeSession() {
+	ymxDrop(core.c.session)
+	ymxDealloc(core.c.session)
+	core.c.session = 0
+}
 
-// first is the address of the first byte, or NULL.
-func first(bytes []byte) *C.uint8_t {
+func (core core) free() {
+	runtime.SetFinalizer(core.c, nil)
+	ymxTouchedDrop(core.c.note)
+	ymxDealloc(core.c.note)
+	core.c.note = 0
+	core.freeSession()
+	trim()
+}
+
+var nowhere byte
+
+// first is the address of the first byte. Of no bytes it is one that nobody reads or writes.
+func first(bytes []byte) *byte {
 	if len(bytes) == 0 {
-		return nil
+		return &nowhere
 	}
-	return (*C.uint8_t)(&bytes[0])
+	return &bytes[0]
+}
+
+// feedToSeat feeds bytes, as far as the next payload that a seat is for.
+func (c *coreState) feedToSeat(bytes []byte) int {
+	done := 0
+	if c.seated == 0 {
+		return int(ymxFeedTouching(c.session, first(bytes), uintptr(len(bytes)), c.note))
+	}
+	for done < len(bytes) {
+		rest := bytes[done:]
+		taken := int(ymxFeedToPayload(c.session, first(rest), uintptr(len(rest)), c.note))
+		done += taken
+		passing := 0
+		if done < len(bytes) {
+			c.stream = 0
+			passing = int(ymxPassing(c.session, &c.stream, 1))
+		}
+		if passing > 0 {
+			if *seatOf(c, c.stream) == c.stream {
+				c.passing = passing
+				break
+			}
+			rest = bytes[done:]
+			if len(rest) > passing {
+				rest = rest[:passing]
+			}
+			taken = int(ymxFeedTouching(c.session, first(rest), uintptr(len(rest)), c.note))
+			done += taken
+		}
+		if taken == 0 {
+			break
+		}
+	}
+	return done
+}
+
+// needsOfSYNs is what a feed takes with so many of them: two buffers for each stream, as for one that is opened here, and a third
+// beside the first.
+func (c *coreState) needsOfSYNs(count uint64) demand {
+	if count <= mostSpare {
+		return c.needs(2*count, count)
+	}
+	if most := mostOffered - uint64(ymxOfferedCount(c.session)); count > most {
+		count = most // the others are rejected
+	}
+	return c.needs(count+mostSpare, count)
 }
 
 // feed says how many bytes were taken. The first `passed` are payload that a Read has got. It stops before payload of a
 // stream that is seated, as passing says then. Else touched, hasPong, offered, isDue and status are anew.
 func (core core) feed(bytes []byte, passed int) int {
-	return int(C.core_feed(core.c, first(bytes), C.size_t(len(bytes)), C.size_t(passed)))
+	c := core.c
+	c.syns.scan(bytes)
+	var demand demand
+	opens := c.syns.count
+	if opens > 0 {
+		demand = c.needsOfSYNs(opens)
+		c.promise(demand)
+	}
+	taken := 0
+	if passed > 0 {
+		due := ymxDue(c.session)
+		taken = int(ymxPass(c.session, first(bytes), uintptr(passed)))
+		if due == 0 && ymxDue(c.session) == 1 {
+			c.owed = true
+		}
+	}
+	c.passing = 0
+	taken += c.feedToSeat(bytes[taken:])
+	c.syns.taken(taken)
+	if opens > 0 {
+		c.done(demand)
+	}
+	if c.passing > 0 {
+		return taken
+	}
+	c.count = int(ymxTouchedIds(c.note, &c.ids[0], fewTouched))
+	if c.count > fewTouched {
+		if c.more == nil {
+			c.more = new([mostTouched]uint32)
+		}
+		c.count = int(ymxTouchedIds(c.note, &c.more[0], mostTouched))
+	}
+	c.all = c.count == mostTouched && ymxTouchedIsAll(c.note) == 1
+	c.pong = ymxTouchedHasPong(c.note) == 1
+	ymxTouchedClear(c.note)
+	c.offered = ymxOfferedCount(c.session)
+	c.due = ymxDue(c.session) == 1
+	c.state = ymxStatus(c.session)
+	return taken
 }
 
 // passing says how many bytes are to come of the payload before which the last feed stopped, or 0, and of which stream.
-func (core core) passing() (count int, id uint32) { return int(core.c.passing), uint32(core.c.stream) }
+func (core core) passing() (count int, id uint32) { return core.c.passing, core.c.stream }
 
 // seat has feed stop before payload of this stream. Another one may have had the place before.
 func (core core) seat(id uint32) {
-	place := &core.c.seats[id/2%64]
+	place := seatOf(core.c, id)
 	if *place == 0 {
 		core.c.seated++
 	}
-	*place = C.uint32_t(id)
+	*place = id
 }
 
 // unseat has feed stop there no longer.
 func (core core) unseat(id uint32) {
-	if place := &core.c.seats[id/2%64]; *place == C.uint32_t(id) {
+	if place := seatOf(core.c, id); *place == id {
 		*place = 0
 		core.c.seated--
 	}
@@ -206,106 +235,173 @@ func (core core) unseat(id uint32) {
 
 // isOwed says, once, whether payload that went to a seat has made credit due.
 func (core core) isOwed() bool {
-	owed := core.c.owed == 1
-	core.c.owed = 0
+	owed := core.c.owed
+	core.c.owed = false
 	return owed
 }
 
 // touched gives the streams that the last feed has touched. With isAll there were more.
-func (core core) touched() (ids []C.uint32_t, isAll bool) {
-	return core.c.ids[:core.c.count], core.c.all == 1
+func (core core) touched() (ids []uint32, isAll bool) {
+	if core.c.count > fewTouched {
+		return core.c.more[:core.c.count], core.c.all
+	}
+	return core.c.ids[:core.c.count], core.c.all
 }
 
-func (core core) hasPong() bool  { return core.c.pong == 1 }
-func (core core) offered() int64 { return int64(core.c.offered) }
+func (core core) hasPong() bool  { return core.c.pong }
+func (core core) offered() int64 { return core.c.offered }
 
-// isDue says whether something was due behind the last feed, read or forget.
-func (core core) isDue() bool { return core.c.due == 1 }
+// isDue says whether something was due after the last feed, read or forget.
+func (core core) isDue() bool { return core.c.due }
 
-func (core core) status() int64 { return int64(core.c.status) }
+func (core core) status() int64 { return core.c.state }
 
 // emit fills the buffer with bytes for the peer. Where it is not full, nothing is left due.
 func (core core) emit(buffer []byte) int {
-	count := int(C.core_emit(core.c, first(buffer), C.size_t(len(buffer))))
+	count := int(ymxEmit(core.c.session, first(buffer), uintptr(len(buffer))))
 	if count < len(buffer) {
-		core.c.due = 0
+		core.c.due = false
 	}
 	return count
 }
 
-func (core core) open() int64   { return int64(C.ymx_open(core.c.session)) }
-func (core core) accept() int64 { return int64(C.ymx_accept(core.c.session)) }
+// open needs two buffers, and keeps a third beside the first streams.
+func (core core) open() int64 {
+	demand := core.c.needs(2, 1)
+	core.c.promise(demand)
+	answer := ymxOpen(core.c.session)
+	core.c.done(demand)
+	return answer
+}
+
+func (core core) accept() int64 { return ymxAccept(core.c.session) }
 
 func (core core) write(id uint32, bytes []byte) int64 {
-	return int64(C.core_write(core.c, C.uint32_t(id), first(bytes), C.size_t(len(bytes))))
+	answer := ymxWrite(core.c.session, uintptr(id), first(bytes), uintptr(len(bytes)))
+	for tries := 0; again(answer, &tries); {
+		answer = ymxWrite(core.c.session, uintptr(id), first(bytes), uintptr(len(bytes)))
+	}
+	return answer
 }
 
 // writeThrough writes bytes and emits them at once into the front of a block, if nothing is due: how many it took, and how
 // many bytes of the block it filled.
 func (core core) writeThrough(id uint32, bytes, block []byte) (taken, filled int) {
-	var made C.size_t
-	count := C.core_write_through(core.c, C.uint32_t(id), first(bytes), C.size_t(len(bytes)), first(block), C.size_t(len(block)), &made)
-	return int(count), int(made)
+	for taken < len(bytes) {
+		some := bytes[taken:]
+		if len(some) > mostThrough {
+			some = some[:mostThrough]
+		}
+		room := block[filled:]
+		made := ymxWriteThrough(core.c.session, uintptr(id), first(some), uintptr(len(some)), first(room), uintptr(len(room)))
+		if made <= 0 {
+			break
+		}
+		filled += int(made)
+		taken += len(some)
+	}
+	return taken, filled
 }
 
 // read renews isDue where it gives bytes.
 func (core core) read(id uint32, buffer []byte) int64 {
-	return int64(C.core_read(core.c, C.uint32_t(id), first(buffer), C.size_t(len(buffer))))
+	count := ymxRead(core.c.session, uintptr(id), first(buffer), uintptr(len(buffer)))
+	if count > 0 {
+		core.c.due = ymxDue(core.c.session) == 1
+	}
+	return count
 }
 
-func (core core) atEnd(id uint32) bool   { return C.ymx_is_at_end(core.c.session, C.uint32_t(id)) == 1 }
-func (core core) finish(id uint32) int64 { return int64(C.ymx_finish(core.c.session, C.uint32_t(id))) }
-func (core core) reset(id uint32) int64  { return int64(C.ymx_reset(core.c.session, C.uint32_t(id))) }
+func (core core) atEnd(id uint32) bool   { return ymxIsAtEnd(core.c.session, uintptr(id)) == 1 }
+func (core core) finish(id uint32) int64 { return ymxFinish(core.c.session, uintptr(id)) }
+func (core core) reset(id uint32) int64  { return ymxReset(core.c.session, uintptr(id)) }
 
 // forget renews isDue.
-func (core core) forget(id uint32) { C.core_forget(core.c, C.uint32_t(id)) }
+func (core core) forget(id uint32) {
+	ymxForget(core.c.session, uintptr(id))
+	trim()
+	core.c.due = ymxDue(core.c.session) == 1
+}
 
 // shrink gives memory of a stream back that it doesn't need now, and if `all` what the session keeps beside its streams.
 func (core core) shrink(id uint32, all bool) {
-	C.ymx_shrink(core.c.session, C.uint32_t(id))
+	demand := core.c.needs(1, 1) // other buffers, in exchange
+	core.c.promise(demand)
+	ymxShrink(core.c.session, uintptr(id))
+	core.c.done(demand)
+	trim()
 	if all {
 		core.shrinkSpare()
 	}
 }
 
 // shrinkSpare gives that back alone, and says whether there was some.
-func (core core) shrinkSpare() bool { return C.ymx_shrink_spare(core.c.session) == 1 }
+func (core core) shrinkSpare() bool {
+	had := ymxShrinkSpare(core.c.session) == 1
+	trim()
+	return had
+}
+
+// unread says how many bytes of a stream lie at lent.
+func (core core) unread(id uint32) int {
+	return int(ymxUnread(core.c.session, uintptr(id), &core.c.lent, 1))
+}
 
 // take appends the bytes that wait on a stream to some, by at most `most` bytes. They are copied from where they lie.
 func (core core) take(id uint32, some []byte, most int) []byte {
 	for most > 0 {
-		count := int(C.core_unread(core.c, C.uint32_t(id)))
+		count := core.unread(id)
 		if count <= 0 {
 			break
 		}
 		if count > most {
 			count = most
 		}
-		some = append(some, unsafe.Slice((*byte)(core.c.lent), count)...)
-		C.ymx_consume(core.c.session, C.uint32_t(id), C.size_t(count))
+		some = append(some, unsafe.Slice(*(**byte)(unsafe.Pointer(&core.c.lent)), count)...)
+		ymxConsume(core.c.session, uintptr(id), uintptr(count))
 		most -= count
 	}
 	return some
 }
 
 // news is what there is to say of a stream.
-type news C.int
+type news int
+
+const (
+	isAcknowledged news = 1 << iota
+	isReset
+	hasEnded
+	hasUnread
+)
 
 // look asks for the news of a stream.
-func (core core) look(id uint32) news { return news(C.core_look(core.c, C.uint32_t(id))) }
+func (core core) look(id uint32) news {
+	var said news
+	if ymxIsAcknowledged(core.c.session, uintptr(id)) == 1 {
+		said |= isAcknowledged
+	}
+	if ymxIsReset(core.c.session, uintptr(id)) == 1 {
+		said |= isReset
+	}
+	if ymxHasEnded(core.c.session, uintptr(id)) == 1 {
+		said |= hasEnded
+	}
+	if core.unread(id) > 0 {
+		said |= hasUnread
+	}
+	return said
+}
 
 // isAcknowledged says whether the peer has acknowledged a stream that was opened here.
-func (n news) isAcknowledged() bool { return n&C.is_acknowledged != 0 }
+func (n news) isAcknowledged() bool { return n&isAcknowledged != 0 }
 
-func (n news) isReset() bool { return n&C.is_reset != 0 }
+func (n news) isReset() bool { return n&isReset != 0 }
 
 // hasEnded says whether the peer's end has arrived, also with bytes unread.
-func (n news) hasEnded() bool { return n&C.has_ended != 0 }
+func (n news) hasEnded() bool { return n&hasEnded != 0 }
 
-func (n news) hasUnread() bool { return n&C.has_unread != 0 }
+func (n news) hasUnread() bool { return n&hasUnread != 0 }
 
-func (core core) ping() int64 { return int64(C.ymx_ping(core.c.session)) }
-func (core core) ponged(number uint32) bool {
-	return C.ymx_ponged(core.c.session, C.uint32_t(number)) == 1
-}
-func (core core) goAway() int64 { return int64(C.ymx_go_away(core.c.session)) }
+func (core core) ping() int64               { return ymxPing(core.c.session) }
+func (core core) ponged(number uint32) bool { return ymxPonged(core.c.session, uintptr(number)) == 1 }
+func (core core) goAway() int64             { return ymxGoAway(core.c.session) }

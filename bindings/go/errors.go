@@ -1,11 +1,6 @@
-//go:build cgo
+//go:build (linux || darwin || freebsd || windows) && (amd64 || arm64)
 
 package yamux
-
-/*
-#include <ymx.h>
-*/
-import "C"
 
 import (
 	"errors"
@@ -13,6 +8,9 @@ import (
 	"os"
 	"syscall"
 )
+
+// NetError is a net.Error with the text of github.com/hashicorp/yamux: the type of ErrTimeout, as there.
+type NetError struct{ fault }
 
 // fault is an error with the text of github.com/hashicorp/yamux, which is by errors.Is an error of the standard library
 // too. It is a net.Error, as net.ErrClosed is.
@@ -22,8 +20,12 @@ type fault struct {
 	timeout, temporary bool
 }
 
-func (f *fault) Error() string   { return f.text }
-func (f *fault) Timeout() bool   { return f.timeout }
+func (f *fault) Error() string { return f.text }
+
+// Timeout says whether a time has passed.
+func (f *fault) Timeout() bool { return f.timeout }
+
+// Temporary says whether the call may be made again, as for the deadlines of the standard library.
 func (f *fault) Temporary() bool { return f.temporary }
 
 // Is has errors.Is find the standard library's error.
@@ -43,9 +45,9 @@ var (
 	ErrDuplicateStream = errors.New("duplicate stream initiated")
 	// ErrRecvWindowExceeded: the peer sent more than its credit.
 	ErrRecvWindowExceeded = errors.New("recv window exceeded")
-	// ErrTimeout: a deadline has passed, or no answer to a ping came. It is a net.Error whose Timeout is true, and by
-	// errors.Is os.ErrDeadlineExceeded.
-	ErrTimeout error = &fault{text: "i/o deadline reached", standard: os.ErrDeadlineExceeded, timeout: true, temporary: true}
+	// ErrTimeout: a deadline has passed, or no answer to a ping came. It is a net.Error whose Timeout and Temporary are true, and
+	// by errors.Is os.ErrDeadlineExceeded.
+	ErrTimeout = &NetError{fault{text: "i/o deadline reached", standard: os.ErrDeadlineExceeded, timeout: true, temporary: true}}
 	// ErrStreamClosed: this side has closed the stream, before the call or during it. By errors.Is it is net.ErrClosed.
 	ErrStreamClosed error = &fault{text: "stream closed", standard: net.ErrClosed}
 	// ErrUnexpectedFlag is here for programs that name it. No call returns it: such a frame is passed over.
@@ -62,41 +64,41 @@ var (
 	ErrKeepAliveTimeout = errors.New("keepalive timeout")
 
 	// ErrTooManyStreams: the session has 1,024 streams, as many as it can. HashiCorp's package has no such limit.
-	ErrTooManyStreams = errors.New("too many streams")
-	// ErrNoMemory: C's malloc gave none. The call may be made again.
-	ErrNoMemory = errors.New("no memory")
+	ErrTooManyStreams = errors.New("too many streams: a session has 1,024 at most, so open another one over a connection of its own")
+	// ErrNoMemory: the system gave none. The call may be made again.
+	ErrNoMemory = errors.New("no memory: the system gave none for this call, which may be made again")
 )
 
-// refusal is the error for a negative answer of libymx.
+// refusal is the error for a negative answer of the proved part.
 func refusal(answer int64) error {
 	switch answer {
-	case C.YMX_E_FINISHED:
+	case refusedFinished:
 		return ErrStreamClosed
-	case C.YMX_E_RESET:
+	case refusedReset:
 		return ErrConnectionReset
-	case C.YMX_E_LOST, C.YMX_E_CLOSED, C.YMX_E_NO_STREAM:
+	case refusedLost, refusedClosed, refusedNoStream:
 		return ErrSessionShutdown
-	case C.YMX_E_PEER_AWAY:
+	case refusedPeerAway:
 		return ErrRemoteGoAway
-	case C.YMX_E_EXHAUSTED:
+	case refusedExhausted:
 		return ErrStreamsExhausted
-	case C.YMX_E_TOO_MANY:
+	case refusedTooMany:
 		return ErrTooManyStreams
-	case C.YMX_E_NO_MEMORY:
+	case refusedNoMemory:
 		return ErrNoMemory
 	}
-	return errors.New("libymx: " + C.GoString(C.ymx_error_name(C.int64_t(answer))))
+	return errors.New("yamux: " + errorName(answer))
 }
 
 // These answers are no refusals: the caller waits, and asks again.
 const (
-	answerWait         = C.YMX_WAIT
-	answerOpensPending = C.YMX_E_OPENS_PENDING
+	answerWait         = ymxWait
+	answerOpensPending = refusedOpensPending
 )
 
 // broken is the error for a status of YMX_BROKEN and more.
 func broken(status int64) error {
-	switch status - C.YMX_BROKEN {
+	switch status - ymxBroken {
 	case 1:
 		return ErrInvalidVersion
 	case 2:
@@ -118,4 +120,4 @@ func broken(status int64) error {
 }
 
 // statusBroken is the least status of a session that broke.
-const statusBroken = C.YMX_BROKEN
+const statusBroken = ymxBroken

@@ -26,13 +26,22 @@ func need(t *testing.T, path, debian string) string {
 	return folder
 }
 
+// goCommand is a command of go's. Where there is none, as under wine, the test is left out.
+func goCommand(t *testing.T, words ...string) *exec.Cmd {
+	t.Helper()
+	if _, err := exec.LookPath("go"); err != nil {
+		t.Skip("left out, as go is not here")
+	}
+	return exec.Command("go", words...)
+}
+
 // inFolder has a command of go run in a folder, and gives what it says.
 func inFolder(t *testing.T, folder string, settings []string, words ...string) string {
 	t.Helper()
 	if isRaceTested {
 		words = append([]string{words[0], "-race"}, words[1:]...)
 	}
-	command := exec.Command("go", words...)
+	command := goCommand(t, words...)
 	command.Dir = folder
 	command.Env = append(append(os.Environ(), "GOFLAGS=-mod=mod", "GOPROXY=off", "GOWORK=off"), settings...)
 	said, err := command.CombinedOutput()
@@ -249,7 +258,9 @@ func TestGoPluginLogsNothing(t *testing.T) {
 	good(t, os.MkdirAll(program, 0o755))
 	sources, err := filepath.Glob("*.go")
 	good(t, err)
-	for _, source := range sources {
+	assembly, err := filepath.Glob("*.s")
+	good(t, err)
+	for _, source := range append(sources, assembly...) {
 		if !strings.HasSuffix(source, "_test.go") {
 			text, err := os.ReadFile(source)
 			good(t, err)
@@ -263,12 +274,14 @@ func TestGoPluginLogsNothing(t *testing.T) {
 	}
 }
 
-// A build without cgo fails with a message that says so.
-func TestABuildWithoutCgoSaysSo(t *testing.T) {
-	command := exec.Command("go", "build", ".")
-	command.Env = append(os.Environ(), "CGO_ENABLED=0")
-	said, err := command.CombinedOutput()
-	if err == nil || strings.Count(string(said), "\n") != 2 || !strings.Contains(string(said), "set_CGO_ENABLED_to_1") {
-		t.Fatalf("%v\n%s", err, said)
+// A build for another system fails with a message that says so.
+func TestABuildForAnotherSystemSaysSo(t *testing.T) {
+	for _, system := range []string{"GOOS=netbsd", "GOARCH=riscv64", "GOARCH=386"} {
+		command := goCommand(t, "build", ".")
+		command.Env = append(os.Environ(), "CGO_ENABLED=0", system)
+		said, err := command.CombinedOutput()
+		if err == nil || strings.Count(string(said), "\n") != 2 || !strings.Contains(string(said), "is_for_linux_darwin_freebsd_and_windows_on_amd64_and_arm64") {
+			t.Fatalf("%v\n%s", err, said)
+		}
 	}
 }

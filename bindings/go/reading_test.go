@@ -1,5 +1,3 @@
-//go:build cgo
-
 package yamux
 
 import (
@@ -167,7 +165,7 @@ func open(_ context.Context, session *Session) error {
 	return err
 }
 
-// Behind a deadline that ended such a call the next one reads on, and nothing is lost.
+// After a deadline that ended such a call the next one reads on, and nothing is lost.
 func TestBehindADeadlineTheConnectionIsReadOn(t *testing.T) {
 	client, server := overTCP(t, quiet())
 	near, far := pair(t, client, server)
@@ -201,7 +199,7 @@ func TestThePeerIsHeardWhileNobodyWaits(t *testing.T) {
 }
 
 // A peer that pings and takes no answers holds up no call that reads from the connection. All pings are answered once it
-// takes them, and what came behind them is there.
+// takes them, and what came after them is there.
 func TestAFloodOfPingsHoldsUpNoRead(t *testing.T) {
 	listener, err := net.Listen("tcp", "127.0.0.1:0")
 	good(t, err)
@@ -228,6 +226,9 @@ func TestAFloodOfPingsHoldsUpNoRead(t *testing.T) {
 		binary.BigEndian.PutUint32(header[4:], id)
 		binary.BigEndian.PutUint32(header[8:], length)
 		return header
+	}
+	if session.socket == nil {
+		t.Skip("left out: here no call reads from the connection itself")
 	}
 	_, err = peer.Write(frame(frameWindowUpdate, flagSYN, 1, 0))
 	good(t, err)

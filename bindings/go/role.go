@@ -1,4 +1,4 @@
-//go:build cgo
+//go:build (linux || darwin || freebsd || windows) && (amd64 || arm64)
 
 package yamux
 
@@ -48,8 +48,11 @@ func (s *Session) takeRole(id uint32) {
 	if s.due && !s.isOccupied() {
 		s.fill() // answers to pings
 	}
+	if s.due {
+		return
+	}
 	other, err := newCore(!s.isClient, s.window)
-	if s.due || err != nil {
+	if err != nil {
 		return
 	}
 	s.core.free()

@@ -1,7 +1,7 @@
-//go:build cgo
+//go:build (linux || darwin || freebsd || windows) && (amd64 || arm64)
 
-// Package yamux carries many streams over one connection. It has the calls of github.com/hashicorp/yamux, over libymx,
-// whose session is proved. The README says how to build it, and where it differs.
+// Package yamux carries many streams over one connection. It has the calls of github.com/hashicorp/yamux, over a session that is
+// proved, whose machine code stands in assembly files. The README says what of it is trusted, and where it differs.
 package yamux
 
 import (
@@ -24,7 +24,7 @@ const lastReads = time.Second
 // reads from the connection or writes to it.
 type Session struct {
 	config     *Config
-	logger     *log.Logger
+	logger     Logger
 	connection io.ReadWriteCloser
 	socket     *socket       // nil where the connection is none
 	source     *source       // for who reads alone
@@ -61,6 +61,8 @@ type Session struct {
 	away      bool        // our Go Away is out
 	isSparing bool        // memory is given back before long, if no stream comes
 	watching  bool        // a look at those who wait for the connection to take their bytes is planned
+	watch     *time.Timer // that look; nil before the first time
+	spare     *time.Timer // gives the memory back; nil before the first time
 	opening   patience    // own streams that the peer has not acknowledged
 	closing   patience    // streams that are closed here, and not ended by the peer
 	timer     *time.Timer // for what is sent soon; nil before the first time
@@ -187,7 +189,7 @@ func (s *Session) end(reason error) {
 	s.giveBlock()
 	s.opening.stop()
 	s.closing.stop()
-	for _, timer := range []*time.Timer{s.timer, s.standby} {
+	for _, timer := range []*time.Timer{s.timer, s.standby, s.watch, s.spare} {
 		if timer != nil {
 			timer.Stop()
 		}
@@ -226,7 +228,7 @@ func (s *Session) spareMemory() {
 		return
 	}
 	s.isSparing = true
-	time.AfterFunc(idle, func() {
+	s.spare = time.AfterFunc(idle, func() {
 		s.lock.Lock()
 		defer s.lock.Unlock()
 		s.isSparing = false
@@ -326,7 +328,7 @@ func (s *Session) send() {
 			s.sender.Wait()
 			continue
 		}
-		err := s.writeRest(s.connection.Write)
+		err := s.writeRest(s.writeAndWait)
 		if err != nil {
 			if s.silence(err) {
 				s.lock.Unlock() // a log may write to a stream
@@ -338,6 +340,14 @@ func (s *Session) send() {
 		s.full = false
 		s.nextTurn()
 	}
+}
+
+// writeAndWait writes to the connection until it has taken all.
+func (s *Session) writeAndWait(bytes []byte) (int, error) {
+	if s.socket != nil {
+		return writeAndForget(s.connection, bytes)
+	}
+	return s.connection.Write(bytes)
 }
 
 // fill emits what is due, once all that was emitted is out, and says whether there is something to write.
@@ -386,7 +396,7 @@ func (s *Session) through(id uint32, bytes []byte) int {
 	taken, filled := s.core.writeThrough(id, bytes, s.block[:])
 	s.rest = s.block[:filled]
 	if filled > 0 {
-		s.drains++ // nothing is due behind it
+		s.drains++ // nothing is due after it
 	}
 	s.giveBlock()
 	return taken
@@ -485,7 +495,7 @@ func (s *Session) overdue(since time.Time) bool {
 	}
 	if !s.watching {
 		s.watching = true
-		time.AfterFunc(s.config.ConnectionWriteTimeout/4, s.look)
+		s.watch = time.AfterFunc(s.config.ConnectionWriteTimeout/4, s.look)
 	}
 	return false
 }

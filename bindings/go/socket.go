@@ -1,4 +1,4 @@
-//go:build cgo
+//go:build (linux || darwin || freebsd || windows) && (amd64 || arm64)
 
 package yamux
 
@@ -49,12 +49,12 @@ func newSocket(connection io.ReadWriteCloser) *socket {
 	default:
 		return nil
 	}
-	if err != nil {
+	if err != nil || !preparedSocket(raw) {
 		return nil
 	}
 	s := &socket{connection: connection.(net.Conn), raw: raw}
 	s.try = func(descriptor uintptr) bool {
-		s.count, s.err = syscall.Write(int(descriptor), s.bytes)
+		s.count, s.err = writeNow(descriptor, s.bytes)
 		return true // don't wait and try again
 	}
 	s.look = s.readAtOnce
@@ -83,7 +83,7 @@ func (s *socket) read(most int) ([]byte, error) {
 	}
 	if s.fault != nil {
 		return nil, &net.OpError{Op: "read", Net: s.connection.LocalAddr().Network(), Source: s.connection.LocalAddr(),
-			Addr: s.connection.RemoteAddr(), Err: os.NewSyscallError("read", s.fault)}
+			Addr: s.connection.RemoteAddr(), Err: os.NewSyscallError(nameOfRead, s.fault)}
 	}
 	if s.came == 0 {
 		return nil, io.EOF
@@ -96,46 +96,55 @@ func (s *socket) readAtOnce(descriptor uintptr) bool {
 	if s.block == nil {
 		s.block = blocks.Get().(*[blockSize]byte)
 	}
-	for {
-		s.came, s.fault = syscall.Read(int(descriptor), s.block[:s.most])
-		if s.fault != syscall.EINTR {
-			break
-		}
-	}
+	s.came, s.fault = readNow(descriptor, s.block[:s.most])
 	if s.fault == nil && s.came > 0 {
 		return true
 	}
 	blocks.Put(s.block)
 	s.block = nil
-	return s.fault != syscall.EAGAIN
+	return s.fault != nothingThere
 }
 
 // settle waits until the system has sent all that was written, for so long at most, and drops what has come: where a
-// connection is closed while something unread is there, the system resets it, and drops what it has still to send.
+// connection is closed while something unread is there, the system resets it, and drops what it has still to send. Where the system
+// doesn't say what is unsent, the peer is told that no more comes, and its own end, or a fault, says that it has got all. What was
+// written to a Unix socket lies with the peer already.
 func (s *socket) settle(most time.Duration) {
+	tcp, isTCP := s.connection.(*net.TCPConn)
+	isEnding := false
 	for since, wait := time.Now(), time.Millisecond; ; wait *= 2 {
-		left := 0
+		hasEnded, left, isTold := true, 0, true
 		err := s.raw.Control(func(descriptor uintptr) {
-			drop(int(descriptor))
-			left = unsent(descriptor)
+			hasEnded = drop(descriptor)
+			left, isTold = unsent(descriptor)
 		})
-		if err != nil || left == 0 || time.Since(since) >= most {
+		isOver := left == 0
+		if isTCP && !isTold && most > 0 {
+			isOver = hasEnded
+			if !isEnding {
+				tcp.CloseWrite()
+				isEnding = true
+			}
+		}
+		if err != nil || isOver || time.Since(since) >= most {
 			return
 		}
 		time.Sleep(wait)
 	}
 }
 
-// drop reads what a socket has, and forgets it: so many blocks at most, as a peer may go on sending.
-func drop(descriptor int) {
+// drop reads what a socket has, and forgets it: so many blocks at most, as a peer may go on sending. It says whether that is all that
+// will come.
+func drop(descriptor uintptr) bool {
 	const most = 64
 	block := blocks.Get().(*[blockSize]byte)
 	defer blocks.Put(block)
 	for count := 0; count < most; count++ {
-		if came, err := syscall.Read(descriptor, block[:]); came <= 0 && err != syscall.EINTR {
-			return
+		if came, err := readNow(descriptor, block[:]); came <= 0 {
+			return err != nothingThere
 		}
 	}
+	return false
 }
 
 // source is what a session reads from: a socket, or any other connection, where a read waits with the place for its bytes.
@@ -184,7 +193,7 @@ func (s *source) read(most int) ([]byte, error) {
 	return place[:count], err
 }
 
-// release gives back the block, behind the last read.
+// release gives back the block, after the last read.
 func (s *source) release() {
 	place := &s.block
 	if s.socket != nil {

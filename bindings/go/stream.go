@@ -1,4 +1,4 @@
-//go:build cgo
+//go:build (linux || darwin || freebsd || windows) && (amd64 || arm64)
 
 package yamux
 
@@ -36,7 +36,7 @@ type Stream struct {
 	place  []byte // where a Read that waits wants its bytes; nil where none has a seat
 	placed int    // how many are there
 	rest   []byte // what has come after Close, or before the session ended
-	end    error  // what Read returns behind that, once the library has forgotten the stream; nil before
+	end    error  // what Read returns after that, once the library has forgotten the stream; nil before
 	last   error  // what it returns there in place of that, and at once, as Close has decided; or nil
 
 	closedAt time.Time
@@ -87,16 +87,16 @@ func (st *Stream) Shrink() {
 
 // ---- reading
 
-// lateReads is how long behind Close bytes of the peer's may come before they reset the stream, and how long a Read that
+// lateReads is how long after Close bytes of the peer's may come before they reset the stream, and how long a Read that
 // begins there waits for them, if there was none before.
 const lateReads = 100 * time.Millisecond
 
 // Read reads what has come, and waits while there is nothing. io.EOF comes once the peer has ended the stream and all was
-// read, and for no other reason. Close ends a Read that waits, with ErrStreamClosed. A Read that begins behind Close gives
+// read, and for no other reason. Close ends a Read that waits, with ErrStreamClosed. A Read that begins after Close gives
 // what had come before, and then ErrStreamClosed, or io.EOF if that had come too: what comes later may be the peer's answer
 // to Close. Only where there was no Read before Close, as that of a request whose answer is read next, it gives also what
 // comes within 100 milliseconds. Where the session ends before the stream, Read gives what has come, and then
-// ErrSessionShutdown. Behind a reset it is ErrConnectionReset, and ErrTimeout where nothing is there and the deadline has
+// ErrSessionShutdown. After a reset it is ErrConnectionReset, and ErrTimeout where nothing is there and the deadline has
 // passed.
 func (st *Stream) Read(buffer []byte) (int, error) {
 	st.session.lock.Lock()
@@ -183,7 +183,7 @@ func (st *Stream) await(buffer []byte) int {
 const leastRead = 65536
 
 // wanted is how many bytes a Read that waits reads from the connection: what its buffer takes, with the headers of frames of
-// 16,384 bytes, so that what comes behind it waits in the connection and is copied once.
+// 16,384 bytes, so that what comes after it waits in the connection and is copied once.
 func wanted(count int) int {
 	switch {
 	case count >= leastWindow:
@@ -395,7 +395,7 @@ func (st *Stream) hand(bytes []byte) error {
 	return nil
 }
 
-// awaitTurn waits until the connection is free, behind those who came first.
+// awaitTurn waits until the connection is free, after those who came first.
 func (st *Stream) awaitTurn() error {
 	s := st.session
 	since := time.Now()
@@ -437,7 +437,7 @@ func (st *Stream) writeFault() error {
 		if st.closed {
 			return ErrStreamClosed
 		}
-		return ErrSessionShutdown // which has ended behind the peer's end of the stream
+		return ErrSessionShutdown // which has ended after the peer's end of the stream
 	}
 	if st.end == nil && st.session.mute {
 		return ErrSessionShutdown
@@ -516,7 +516,7 @@ func (st *Stream) sentFrame(kind byte, flags uint16, length uint32) {
 
 // ---- the end
 
-// CloseWrite ends the writing side, behind the last byte and behind a Write that is under way, and waits until the
+// CloseWrite ends the writing side, after the last byte and after a Write that is under way, and waits until the
 // connection has taken the end. The stream may still be read. It returns ErrConnectionReset or ErrSessionShutdown where the
 // end can't be told any more, and ErrConnectionWriteTimeout where the connection doesn't take it.
 func (st *Stream) CloseWrite() error {
@@ -536,10 +536,10 @@ func (st *Stream) CloseWrite() error {
 	return st.finish()
 }
 
-// Close ends both sides. The writing side ends behind the last byte, and Close waits until the connection has taken that
+// Close ends both sides. The writing side ends after the last byte, and Close waits until the connection has taken that
 // end. A Read or Write that waits returns ErrStreamClosed, but a Read gives what has come first. Who wants to read on calls
 // CloseWrite. The stream is gone once the peer has ended it. It is reset if that takes longer than StreamCloseTimeout, or
-// bytes come behind Close, and 100 milliseconds are over: so a peer that goes on writing learns of it.
+// bytes come after Close, and 100 milliseconds are over: so a peer that goes on writing learns of it.
 //
 // Where it ends a Write that has bytes left for which the peer gave no credit, the stream is reset, so that the peer doesn't
 // take what has come for the whole.
@@ -669,7 +669,7 @@ func (st *Stream) settle(news news) {
 	}
 }
 
-// graceIsOver is called where bytes came behind Close.
+// graceIsOver is called where bytes came after Close.
 func (st *Stream) graceIsOver() {
 	st.session.lock.Lock()
 	defer st.session.lock.Unlock()

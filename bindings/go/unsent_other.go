@@ -1,6 +1,6 @@
-//go:build cgo && !linux
+//go:build (darwin || freebsd || windows) && (amd64 || arm64)
 
 package yamux
 
-// unsent says 0 where there is no way to ask: then Close of a session waits for nothing.
-func unsent(uintptr) int { return 0 }
+// unsent says that nobody tells.
+func unsent(uintptr) (count int, isTold bool) { return 0, false }

@@ -109,7 +109,7 @@ func (c counting) Write(p []byte) (int, error) {
 
 // Their package writes a header and what follows it apart, and TestHalfClose counts on that: a write to a pipe is over once
 // the reader has taken it, so the second one says that the first was looked at. Written in one piece, a byte may not be
-// looked at yet where their Read behind Close looks for it, and that Read says EOF. So short writes go in two pieces here.
+// looked at yet where their Read after Close looks for it, and that Read says EOF. So short writes go in two pieces here.
 const shortWrite = 100
 
 // wire is what the frames of a connection say of the credit that its side has on each stream, and of what came.
