@@ -306,34 +306,56 @@ int64_t ymx_touched_clear(ymx_touched *touched) {
     return touched == NULL ? YMX_E_NULL : ymx_core_touched_clear(touched);
 }
 
-const char *ymx_error_name(int64_t code) {
-    if (code >= 0) return "OK";
-    switch (code) {
-    case YMX_E_NO_STREAM: return "NO_STREAM";
-    case YMX_E_FINISHED: return "FINISHED";
-    case YMX_E_RESET: return "RESET";
-    case YMX_E_LOST: return "LOST";
-    case YMX_E_CLOSED: return "CLOSED";
-    case YMX_E_PEER_AWAY: return "PEER_AWAY";
-    case YMX_E_OPENS_PENDING: return "OPENS_PENDING";
-    case YMX_E_TOO_MANY: return "TOO_MANY";
-    case YMX_E_EXHAUSTED: return "EXHAUSTED";
-    case YMX_E_PINGS_PENDING: return "PINGS_PENDING";
-    case YMX_E_NO_MEMORY: return "NO_MEMORY";
-    case YMX_WAIT: return "WAIT";
-    case YMX_E_BAD_WINDOW: return "BAD_WINDOW";
-    case YMX_E_BAD_FIRST: return "BAD_FIRST";
-    case YMX_E_NULL: return "NULL";
-    case YMX_E_BAD_ROLE: return "BAD_ROLE";
-    default: return "UNKNOWN";
-    }
+/* A name and a text, which begins with the name. The texts are those of the library's Error (crates/yamux), where it has them. */
+struct words { const char *name, *text; };
+#define REFUSAL(name, text) [-YMX_E_##name] = {#name, #name ": " text}
+#define FAULT(number, text) {"B" #number, "B" #number ": " text}
+static const struct words refusals[] = {
+    {"OK", "OK: the call was not refused"},
+    REFUSAL(NO_STREAM, "no stream has this id, or it was forgotten; give one that open or accept returned"),
+    REFUSAL(FINISHED, "the stream was finished here; open another to write more"),
+    REFUSAL(RESET, "the stream was cut off; take what came of it for a part"),
+    REFUSAL(LOST, "the connection has ended or failed; connect again"),
+    REFUSAL(CLOSED, "this side has closed the session; make another"),
+    REFUSAL(PEER_AWAY, "the peer takes no more streams; open them in another session"),
+    REFUSAL(OPENS_PENDING, "256 streams wait for the peer; open more once it has accepted some"),
+    REFUSAL(TOO_MANY, "1,024 streams are there; close some first"),
+    REFUSAL(EXHAUSTED, "this session has had all its streams; make another"),
+    REFUSAL(PINGS_PENDING, "16 pings wait; ping again once one was answered"),
+    REFUSAL(NO_MEMORY, "there was none; free some"),
+    [-YMX_WAIT] = {"WAIT", "WAIT: no credit, or nothing there yet; ask again once bytes touched the stream"},
+    REFUSAL(BAD_WINDOW, "give a window from 262,144 to 16,777,216 bytes"),
+    REFUSAL(BAD_FIRST, "give an odd first id to a client, an even one to a server, or 0"),
+    [-YMX_E_NULL] = {"NULL", "NULL: a pointer is NULL that may not be; give one"},
+    REFUSAL(BAD_ROLE, "give YMX_CLIENT or YMX_SERVER"),
+};
+static const struct words faults[] = {
+    FAULT(1, "a frame's version is not 0; see that the peer speaks yamux"),
+    FAULT(2, "a frame's type is above 3; see that the peer speaks yamux"),
+    FAULT(3, "a SYN for stream 0, or for an id of this side's; see that the peer has the other role"),
+    FAULT(4, "a SYN for a stream that is there"),
+    FAULT(5, "Data beyond the window"),
+    FAULT(6, "a credit above 4,294,967,295 bytes"),
+    FAULT(7, "a Go Away code above 2"),
+    FAULT(8, "the peer says that it found a protocol error"),
+    FAULT(9, "the peer says that it has an internal error"),
+};
+static const struct words unknown = {"UNKNOWN", "UNKNOWN: no such number"};
+
+static const struct words *of_code(int64_t code) {
+    if (code >= 0) return &refusals[0];
+    return code < YMX_E_BAD_ROLE ? &unknown : &refusals[-code];
 }
 
-const char *ymx_fault_name(int64_t fault) {
-    static const char *const names[] = {"B1", "B2", "B3", "B4", "B5", "B6", "B7", "B8", "B9"};
-    if (fault < YMX_FAULT_BAD_VERSION || fault > YMX_FAULT_PEER_SAW_INTERNAL_ERROR) return "UNKNOWN";
-    return names[fault - YMX_FAULT_BAD_VERSION];
+static const struct words *of_fault(int64_t fault) {
+    if (fault < YMX_FAULT_BAD_VERSION || fault > YMX_FAULT_PEER_SAW_INTERNAL_ERROR) return &unknown;
+    return &faults[fault - YMX_FAULT_BAD_VERSION];
 }
+
+const char *ymx_error_name(int64_t code) { return of_code(code)->name; }
+const char *ymx_refusal_text(int64_t code) { return of_code(code)->text; }
+const char *ymx_fault_name(int64_t fault) { return of_fault(fault)->name; }
+const char *ymx_fault_text(int64_t fault) { return of_fault(fault)->text; }
 
 const char *ymx_version(void) {
     return TEXT(YMX_VERSION_MAJOR) "." TEXT(YMX_VERSION_MINOR) "." TEXT(YMX_VERSION_PATCH);

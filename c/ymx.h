@@ -409,6 +409,14 @@ YMX_API const char *ymx_error_name(int64_t code);
  * broke it is ymx_fault_name(ymx_status(session) - YMX_BROKEN). It is static, and never NULL. */
 YMX_API const char *ymx_fault_name(int64_t fault);
 
+/* What an error says, and what to do: "BAD_WINDOW: give a window from 262,144 to 16,777,216 bytes". It begins with the name
+ * that ymx_error_name gives, is static, and never NULL. Since 0.4. */
+YMX_API const char *ymx_refusal_text(int64_t code);
+
+/* What the peer did, of a ymx_fault, after the name that ymx_fault_name gives: "B5: Data beyond the window". It is static,
+ * and never NULL. Since 0.4. */
+YMX_API const char *ymx_fault_text(int64_t fault);
+
 /* The library's version, such as "0.3.0". It is static. */
 YMX_API const char *ymx_version(void);
 

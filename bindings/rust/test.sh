@@ -1,7 +1,7 @@
 #!/bin/sh
 # The tests of the binding for Rust. YMX_LIB_DIR is the folder of the library. Then: both ways to find it and both to link
 # it, what is said where there is none, the packages, and clippy where it stands; and the crate for tokio, where Debian's
-# librust-tokio-dev and librust-hyper-dev stand.
+# packages of tokio, hyper and futures stand.
 set -eu
 here=$(cd "$(dirname "$0")" && pwd)
 cd "$here"
@@ -71,14 +71,15 @@ if cargo clippy --version > /dev/null 2>&1; then
 fi
 
 registry=/usr/share/cargo/registry
-if ls -d "$registry"/tokio-1.* "$registry"/hyper-0.14.* > /dev/null 2>&1; then
+if ls -d "$registry"/tokio-1.* "$registry"/hyper-0.14.* "$registry"/futures-io-0.3.* "$registry"/futures-util-0.3.* > /dev/null 2>&1; then
     mkdir "$scratch/home"
     printf '[source.crates-io]\nreplace-with = "debian"\n[source.debian]\ndirectory = "%s"\n' "$registry" > "$scratch/home/config.toml"
     export CARGO_HOME="$scratch/home"
     cp -r rustfmt.toml ymx ymx-sys ymx-tokio "$scratch/" # cargo writes a Cargo.lock
     cd "$scratch/ymx-tokio"
     cargo fmt --check > "$scratch/said" 2>&1 || fail 'cargo fmt would change something of ymx-tokio'
-    timeout 600 cargo test --offline
+    cargo build --offline > "$scratch/said" 2>&1 || fail 'ymx-tokio is not built without the feature futures'
+    timeout 600 cargo test --offline --features futures
 else
-    echo 'no tokio: that crate was not tried'
+    echo '--    ymx-tokio: left out: no tokio (apt-get install librust-tokio-dev librust-hyper-dev librust-futures-util-dev)'
 fi

@@ -126,6 +126,7 @@ is "the shared library needs libc alone" only_libc
 is "it is built with any flags, and a program asks for its version" any_flags
 is "from each instruction there is a way back to the caller" unwinds
 is "each constant is the proved crate's" same_numbers
+is "texts of refusals and faults, and calls in the document" python3 "$here/texts.py" "$scratch/built/lib/libymx.so.0" "$root/c/ymx.h" "$root/crates/yamux/src/error.rt" "$root/docs/C.md"
 is "what ymx.h says in words" built_and_run words "$here/words.c" -O1 -fsanitize=address,undefined -fno-sanitize-recover=all
 is "NULL" built_and_run nulls "$here/nulls.c" -fsanitize=address,undefined -fno-sanitize-recover=all
 is "bytes one by one and at once" built_and_run pieces "$here/pieces.c" -O1 -fsanitize=address,undefined -fno-sanitize-recover=all
@@ -142,7 +143,7 @@ is "a program of its own, by pkg-config" "$here/installed.sh" pkg_config
 if command -v cmake > /dev/null && command -v make > /dev/null; then
     is "a program of its own, by CMake" "$here/installed.sh" cmake
 else
-    echo "--    a program of its own, by CMake: left out: there is no cmake, or no make"
+    echo "--    a program of its own, by CMake: left out: there is no cmake, or no make (apt-get install cmake make)"
 fi
 is "a copy with no toolchain builds it from the release" "$here/from_release.sh"
 echo "$passed passed, $failed failed"

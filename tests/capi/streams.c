@@ -121,7 +121,7 @@ static void goes_next(void) {
     CHECK(ymx_next_of(s, 1) == YMX_NEXT_DATA + YMX_NEXT_REST && ymx_next_of(s, 3) == 0);
     goes_on(s, "\1\0\1\0\0\0\1\0\0\0\0", 11);
     CHECK(ymx_next_of(s, 1) == YMX_NEXT_DATA);
-    /* all but one byte of the data, and then that; the end goes behind it */
+    /* all but one byte of the data, and then that; the end goes after it */
     goes_on(s, "\0\0\0\0\0\0\0\1\0\0\0\5hell", 16);
     CHECK(ymx_next_of(s, 1) == YMX_NEXT_REST && ymx_finish(s, 1) == 0 && ymx_next_of(s, 1) == YMX_NEXT_END + YMX_NEXT_REST);
     goes_on(s, "o", 1);
@@ -240,7 +240,7 @@ static void releases_more(void) {
     CHECK(ymx_finish(s, 5) == 0 && ymx_release(s, 5) == 0);
     is_none(s, 5);
     goes(s, WINDOW, FIN, 5, 0);
-    /* one that this side has reset, and one that the peer resets behind its release */
+    /* one that this side has reset, and one that the peer resets after its release */
     CHECK(ymx_reset(s, 7) == 0 && ymx_release(s, 7) == 0);
     is_none(s, 7);
     goes(s, WINDOW, RST, 7, 0);

@@ -49,7 +49,7 @@ static void passes(void) {
     CHECK(ymx_read(s, 1, out, 16) == YMX_WAIT && ymx_touched_ids(touched, &id, 1) == 1 && id == 1);
     CHECK(ymx_feed_to_payload(s, came + 17, 12, touched) == 12 && ymx_emit(s, out, 16) == 12);
     CHECK(memcmp(out, "\0\2\0\2\0\0\0\0\0\0\0\7", 12) == 0);
-    /* payload that is fed as ever: what comes behind it can't be passed on before it is read */
+    /* payload that is fed as ever: what comes after it can't be passed on before it is read */
     CHECK(ymx_feed_to_payload(s, came, 17, touched) == 12 && ymx_feed_touching(s, came + 12, 1, touched) == 1);
     CHECK(ymx_passing(s, &id) == 0 && ymx_pass(s, came + 13, 4) == 0 && ymx_feed_to_payload(s, came + 13, 4, touched) == 4);
     CHECK(ymx_read(s, 1, out, 16) == 5 && memcmp(out, "world", 5) == 0);

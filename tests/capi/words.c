@@ -150,7 +150,7 @@ static void ends(void) {
     end();
 }
 
-/* Whether that call, behind which nothing was due, makes bytes due. They go to the other side. */
+/* Whether that call, after which nothing was due, makes bytes due. They go to the other side. */
 static void makes_due(ymx_session *session, int64_t answer) {
     CHECK(answer >= 0 && ymx_due(session) == 1);
     carry(session, session == client ? server : client);

@@ -298,7 +298,7 @@ class CutStreams(BothSides):
 
 
 class BehindTheEnd(unittest.IsolatedAsyncioTestCase):
-    """The peer hangs up behind three streams that came whole. It writes frames by the specification."""
+    """The peer hangs up after three streams that came whole. It writes frames by the specification."""
 
     async def accepted(self, connection):
         """All streams that are still given: what they read, or the error that they raise."""
@@ -533,7 +533,7 @@ class Leaving(unittest.IsolatedAsyncioTestCase):
         with self.assertRaisesRegex(ymx.ConnectionLost, "within 0.5 seconds"):
             async with await ymx.open_connection(*await self.deaf(), linger=0.5) as connection:
                 kept = await self.fill(connection)
-        with self.assertRaises(ValueError):  # and behind an exception, which stays what it was
+        with self.assertRaises(ValueError):  # and after an exception, which stays what it was
             async with await ymx.open_connection(*await self.deaf(), linger=0.5) as connection:
                 kept += await self.fill(connection)
                 raise ValueError

@@ -96,7 +96,7 @@ class Examples(unittest.IsolatedAsyncioTestCase):
         return names
 
     async def test_client_and_server(self):
-        client, *servers = self.blocks()
+        client, *servers, blocking = self.blocks()
         self.assertEqual(len(servers), 2)
         for server in servers:
             names = {"asyncio": asyncio, "ymx": ymx}
@@ -106,6 +106,9 @@ class Examples(unittest.IsolatedAsyncioTestCase):
             for _ in range(3):
                 said = await asyncio.wait_for(self.run_block(client, {}, port), 10)
                 self.assertEqual(said["answer"], b"hello")
+            said = {}
+            await asyncio.get_running_loop().run_in_executor(None, exec, blocking.replace("4000", str(port)), said)
+            self.assertEqual(said["answer"], b"hello")
             listener.close()
 
 

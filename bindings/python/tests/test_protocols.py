@@ -1,9 +1,11 @@
 """Streams below protocols that a program brings: TLS, asyncio's sendfile, those of others."""
 import asyncio
+import gc
 import importlib.util
 import os
 import tempfile
 import unittest
+import weakref
 
 import ymx
 from both_sides import BothSides, contexts
@@ -44,7 +46,42 @@ def bring(writer, protocol):
     return protocol
 
 
+class LastWord(Noting):
+    """Writes its last word once what it wrote before has gone, as TLS does."""
+
+    def resume_writing(self):
+        self.transport.write(b"last")
+
+    def pause_writing(self):
+        pass
+
+
 class Protocols(BothSides):
+    async def test_what_is_written_after_close_while_something_is_unsent_arrives(self):
+        (_, near), (far_reader, far) = await self.pair()
+        protocol = bring(near, LastWord())
+        protocol.transport.write(bytes(1000000))
+        protocol.transport.close()
+        self.assertEqual(await far_reader.read(), bytes(1000000) + b"last")
+        self.assertIsNone(await protocol.over)
+        protocol.transport.write(b"too late")
+        far.close()
+        await self.gone()
+
+    async def test_a_transport_drops_its_protocol_once_it_is_over(self):
+        (_, near), (_, far) = await self.pair()
+        protocol = bring(near, Noting())
+        transport, over, held = protocol.transport, protocol.over, weakref.ref(protocol)
+        del near
+        transport.close()
+        self.assertIsNone(await over)
+        del protocol
+        gc.disable()  # it waits for no collection
+        self.addCleanup(gc.enable)
+        await asyncio.sleep(0)
+        self.assertIsNone(held())
+        far.close()
+
     async def test_it_is_the_loop_that_is_meant(self):
         self.assertEqual(type(asyncio.get_running_loop()).__module__.split(".")[0], "uvloop" if IS_UVLOOP else "asyncio")
 

@@ -47,6 +47,16 @@ class WaysOfAsyncio(BothSides):
         near[1].close()
         await self.gone()
 
+    async def test_addresses_are_known_also_once_the_connection_is_over(self):
+        (reader, writer), _ = await self.pair()
+        self.server.abort()
+        with self.assertRaises(ymx.ConnectionLost):
+            await reader.read()
+        await self.client.wait_closed()
+        for each in writer, self.client:
+            self.assertEqual(each.get_extra_info("peername"), self.address)
+            self.assertIsNotNone(each.get_extra_info("sockname"))
+
     async def test_all_kinds_of_bytes_are_taken_and_kept_as_they_are(self):
         near, (far_reader, far) = await self.pair()
         pieces = [bytearray(b"one "), memoryview(b"two "), memoryview(bytearray(b"three ")), memoryview(b"f-o-u-r- ")[::2], b""]

@@ -171,7 +171,7 @@ class OverTCP(BothSides):
 
     async def test_a_fault_of_the_peers_ends_the_connection(self):
         self.client._transport.write(b"\x09" * 12)
-        with self.assertRaisesRegex(ymx.ConnectionLost, r"rule 1 of yamux \(B1\)"):
+        with self.assertRaisesRegex(ymx.ConnectionLost, r"a rule of yamux: B1: a frame"):
             await self.server.accept_stream()
 
 

@@ -3,7 +3,7 @@ a wheel for this platform has brought, or is looked for as the system does, by t
 package knows."""
 import ctypes
 import os
-from typing import Any, Tuple, Union
+from typing import Any, Dict, Tuple, Type, Union
 
 LEAST_WINDOW, WIDEST_WINDOW = 262144, 16777216
 MOST_TOUCHED = 1024
@@ -99,8 +99,18 @@ _error_name = _declared("error_name", ctypes.c_int64, answers=ctypes.c_char_p)
 _fault_name = _declared("fault_name", ctypes.c_int64, answers=ctypes.c_char_p)
 
 
+def _texts(name: str, names: Any) -> Any:
+    """The texts of version 0.4, or of an older library the names alone."""
+    return _declared(name, ctypes.c_int64, answers=ctypes.c_char_p) if hasattr(_library, "ymx_" + name) else names
+
+
+_refusal_text = _texts("refusal_text", _error_name)
+_fault_text = _texts("fault_text", _fault_name)
+
+
 class Refused(Exception):
-    """A call was refused. `name` says why, as "RESET"; ymx.h lists the names."""
+    """A call was refused. `name` says why, as "RESET"; ymx.h lists the names. It is a ValueError too where an argument is out
+    of range, a ConnectionError where the stream or the connection is over, and a MemoryError."""
 
     def __init__(self, code: int) -> None:
         self.code = code
@@ -108,13 +118,35 @@ class Refused(Exception):
         super().__init__(code)
 
     def __str__(self) -> str:
-        return self.name
+        return str(_refusal_text(self.code).decode())
+
+
+class RefusedValue(Refused, ValueError):
+    """An argument is out of range: a window, a first id, a role, a stream that isn't there."""
+
+
+class RefusedConnection(Refused, ConnectionError):
+    """The stream or the connection is over."""
+
+
+class RefusedMemory(Refused, MemoryError):
+    """There was no memory."""
+
+
+_KINDS: Dict[int, Type[Refused]] = {
+    # NO_STREAM, BAD_WINDOW, BAD_FIRST, NULL, BAD_ROLE
+    **{code: RefusedValue for code in (-1, -13, -14, -15, -16)},
+    # FINISHED, RESET, LOST, CLOSED
+    **{code: RefusedConnection for code in (-2, RESET, LOST, -5)},
+    # NO_MEMORY
+    -11: RefusedMemory,
+}
 
 
 def good(answer: int) -> int:
     """The answer, if it is no refusal."""
     if answer < 0:
-        raise Refused(answer)
+        raise _KINDS.get(answer, Refused)(answer)
     return answer
 
 
@@ -132,3 +164,8 @@ def fault_name(fault: int) -> str:
     """The name of a fault of the peer's, "B1" to "B9" as docs/PROTOCOL.md has it; "UNKNOWN" of any other number. Of a
     session that broke it is fault_name(status - BROKEN)."""
     return str(_fault_name(fault).decode())
+
+
+def fault_text(fault: int) -> str:
+    """What the peer did, after the fault's name: "B5: Data beyond the window"."""
+    return str(_fault_text(fault).decode())

@@ -7,7 +7,7 @@ from typing import Any, Awaitable, Callable, Dict, List, Optional, Set, Tuple, T
 
 from . import _library
 from ._library import LEAST_WINDOW, Refused
-from .errors import ConnectionLost, StreamReset, again
+from .errors import ConnectionLost, NotTaken, StreamReset, again
 from .session import BROKEN, CLIENT, RUNNING, SERVER, Session
 from .streams import StreamReader, StreamTransport, StreamWriter
 
@@ -45,9 +45,9 @@ async def start_server(
     linger: float = LINGER,
     tls: Optional[ssl.SSLContext] = None,
     **how: Any,
-) -> asyncio.AbstractServer:
+) -> asyncio.Server:
     """Listens, and runs `serve(connection)` for each connection, as the side that was called. Where it returns, the
-    connection is closed as behind `async with`. `how` is for `loop.create_server`."""
+    connection is closed as after `async with`. `how` is for `loop.create_server`."""
     loop = asyncio.get_running_loop()
     return await loop.create_server(
         lambda: Connection(SERVER, window, serve, linger=linger), host, port, ssl=tls, **how
@@ -56,7 +56,7 @@ async def start_server(
 
 async def start_stream_server(
     answer: Answer, host: Optional[str], port: int, *, limit: int = LIMIT, **how: Any
-) -> asyncio.AbstractServer:
+) -> asyncio.Server:
     """Listens, and runs `answer(reader, writer)` in a task of its own for each stream of each connection, as
     `asyncio.start_server` does for each connection. `how` is for `start_server`."""
     return await start_server(lambda connection: connection.serve_streams(answer, limit=limit), host, port, **how)
@@ -91,7 +91,7 @@ class Connection(asyncio.Protocol):
 
     `async with` leaves it in good order: all that was written to its streams is sent, as the peer grants credit for it, and
     the peer has said that it came. Where nothing goes on for `linger` seconds, the connection is broken off, and
-    ConnectionLost is raised. Behind an exception nothing waits for credit; behind a cancellation nothing waits at all."""
+    ConnectionLost is raised. After an exception nothing waits for credit; after a cancellation nothing waits at all."""
 
     def __init__(
         self, role: int, window: int = LEAST_WINDOW, serve: Optional[Serve] = None, *, linger: float = LINGER
@@ -101,7 +101,8 @@ class Connection(asyncio.Protocol):
         self._loop = asyncio.get_running_loop()
         self._serve = serve
         self._tasks: Set["asyncio.Task[None]"] = set()  # held here: the loop holds them weakly
-        self._transport: Optional[asyncio.Transport] = None
+        self._transport: Optional[asyncio.Transport] = None  # until it is lost
+        self._known: Optional[asyncio.BaseTransport] = None  # the same, and its addresses also after that
         self._streams: Dict[int, StreamTransport] = {}
         self._accepting, self._opening = _Waiters(self._loop), _Waiters(self._loop)
         self._moving = _Waiters(self._loop)  # for bytes that streams have unsent
@@ -112,7 +113,7 @@ class Connection(asyncio.Protocol):
         self._planned = False  # a call of _send is planned
         self._over: Optional[Exception] = None  # why nothing goes on for the user
         self._is_closed_here = False
-        self._farewell: Optional[int] = None  # the ping behind the last byte
+        self._farewell: Optional[int] = None  # the ping after the last byte
         self._is_short = False  # bytes that were to be sent were not when it ended
         self._gives_up = False  # nothing went on for too long
         self._watching: Optional[asyncio.TimerHandle] = None
@@ -122,12 +123,14 @@ class Connection(asyncio.Protocol):
     # ---- for the user
 
     async def open_stream(self, *, limit: int = LIMIT) -> Stream:
-        """Opens a stream. `limit` is as of `asyncio.open_connection`. It waits while 256 are not acknowledged. Refused("PEER_AWAY") where the peer takes no more,
-        Refused("TOO_MANY") where 1,024 are there. ConnectionLost once the connection has ended."""
+        """Opens a stream. `limit` is as of `asyncio.open_connection`. It waits while 256 are not acknowledged. Refused
+        `PEER_AWAY` where the peer takes no more, `TOO_MANY` where 1,024 are there. ConnectionLost once the connection has
+        ended. RuntimeError in another event loop than the connection's."""
+        self._check_loop()
         while True:
             self._check()
             try:
-                return self._stream(self.session.open(), limit)
+                return self._stream(self.session.open(), limit, is_accepted=False)
             except Refused as refused:
                 if refused.code != _library.OPENS_PENDING:
                     raise
@@ -136,12 +139,13 @@ class Connection(asyncio.Protocol):
     async def accept_stream(self, *, limit: int = LIMIT) -> Stream:
         """Waits for a stream of the peer's. Once the peer has hung up, or has broken a rule, it still gives the streams
         that came before, and then raises ConnectionLost. Closed here, it raises ConnectionLost at once."""
+        self._check_loop()
         while True:
             if self._is_closed_here:
                 self._check()
             stream = self.session.accept() if self.session.offered() > 0 else None
             if stream is not None:
-                return self._stream(stream, limit)
+                return self._stream(stream, limit, is_accepted=True)
             self._check()
             await self._accepting.wait()
 
@@ -158,6 +162,7 @@ class Connection(asyncio.Protocol):
     async def ping(self) -> float:
         """Asks the peer for a sign of life, and returns how many seconds its answer took. Refused("PINGS_PENDING")
         where 16 answers are awaited, ConnectionLost where the connection ends before."""
+        self._check_loop()
         self._check()
         number, began = self.session.ping(), self._loop.time()
         future = self._pings[number] = self._loop.create_future()
@@ -201,8 +206,8 @@ class Connection(asyncio.Protocol):
         return len(self._streams)
 
     def get_extra_info(self, name: str, default: Any = None) -> Any:
-        """What the transport says of itself, as "peername"."""
-        return default if self._transport is None else self._transport.get_extra_info(name, default)
+        """What the transport says of itself, as "peername"; also once it is over."""
+        return default if self._known is None else self._known.get_extra_info(name, default)
 
     # ---- tasks
 
@@ -249,6 +254,7 @@ class Connection(asyncio.Protocol):
 
     def connection_made(self, transport: asyncio.BaseTransport) -> None:
         self._transport = cast(asyncio.Transport, transport)  # uvloop's is none by its type
+        self._known = transport
         if self._over is not None:
             self._transport.abort()
         elif self._serve is not None:
@@ -305,7 +311,7 @@ class Connection(asyncio.Protocol):
         if status > BROKEN:
             fault = status - BROKEN
             self._pours = True
-            self._end(ConnectionLost(f"the peer broke rule {fault} of yamux ({_library.fault_name(fault)})"))
+            self._end(ConnectionLost(f"the peer broke a rule of yamux: {_library.fault_text(fault)}"))
             self._send()
             self._hang_up()
         if self._transport is not None and not self._transport.is_closing():
@@ -357,7 +363,7 @@ class Connection(asyncio.Protocol):
                 return
 
     def _is_leave_taken(self) -> bool:
-        """Asks the peer behind the last byte whether it has come, once the connection was closed here. Whether something
+        """Asks the peer after the last byte whether it has come, once the connection was closed here. Whether something
         is due by this."""
         if not self._is_closed_here or self._farewell is not None or self._transport is None:
             return False
@@ -371,8 +377,8 @@ class Connection(asyncio.Protocol):
 
     # ---- streams
 
-    def _stream(self, stream: int, limit: int) -> Stream:
-        transport = StreamTransport(self, stream, self._loop, limit)
+    def _stream(self, stream: int, limit: int, is_accepted: bool) -> Stream:
+        transport = StreamTransport(self, stream, self._loop, limit, is_accepted)
         if self._over is None:
             self._streams[stream] = transport
         ends = transport.begin()
@@ -400,6 +406,10 @@ class Connection(asyncio.Protocol):
         self._sparing = None
         if not self._streams:
             self.session.shrink_spare()
+
+    def _check_loop(self) -> None:
+        if asyncio.get_running_loop() is not self._loop:
+            raise RuntimeError("the connection belongs to another event loop: call it there, or use ymx.threads")
 
     def _check(self) -> None:
         if self._over is not None:
@@ -440,7 +450,7 @@ class Connection(asyncio.Protocol):
             self._transport.close()
 
     def _sent(self) -> Tuple[int, ...]:
-        """What changes as bytes go out behind the end."""
+        """What changes as bytes go out after the end."""
         if self._transport is None:
             return ()
         return (self.session.unsent_total(), self._transport.get_write_buffer_size())
@@ -459,7 +469,7 @@ class Connection(asyncio.Protocol):
             self._watching = self._loop.call_later(self.linger / 8, self._watch, before, since)
 
     async def _leave(self, kind: Optional[Type[BaseException]]) -> None:
-        """What `async with` does behind its block, which has ended with an exception of this kind, or with none."""
+        """What `async with` does after its block, which has ended with an exception of this kind, or with none."""
         was_closed = self._is_closed_here
         try:
             if kind is None and not was_closed:
@@ -470,7 +480,7 @@ class Connection(asyncio.Protocol):
             await self.wait_closed()
         if kind is None and not was_closed:
             if self._gives_up:
-                raise ConnectionLost(f"the peer did not take all within {self.linger} seconds")
+                raise NotTaken(f"the peer did not take all within {self.linger} seconds")
             if self._is_short:
                 raise ConnectionLost("the connection has ended before all was sent")
 
@@ -496,7 +506,7 @@ class Connection(asyncio.Protocol):
 
 
 def _left_in(transport: Optional[asyncio.Transport]) -> bytes:
-    """What has come and wasn't read when sending failed. asyncio's own transport closes its socket only behind
+    """What has come and wasn't read when sending failed. asyncio's own transport closes its socket only after
     connection_lost; of any other nothing is known."""
     if transport is None or type(transport).__module__ != "asyncio.selector_events":
         return b""

@@ -13,6 +13,13 @@ class ConnectionLost(ConnectionError):
     """The connection has ended before the stream."""
 
 
+class NotTaken(ConnectionLost, TimeoutError):
+    """The peer did not take in time what was written."""
+
+
 def again(error: Exception) -> Exception:
     """The same error, to be raised once more. One that was raised holds the frames that it went through."""
-    return type(error)(*error.args)
+    try:
+        return type(error)(*error.args)
+    except Exception:  # a program's own, which is made of other words
+        return error

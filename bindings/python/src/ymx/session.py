@@ -61,7 +61,7 @@ class Session:
         return good(_library.open_(self._at))
 
     def opens_left(self) -> int:
-        """How many streams may be opened now, one behind another: at 0 `open` is refused."""
+        """How many streams may be opened now, one after another: at 0 `open` is refused."""
         return good(_library.opens_left(self._at))
 
     def is_peer_away(self) -> bool:

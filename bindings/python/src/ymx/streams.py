@@ -1,11 +1,12 @@
 """A stream: asyncio's StreamReader and StreamWriter, and the transport below them."""
 import asyncio
+import ssl
 import warnings
 from asyncio.constants import _SendfileMode
 from asyncio.protocols import _feed_data_to_buffered_proto  # type: ignore[attr-defined]
 from asyncio.transports import _FlowControlMixin
 from collections import deque
-from typing import TYPE_CHECKING, Any, Deque, List, Optional, Tuple, cast
+from typing import TYPE_CHECKING, Any, Callable, Deque, List, Optional, Tuple, cast
 
 from . import _library
 from ._library import Bytes, Refused
@@ -15,11 +16,12 @@ if TYPE_CHECKING:
     from .connection import Connection
 
 _HIGH = 65536
+_NOBODY = asyncio.Protocol()
 
 
 class StreamReader(asyncio.StreamReader):
     """asyncio's, but that a stream which was cut off is never taken for one that has ended: what came before can be read,
-    and behind it each call raises why. A read that is cancelled loses nothing."""
+    and after it each call raises why. A read that is cancelled loses nothing."""
 
     _buffer: bytearray
 
@@ -35,7 +37,7 @@ class StreamReader(asyncio.StreamReader):
         super().feed_eof()
 
     def cut(self, reason: Exception) -> None:
-        """Nothing more comes behind what is there, for this reason; unless the peer's end has come before."""
+        """Nothing more comes after what is there, for this reason; unless the peer's end has come before."""
         if not self._ended and self._cut is None:
             self._cut = reason
             super().feed_eof()
@@ -53,6 +55,14 @@ class StreamReader(asyncio.StreamReader):
         self._buffer.clear()
         self._maybe_resume_transport()  # type: ignore[attr-defined]
         return data
+
+    def __repr__(self) -> str:
+        text = super().__repr__()
+        if self._lost is None:
+            return text
+        if not self._ended:
+            text = text.replace(" eof", "", 1)
+        return f"{text[:-1]} exception={self._lost!r}>"
 
     def exception(self) -> Any:
         """Why nothing can be written any more; None as long as that can be."""
@@ -116,12 +126,35 @@ class StreamWriter(asyncio.StreamWriter):
         self._stream.abort()
 
     async def drain(self) -> None:
-        """Waits while more than 64 KiB are unsent for want of the peer's credit. StreamReset, ConnectionLost where the
+        """Waits while more than 64 KiB are unsent for lack of the peer's credit. StreamReset, ConnectionLost where the
         rest is never sent."""
         await super().drain()
         lost = self._stream.reader.exception()
         if lost is not None:
             raise lost
+
+    async def start_tls(
+        self,
+        sslcontext: ssl.SSLContext,
+        *,
+        server_hostname: Optional[str] = None,
+        ssl_handshake_timeout: Optional[float] = None,
+    ) -> None:
+        """Goes on in TLS. The side that accepted the stream is TLS's server, as of asyncio's connections."""
+        stream = self._stream
+        await self.drain()
+        transport = await stream.loop.start_tls(
+            stream,
+            stream.streams,
+            sslcontext,
+            server_side=stream.is_accepted,
+            server_hostname=server_hostname,
+            ssl_handshake_timeout=ssl_handshake_timeout,
+        )
+        self._transport: Any = transport
+        # as StreamReaderProtocol._replace_writer, which Python has from 3.11 on
+        protocol: Any = stream.streams
+        protocol._transport, protocol._over_ssl = transport, True
 
     def __del__(self) -> None:
         transport = self._stream
@@ -141,12 +174,15 @@ class StreamTransport(_FlowControlMixin):
     _start_tls_compatible = True
     _sendfile_compatible = _SendfileMode.FALLBACK
 
-    def __init__(self, connection: "Connection", stream: int, loop: asyncio.AbstractEventLoop, limit: int) -> None:
+    def __init__(
+        self, connection: "Connection", stream: int, loop: asyncio.AbstractEventLoop, limit: int, is_accepted: bool
+    ) -> None:
         super().__init__(None, loop)
+        self.is_accepted = is_accepted
         self.loop = loop
         self.reader = StreamReader(loop, limit)
-        self._streams = asyncio.StreamReaderProtocol(self.reader, loop=loop)
-        self._protocol: asyncio.BaseProtocol = self._streams
+        self.streams = asyncio.StreamReaderProtocol(self.reader, loop=loop)
+        self._protocol: asyncio.BaseProtocol = self.streams
         self.is_brought = False  # the protocol is a program's
         self._connection, self._session, self._id = connection, connection.session, stream
         self._unsent: Deque[bytes] = deque()  # what the peer gave no credit for
@@ -157,28 +193,29 @@ class StreamTransport(_FlowControlMixin):
         self._back = b""  # what comes before all that the session has
         self._at_end = False  # the peer's end was read
         self._end_is_told = False  # to the protocol
-        self._ending = False  # no more is written here
+        self._is_whole = False  # after write_eof
+        self._ending = False  # the end goes out once nothing is unsent
         self._finished = False  # the session knows
         self._closing = False
-        self._deaf = False  # behind close, and what had come is thrown away
-        self._disowned = False  # the writer is gone, behind write_eof
+        self._deaf = False  # after close, and what had come is thrown away
+        self._disowned = False  # the writer is gone, after write_eof
         self._why: Optional[Exception] = None  # why the stream is over
         self._told = False  # the protocol knows that it is over
         self.is_gone = False  # the session has no such stream any more, or has ended
 
     def begin(self) -> "Tuple[StreamReader, StreamWriter]":
-        self._streams.connection_made(self)
+        self.streams.connection_made(self)
         self.touch()
-        return self.reader, StreamWriter(self, self._streams, self.reader, self.loop)
+        return self.reader, StreamWriter(self, self.streams, self.reader, self.loop)
 
     def get_protocol(self) -> asyncio.BaseProtocol:
         return self._protocol
 
     def set_protocol(self, protocol: asyncio.BaseProtocol) -> None:
-        """Who brings a protocol calls its `connection_made` behind this."""
+        """Who brings a protocol calls its `connection_made` after this."""
         if not self.is_brought:
             self._back += self.reader.take_back()
-        self._protocol, self.is_brought = protocol, protocol is not self._streams
+        self._protocol, self.is_brought = protocol, protocol is not self.streams
         self._end_is_told = False
         self.loop.call_soon(self.touch)
 
@@ -222,12 +259,25 @@ class StreamTransport(_FlowControlMixin):
         if not self._told:
             self._told = True
             self._why = reason
-            self._protocol.connection_lost(reason)
+            self._guarded("connection_lost", self._protocol.connection_lost, reason)
+            if self.is_brought:
+                self._protocol = _NOBODY  # so that what it holds goes with it, and waits for no collection
+
+    def _guarded(self, name: str, call: Callable[..., Any], *words: Any) -> Any:
+        """Calls a program's protocol. What it raises goes to the loop's exception handler and breaks off this stream: it is
+        no other stream's fault."""
+        try:
+            return call(*words)
+        except (SystemExit, KeyboardInterrupt):
+            raise
+        except BaseException as error:
+            self._fatal_error(error, f"Fatal error: protocol.{name}() call failed.")
+            return None
 
     # ---- reading
 
     def _give(self, is_last: bool = False) -> None:
-        """Gives what has come to the protocol, or throws it away behind close. The last time also to a reader that has
+        """Gives what has come to the protocol, or throws it away after close. The last time also to a reader that has
         enough. Bytes that come once both sides are closed here reset the stream, so that the peer learns of it."""
         while not self.is_gone and (self._reading or self._closing or is_last):
             data: Optional[bytes] = self._back
@@ -248,15 +298,15 @@ class StreamTransport(_FlowControlMixin):
 
     def _pass(self, data: bytes) -> None:
         if isinstance(self._protocol, asyncio.BufferedProtocol):
-            _feed_data_to_buffered_proto(self._protocol, data)
+            self._guarded("get_buffer", _feed_data_to_buffered_proto, self._protocol, data)
         else:
-            cast(asyncio.Protocol, self._protocol).data_received(data)
+            self._guarded("data_received", cast(asyncio.Protocol, self._protocol).data_received, data)
 
     def _tell_end(self) -> None:
         if self._end_is_told or self._closing:
             return
         self._end_is_told = True
-        goes_on = cast(asyncio.Protocol, self._protocol).eof_received()
+        goes_on = self._guarded("eof_received", cast(asyncio.Protocol, self._protocol).eof_received)
         if self.is_brought and not goes_on:
             self.close()
 
@@ -280,23 +330,30 @@ class StreamTransport(_FlowControlMixin):
     def write(self, data: Bytes) -> None:
         """Takes bytes to be sent: all of them, however many. A bytearray or memoryview may be changed afterwards.
 
-        RuntimeError behind write_eof. StreamClosed behind close; StreamReset, ConnectionLost once it is over."""
+        RuntimeError after write_eof. StreamClosed after close; StreamReset, ConnectionLost once it is over."""
         if not isinstance(data, (bytes, bytearray, memoryview)):
             raise TypeError(f"data argument must be a bytes-like object, not {type(data).__name__!r}")
-        if self.is_brought and self.is_closing():
-            return  # which was told, or is told next
-        if self._why is not None:
-            raise again(self._why)
-        if self._closing or self._told:
-            raise StreamClosed("the stream is closed for writing")
-        if self._ending:
-            raise RuntimeError("Cannot call write() after write_eof()")
+        if not self._takes():
+            return
         kept = bytes(data)
         if not kept:
             return
         self._unsent.append(kept)
         self.unsent_size += len(kept)
         self._try_to_write()
+
+    def _takes(self) -> bool:
+        """Whether bytes are taken. From a program's protocol they are after close too, as long as something is unsent: TLS
+        says its end so. Later ones are dropped, as connection_lost tells of that, while other callers get an error."""
+        if self.is_brought and self.is_closing():
+            return not (self._is_whole or self._finished or self.is_gone)
+        if self._why is not None:
+            raise again(self._why)
+        if self._closing or self._told:
+            raise StreamClosed("the stream is closed for writing")
+        if self._ending:
+            raise RuntimeError("Cannot call write() after write_eof()")
+        return True
 
     def _try_to_write(self) -> None:
         try:
@@ -316,23 +373,23 @@ class StreamTransport(_FlowControlMixin):
                 break
             self._unsent.popleft()
             self._start = 0
+        if not self._told:
+            self._maybe_resume_protocol()  # type: ignore[attr-defined]  # which may write more
+            self._maybe_pause_protocol()  # type: ignore[attr-defined]
         if self._ending and not self._unsent and not self._finished and not self.is_gone:
             self._finished = True
             self._session.finish(self._id)
             self._connection.plan()
             if self._closing:
                 self.loop.call_soon(self._tell, None)
-        if not self._told:
-            self._maybe_resume_protocol()  # type: ignore[attr-defined]
-            self._maybe_pause_protocol()  # type: ignore[attr-defined]
 
     def can_write_eof(self) -> bool:
         return True
 
     def write_eof(self) -> None:
-        """Says that what was written is whole: the peer reads an end behind it. The stream is still read."""
+        """Says that what was written is whole: the peer reads an end after it. The stream is still read."""
         if not self._ending:
-            self._ending = True
+            self._ending = self._is_whole = True
             self._try_to_write()
 
     def get_write_buffer_size(self) -> int:
@@ -341,7 +398,7 @@ class StreamTransport(_FlowControlMixin):
     # ---- the end
 
     def close(self) -> None:
-        """Ends the writing side behind the last byte. Where the peer still sends something behind that, the stream is reset."""
+        """Ends the writing side after the last byte. Where the peer still sends something after that, the stream is reset."""
         if self._closing or self.is_gone:
             return
         self._closing = True
@@ -361,7 +418,11 @@ class StreamTransport(_FlowControlMixin):
         return self._closing or self._told
 
     def abort(self) -> None:
-        """Resets the stream: the peer gets no end, and what is unsent is dropped."""
+        """Resets the stream: the peer gets no end, and what is unsent is dropped. The protocol learns of no error."""
+        self._force_close(None)
+
+    def _force_close(self, error: Optional[BaseException]) -> None:
+        """The same, and the protocol learns of this error. asyncio's TLS calls it."""
         if not self.is_gone:
             try:
                 self._session.reset(self._id)
@@ -372,13 +433,20 @@ class StreamTransport(_FlowControlMixin):
         if self._why is None and not self._told:
             self._why = StreamReset("the stream was reset here")
             self.reader.set_exception(self._why)
-        self.loop.call_soon(self._tell_gently)
+        self.loop.call_soon(self._tell_of, error)
 
-    def _tell_gently(self) -> None:
-        """Who has reset the stream needs no error from wait_closed."""
+    def _tell_of(self, error: Optional[BaseException]) -> None:
+        """For the caller of `write` the stream was reset here, whatever the protocol learns."""
         why = self._why
-        self._tell(None)
+        self._tell(cast(Optional[Exception], error))
         self._why = why
+
+    def _fatal_error(self, error: BaseException, message: str = "Fatal error on transport") -> None:
+        """As of asyncio's transports: a failure of the connection is no news, and anything else is a fault of the program."""
+        if not isinstance(error, OSError):
+            context = {"message": message, "exception": error, "transport": self, "protocol": self._protocol}
+            self.loop.call_exception_handler(context)
+        self._force_close(error)
 
     def _leave_if_over(self) -> None:
         """Forgets the stream once both sides have ended it and it is closed here. Sooner would reset it."""

@@ -140,5 +140,7 @@ extern "C" {
     pub fn ymx_touched_clear(touched: *mut ymx_touched) -> i64;
     pub fn ymx_error_name(code: i64) -> *const c_char;
     pub fn ymx_fault_name(fault: i64) -> *const c_char;
+    pub fn ymx_refusal_text(code: i64) -> *const c_char;
+    pub fn ymx_fault_text(fault: i64) -> *const c_char;
     pub fn ymx_version() -> *const c_char;
 }

@@ -227,6 +227,7 @@ impl From<Refused> for io::Error {
             YMX_E_LOST | YMX_E_CLOSED => ErrorKind::ConnectionAborted,
             YMX_E_FINISHED => ErrorKind::BrokenPipe,
             YMX_E_NO_MEMORY => ErrorKind::OutOfMemory,
+            YMX_E_BAD_WINDOW | YMX_E_BAD_FIRST | YMX_E_NO_STREAM => ErrorKind::InvalidInput,
             _ => ErrorKind::Other,
         };
         io::Error::new(kind, refused)

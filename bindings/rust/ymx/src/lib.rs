@@ -41,7 +41,8 @@ pub enum Role {
     Server,
 }
 
-/// Why a call was refused. `name` is its name in ymx.h without the prefix, as "RESET".
+/// Why a call was refused. `name` is its name in ymx.h without the prefix, as "RESET", and its text says what to do. As an
+/// `io::Error` it has the kind that fits, such as `InvalidInput` where an argument is out of range.
 #[derive(Clone, Copy, Debug, PartialEq, Eq)]
 pub struct Refused {
     pub code: i64,
@@ -55,7 +56,7 @@ impl Refused {
 
 impl fmt::Display for Refused {
     fn fmt(&self, f: &mut fmt::Formatter<'_>) -> fmt::Result {
-        f.write_str(self.name())
+        f.write_str(text(unsafe { ymx_refusal_text(self.code) }))
     }
 }
 
@@ -115,18 +116,7 @@ impl Fault {
 
 impl fmt::Display for Fault {
     fn fmt(&self, f: &mut fmt::Formatter<'_>) -> fmt::Result {
-        let text = match self {
-            Fault::BadVersion => "a frame's version is not 0",
-            Fault::UnknownType => "a frame's type is above 3",
-            Fault::BadSyn => "a SYN for stream 0, or for an id of this side's",
-            Fault::StreamInUse => "a SYN for a stream that is there",
-            Fault::WindowExceeded => "Data beyond the window",
-            Fault::CreditOverflow => "a credit above 4,294,967,295 bytes",
-            Fault::BadGoAwayCode => "a Go Away code above 2",
-            Fault::PeerSawProtocolError => "the peer says that it found a protocol error",
-            Fault::PeerSawInternalError => "the peer says that it has an internal error",
-        };
-        write!(f, "{text} ({})", self.name())
+        f.write_str(text(unsafe { ymx_fault_text(self.number()) }))
     }
 }
 
@@ -142,6 +132,23 @@ pub enum Got {
     /// Nothing is there yet.
     Wait,
 }
+
+/// What of a stream goes next, in this order.
+#[derive(Clone, Copy, Debug, PartialEq, Eq)]
+pub enum Next {
+    /// The frame that opens or accepts it.
+    First = YMX_NEXT_FIRST as isize,
+    /// Its reset.
+    Reset = YMX_NEXT_RESET as isize,
+    /// Credit for the peer.
+    Credit = YMX_NEXT_CREDIT as isize,
+    /// Bytes that were written.
+    Data = YMX_NEXT_DATA as isize,
+    /// Its end.
+    End = YMX_NEXT_END as isize,
+}
+
+const NEXT: [Next; 5] = [Next::First, Next::Reset, Next::Credit, Next::Data, Next::End];
 
 /// One side of a connection.
 #[derive(Debug)]
@@ -283,6 +290,14 @@ impl Session {
     pub fn unsent_total(&self) -> u64 {
         let answer = unsafe { ymx_unsent_total(self.0.as_ptr()) };
         u64::try_from(answer).unwrap_or(0)
+    }
+
+    /// What of a stream `emit` gives next, if something is due; and whether the rest of a frame goes before, of whichever
+    /// stream.
+    pub fn next_of(&self, id: u32) -> (Option<Next>, bool) {
+        let next = unsafe { ymx_next_of(self.0.as_ptr(), id) };
+        let (what, rest) = (next & !YMX_NEXT_REST, next & YMX_NEXT_REST);
+        (NEXT.into_iter().find(|next| *next as i64 == what), rest != 0)
     }
 
     /// Whether the peer has acknowledged a stream that was opened here.

@@ -207,7 +207,10 @@ fn go_away_is_told() {
     let (client, server) = pair();
     server.go_away().unwrap();
     client.ping().unwrap();
-    assert_eq!(client.open().err().unwrap().to_string(), "PEER_AWAY");
+    assert_eq!(
+        client.open().err().unwrap().to_string(),
+        "PEER_AWAY: the peer takes no more streams; open them in another session"
+    );
 }
 
 #[test]
@@ -465,7 +468,7 @@ fn the_fault_of_a_broken_connection_is_told() {
     let error = server.accept().err().unwrap();
     assert_eq!(
         error.to_string(),
-        "the connection broke: a frame's version is not 0 (B1)"
+        "the connection broke: B1: a frame's version is not 0; see that the peer speaks yamux"
     );
     assert_eq!(why(error), Ended::Broken(Fault::BadVersion));
     assert_eq!(server.ended(), Some(Ended::Broken(Fault::BadVersion)));

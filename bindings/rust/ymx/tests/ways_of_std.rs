@@ -110,7 +110,7 @@ fn everything_says_what_it_is() {
     is::<Touched>();
     is::<Side>();
     let fault: Box<dyn Error + Send + Sync> = Fault::BadSyn.into();
-    assert!(fault.to_string().contains("(B3)"));
+    assert!(fault.to_string().contains("B3: "));
     let (client, server) = pair();
     let (near, _far) = streams(&client, &server);
     assert!(format!("{near:?}").contains("stream 1"), "{near:?}");

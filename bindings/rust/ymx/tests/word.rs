@@ -26,7 +26,10 @@ fn refusals_have_names() {
     assert_eq!(session.feed(&[1; 12]).unwrap(), 12);
     assert_eq!((session.status(), session.open().unwrap_err().name()), (101, "LOST"));
     session.close();
-    assert_eq!(session.open().unwrap_err().to_string(), "CLOSED");
+    assert_eq!(
+        session.open().unwrap_err().to_string(),
+        "CLOSED: this side has closed the session; make another"
+    );
 }
 
 #[test]
@@ -85,7 +88,7 @@ fn faults_have_numbers_and_names() {
         let fault = Fault::of_number(number).unwrap();
         assert_eq!(fault.number(), number);
         assert_eq!(fault.name(), format!("B{number}"));
-        assert!(fault.to_string().ends_with(&format!(" (B{number})")));
+        assert!(fault.to_string().starts_with(&format!("B{number}: ")));
     }
     assert_eq!((Fault::of_number(0), Fault::of_number(10)), (None, None));
     let mut session = Session::new(Role::Server, ymx::LEAST_WINDOW, 0).unwrap();
