@@ -2,7 +2,7 @@
 """as_they_come.py PROGRAM LIBRARY: whether `selftest` prints the line of a connection before it makes the next one.
 
 Each call of `connect` is held until this script lets it go, by the library, which is preloaded. A connection takes two:
-the client's and the tunnel's. They are let go once the line of the connection before has come, so a program that keeps
+the client's and the tunnel's. They are dropped once the line of the connection before has come, so a program that keeps
 its lines until the end prints none, and is given up after a minute.
 """
 import os
@@ -32,4 +32,4 @@ os.close(lets_go)
 rest = child.stdout.read()
 status = child.wait(SECONDS)
 if status != 0 or rest != b"":
-    sys.exit(f"selftest: status {status}, and behind its lines {rest}")
+    sys.exit(f"selftest: status {status}, and after its lines {rest}")

@@ -161,10 +161,7 @@ def idle_beside_busy(name):
     idle = [side.connect() for _ in range(IDLE)]
     busy, number = side.connect()
     swap(side.peer, number, busy, MEGABYTE)
-    before = processor(side.program)
-    time.sleep(0.5)
-    spent = processor(side.program) - before
-    assert spent < 0.1, f"it ran for {spent} seconds while nothing moved"
+    raw.until(lambda: raw.is_at_rest(side.program))
     for other, stream in idle:
         swap(side.peer, stream, other, b"!")
     for other, stream in [*idle, (busy, number)]:
@@ -249,7 +246,7 @@ def a_target_that_refuses():
     leave(peer.connection)
     status, said = program.end()
     whole = f"{len(MEGABYTE)} bytes to the peer (ended), {len(MEGABYTE)} bytes from the peer (ended)"
-    # of two within a second one is said
+    # of two within a second one is logged
     refusals = f"ymx: --target {address}: refused\n"
     assert 1 <= said.count(refusals) <= 2, said
     said = said.replace(refusals, "").replace("ymx: 1 line like those before was left out\n", "")

@@ -1,5 +1,5 @@
 """Many users at once: each is served, as those for whom there is no stream wait. Through one connection between the two
-programs, through eight, and with a `remote` that serves ten at once. Then many more, one behind another.
+programs, through eight, and with a `remote` that serves ten at once. Then many more, one after another.
 
 usage: bursts.py YMX [USERS [IN_TURN [AT_ONCE]]]
 """

@@ -238,7 +238,7 @@ def a_count_that_ends_without_a_peer():
 
 
 def many_peers():
-    """What one leaves behind is let go of."""
+    """What one leaves behind is dropped."""
     program, place, peer = awaiting("--keep")
     users = program.place()
     for number in range(1, SESSIONS + 1):

@@ -1,5 +1,5 @@
 """Cuts connections through both ends of a tunnel, in each way that there is, and looks whether what was cut off ever looks
-whole: its other side has to see a reset. Where the end was clean it has to see the end, behind all bytes.
+whole: its other side has to see a reset. Where the end was clean it has to see the end, after all bytes.
 
 It says which tests failed, and nothing where none did. No test follows one that hangs.
 
@@ -17,7 +17,7 @@ from raw import ANY, Program, accept, break_off, call, listen, take
 
 # How often each is tried.
 TIMES = 20
-# A connection is cut behind so many bytes, in turn: within a window, at its edge, and where some are on their way.
+# A connection is cut after so many bytes, in turn: within a window, at its edge, and where some are on their way.
 SIZES = 1, 1_000, 262_144, 1_000_000
 BYTES = random.Random(58).randbytes(max(SIZES))
 LINKS = "--links", "4"
@@ -40,7 +40,7 @@ def how_it_ends(connection):
 
 
 def is_cut(connection, sent):
-    """Whether a reset comes behind a beginning of these bytes, and no end."""
+    """Whether a reset comes after a beginning of these bytes, and no end."""
     came, is_reset = how_it_ends(connection)
     return is_reset and sent.startswith(came)
 
@@ -289,7 +289,7 @@ def directions(name, test):
 
 TESTS = (
     *directions("a connection that is broken off", broken_off),
-    *directions("one that is broken off behind an end", broken_off_behind_an_end),
+    *directions("one that is broken off after an end", broken_off_behind_an_end),
     *directions("a link that is lost", lost_link),
     *directions("an end that is killed", killed_end),
     *directions("an end that is killed while nothing moves", idle_where_an_end_is_killed),

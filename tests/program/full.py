@@ -1,5 +1,5 @@
 """A link whose places are all taken: a user beyond them waits, and gets the next place that comes free, however the one who
-leaves it ends. That one resets, or ends last, behind the service's end. First one waits while one leaves, again and again;
+leaves it ends. That one resets, or ends last, after the service's end. First one waits while one leaves, again and again;
 then many wait, and many leave at once. Last the peer of `remote` is played frame by frame.
 
 It says which tests failed, with how many users were not served, and nothing where none did. No test follows one that hangs.
@@ -32,7 +32,7 @@ AT_ONCE = 256
 ORDERS = ("xsd", "xsdxsdxsd", "xxxsdsdsd", "xxxxssssdddd", "xsxdsd", "xsxosdd", "xsxxxdsdsdsd")
 # At how many places such a piece is cut, and how long the rest of it then waits, in seconds.
 CUTS, PAUSE = 12, 0.002
-# What a user says to the service, which sends it back. Behind END it ends its side, and behind CLOSE it closes.
+# What a user says to the service, which sends it back. After END it ends its side, and after CLOSE it closes.
 ECHO, END, CLOSE = b"?", b"e", b"c"
 
 
@@ -97,11 +97,11 @@ def tunnel():
 
 
 def ends_last(word):
-    """A user who ends behind the service's end, for which it asks by this word."""
+    """A user who ends after the service's end, for which it asks by this word."""
 
     def leave(user):
         user.sendall(word)
-        assert take(user, 2) == word, "the end comes behind the answer"
+        assert take(user, 2) == word, "the end comes after the answer"
         user.close()
 
     return leave
@@ -153,7 +153,7 @@ def says_that_it_is_full():
     there = [call(place) for _ in range(PLACES)]
     assert all(asks(user) == "served" for user in there)
     waiting = call(place)
-    assert local.line() == "ymx: all 1024 places are taken: users wait\n"
+    assert local.line() == "ymx: all 1024 stream slots are used: users wait\n"
     break_off(there[0])
     assert asks(waiting) == "served"
     assert remote.process.poll() is None
@@ -163,7 +163,7 @@ def says_that_it_is_full():
 
 
 class Guest:
-    """One of many, who says this word. Behind CLOSE it ends last, and behind ECHO it resets once it is answered."""
+    """One of many, who says this word. After CLOSE it ends last, and after ECHO it resets once it is answered."""
 
     def __init__(self, place, word):
         self.socket = call(place)
@@ -276,8 +276,8 @@ def at_once(ends_last):
 TESTS = (
     ("says that it is full", says_that_it_is_full, ()),
     ("one waits, and one resets", in_turn, (break_off,)),
-    ("one waits, and one ends behind the service's end", in_turn, (ends_last(END),)),
-    ("one waits, and one ends behind a service that closes", in_turn, (ends_last(CLOSE),)),
+    ("one waits, and one ends after the service's end", in_turn, (ends_last(END),)),
+    ("one waits, and one ends after a service that closes", in_turn, (ends_last(CLOSE),)),
     ("many at once, who end last", burst, (CLOSE,)),
     ("many at once, who reset", burst, (ECHO,)),
     ("many at once, of both kinds", burst, (CLOSE, ECHO)),

@@ -1,5 +1,5 @@
 """Plays the peers of `ymx remote --keep` and `ymx remote --peers`, one after another and many at once, and those of `ymx
-local --keep`, one after another, and looks whether each session serves as the first did: also behind a peer that was
+local --keep`, one after another, and looks whether each session serves as the first did: also after a peer that was
 killed, while none is there, where many have come and gone, and where the system refuses a thread or a descriptor.
 
 It says which tests failed, and nothing where none did. No test follows one that hangs.
@@ -32,7 +32,7 @@ ENDING = 60
 BYTES = random.Random(7).randbytes(300_000)
 COME = "ymx: the peer has come\n"
 NO_THREAD = "ymx: --peers: no thread\n"
-# A line that says what the system is short of is said once in a second: others are left out, and counted.
+# A line that says what the system is short of is logged once in a second: others are left out, and counted.
 LEFT_OUT = re.compile(r"ymx: (\d+) lines? like those before w(?:as|ere) left out\n")
 WHOLE = f"{len(BYTES)} bytes to the peer (ended), {len(BYTES)} bytes from the peer (ended)"
 LOST = f"{len(BYTES)} bytes to the peer (lost), {len(BYTES)} bytes from the peer (lost)"
@@ -181,7 +181,7 @@ def a_place_for_each():
     says(program, COME, COME)
     further = call(place)
     assert has_ended(further), "there are four"
-    says(program, "ymx: closed a peer too many from {}:{}\n".format(*further.getsockname()))
+    says(program, "ymx: rejected a peer from {}:{}: --peers reached\n".format(*further.getsockname()))
     leave(peers[0])
     says(program, GONE)
     peers[0] = call(place)
@@ -244,7 +244,7 @@ def where_a_called_one_is():
 
 @preloads
 def streams_without_memory():
-    """Each is rejected while the session goes on. That is told as it comes, and each is counted."""
+    """Each is rejected while the session goes on. That is logged as it comes, and each is counted."""
     _, address = listen()
     page, window = free_place(), str(1 << 20)
     words = ["--bind", ANY, "--target", address, "--window", window, "--status", page]
@@ -287,7 +287,7 @@ def peers_without_keep():
 
 
 def a_fault_among_peers():
-    """It is told at once, and the others are served. Who breaks a rule at first isn't told to have come."""
+    """It is logged at once, and the others are served. Who breaks a rule at first isn't told to have come."""
     program = Program("remote", "-v", "--peers", "2", "--bind", ANY, "--target", NOBODY)
     place = program.place()
     peers = [call(place), call(place)]
@@ -312,7 +312,7 @@ def no_thread(number, *words):
 
 
 def no_descriptor_for_a_peer():
-    """It waits, which is told, and is served once another has gone."""
+    """It waits, which is logged, and is served once another has gone."""
     if not raw.COUNTS:
         # of the descriptors some are qemu's now and then
         return
@@ -328,7 +328,7 @@ def no_descriptor_for_a_peer():
         said.append(program.line())
     leave(peer)
     assert is_served(following)
-    # it is told once more where only one of the two descriptors is free yet
+    # it is logged once more where only one of the two descriptors is free yet
     while said.count(COME) < 2:
         said.append(program.line())
     assert [line for line in said if line != lack and not LEFT_OUT.fullmatch(line)] == [COME, GONE, COME], said
@@ -358,7 +358,7 @@ def a_peer_that_never_closes():
 
 
 def a_peer_that_breaks_the_rules():
-    """The fault is told, and the next peer is served."""
+    """The fault is logged, and the next peer is served."""
     program, place, _ = remote_kept()
     peer = call(place)
     show(peer)
@@ -392,7 +392,7 @@ def used(program):
 
 
 def many_peers():
-    """What one leaves behind is let go of."""
+    """What one leaves behind is dropped."""
     program, place, target = remote_kept("--peers", "1")  # so that one thread serves all
     for number in range(1, SESSIONS + 1):
         peer = Peer(call(place))
@@ -460,7 +460,7 @@ def the_last_of_a_count():
 
 
 def no_descriptor_left():
-    """At the limit, which is told, no more connections are accepted until one has ended. Nothing ends by that."""
+    """At the limit, which is logged, no more connections are accepted until one has ended. Nothing ends by that."""
     # Open are standard input, output and error, the session's connection, where it listens, the set of what it waits for,
     # and two connections.
     program, place, user, peer, _ = local_kept("--count", "4", files=8)
@@ -483,7 +483,7 @@ def no_descriptor_left():
 
 
 def no_descriptor_left_again_and_again():
-    """Where users come as others end it is said once in a second, and likewise how often it was left out; and that at the end."""
+    """Where users come as others end it is logged once in a second, and likewise how often it was left out; and that at the end."""
     count = 24
     program, place, user, peer, _ = local_kept("--count", str(count), files=8)
     began = time.monotonic()

@@ -29,7 +29,7 @@ LASTING, EARLY = 0.25, 0.01
 # What goes through both ends: so many connections, so many at once, over so many links.
 CONNECTIONS, AT_ONCE, LINKS = 1_000, 20, 4
 FIRST = frame(WINDOW, SYN, 1, 0)
-SILENT = "ymx: the peer has gone without a sign of life\n"
+SILENT = "ymx: the peer has gone before its first frame\n"
 
 
 def local_links(count, *words, listen_at=ANY):
@@ -44,7 +44,7 @@ def local_links(count, *words, listen_at=ANY):
 
 
 def sound(link):
-    """Gives the link's first sign of life, for which it asks, and before which it gets no user. Behind two questions of the
+    """Gives the link's first sign of life, for which it asks, and before which it gets no user. After two questions of the
     peer's own it has heard that."""
     link.turn()
     for number in 1, 2:
@@ -142,7 +142,7 @@ def a_lost_link():
 
 
 def a_broken_link():
-    """A fault of one is said at once, and the others serve."""
+    """A fault of one is logged at once, and the others serve."""
     program, place, links, _ = local_links(2)
     links[0].connection.sendall(BAD)
     take(links[0].connection, 12)
@@ -223,7 +223,7 @@ def no_links_at_first():
 
 
 def links_are_called_again():
-    """With `--keep` all are called at the first connection, and one that is lost again at the next. Faults are told as they
+    """With `--keep` all are called at the first connection, and one that is lost again at the next. Faults are logged as they
     come."""
     program, place, listener = local_kept(2)
     first = call(place)
@@ -289,7 +289,7 @@ def echo_one(other):
 
 
 def ask(place, seed, bad):
-    """Bytes of a connection come back, and the end behind them."""
+    """Bytes of a connection come back, and the end after them."""
     sent = BYTES[seed * 97 :][: seed * 613 % 40_000]
     with call(place) as user:
         threading.Thread(target=lambda: (user.sendall(sent), user.shutdown(socket.SHUT_WR)), daemon=True).start()
@@ -301,7 +301,7 @@ def ask(place, seed, bad):
 
 
 def many_through(*words):
-    """Connections through both ends keep their content. Behind them are as many threads and descriptors as before."""
+    """Connections through both ends keep their content. After them are as many threads and descriptors as before."""
     target, address = listen()
     threading.Thread(target=echo, args=(target,), daemon=True).start()
     far = Program("remote", "-v", "--keep", "--peers", str(LINKS), "--bind", ANY, "--target", address)
@@ -316,6 +316,10 @@ def many_through(*words):
         assert take(user, 1) == b"!"
     for user in ready:
         leave(user)
+    # A link that isn't there yet would have its descriptors later.
+    come = 0
+    while come < LINKS:
+        come += far.line() == COME
     for program in near, far:
         threading.Thread(target=program.process.stderr.read, daemon=True).start()
     # One for each link, of which the first has the first; and one for each peer, beside the first, which lets them in.
@@ -351,7 +355,7 @@ TESTS = (
     ("a link that is lost", a_lost_link, ()),
     ("a link that breaks", a_broken_link, ()),
     ("links that are lost before the count", lost_before_the_count, ()),
-    ("links that are lost behind the last", lost_behind_the_last, ()),
+    ("links that are lost after the last", lost_behind_the_last, ()),
     ("which link, and how long", which_link_and_how_long, ()),
     ("no links at first", no_links_at_first, ()),
     ("links that are called again", links_are_called_again, ()),

@@ -81,7 +81,7 @@ def read_by(name, text):
     """This program reads it."""
     path = shutil.which(name, path=os.environ.get("PATH", "") + ":/usr/sbin:/usr/local/sbin")
     if path is None:
-        print(f"--    PROXY protocol and {name}: left out: {name} doesn't stand here", flush=True)
+        print(f"--    PROXY protocol and {name}: left out: no {name} (apt-get install {name})", flush=True)
         return
     place = free_places(1)[0]
     with tempfile.TemporaryDirectory() as folder:

@@ -16,12 +16,13 @@ import socket
 import struct
 import subprocess
 import sys
+import time
 
 sys.path.append(os.path.join(os.path.dirname(__file__), ".."))
 from ports import free_ports
 
 # How long a test may take, in seconds: also on a loaded machine.
-SECONDS = 300
+SECONDS = int(os.environ.get("YMX_SECONDS", "300"))
 DATA, WINDOW, PING, AWAY = 0, 1, 2, 3
 SYN, ACK, FIN, RST = 1, 2, 4, 8
 HEADER = struct.Struct(">BBHII")
@@ -39,7 +40,7 @@ FULL = f"ymx: --listen {ANY}: no descriptor left\n"
 FIRST_WINDOW = 262_144
 
 
-# ---- what is said
+# ---- what is logged
 
 
 def refused(place):
@@ -125,6 +126,36 @@ def next_frame(connection):
     return kind, flags, stream
 
 
+def until(holds, seconds=60):
+    """Waits until this holds, for so long at most."""
+    late = time.monotonic() + seconds
+    while not holds():
+        assert time.monotonic() < late, f"it doesn't hold after {seconds} seconds"
+        time.sleep(0.01)
+
+
+def is_at_rest(*programs):
+    """Whether all their threads wait, and went on waiting for half a second: so nothing is left of what came before."""
+    before = [woken(program) for program in programs]
+    time.sleep(0.5)
+    return None not in before and before == [woken(program) for program in programs]
+
+
+def woken(program):
+    """How often its threads gave up the processor to wait. None where one doesn't wait now."""
+    folder, counts = f"/proc/{program.process.pid}/task", {}
+    for task in os.listdir(folder):
+        try:
+            with open(f"{folder}/{task}/status", encoding="utf-8") as status:
+                lines = dict(line.split(":", 1) for line in status)
+        except FileNotFoundError:
+            return None
+        if lines["State"].split()[0] != "S":
+            return None
+        counts[task] = int(lines["voluntary_ctxt_switches"])
+    return counts
+
+
 def leave(connection):
     """Ends this side of a connection, and reads up to the end of the other."""
     connection.shutdown(socket.SHUT_WR)
@@ -149,7 +180,7 @@ def without_origins(said):
     assert count == len(re.findall("^ymx: connection ", said, re.MULTILINE)), f"somebody of no address: {said!r}"
     plain, count = re.subn(r"^(ymx: connection \d+: .* from the peer \(.*\)), \d+\.\d{3} s$", r"\1", plain, flags=re.MULTILINE)
     assert count == len(re.findall(" from the peer ", said)), f"of no duration: {said!r}"
-    plain, count = re.subn(r"^(ymx: the peer has (?:come|gone|gone without a sign of life)) from 127\.0\.0\.\d+:\d+$", r"\1", plain, flags=re.MULTILINE)
+    plain, count = re.subn(r"^(ymx: the peer has (?:come|gone|gone before its first frame)) from 127\.0\.0\.\d+:\d+$", r"\1", plain, flags=re.MULTILINE)
     assert count == len(re.findall("^ymx: the peer has ", said, re.MULTILINE)), f"a peer of no address: {said!r}"
     return plain
 
@@ -204,7 +235,7 @@ def preloads(test):
 
 
 def preloaded(*words, variables=None):
-    """The build of `ymx` into which a library is loaded, both of which the command line names behind `ymx`."""
+    """The build of `ymx` into which a library is loaded, both of which the command line names after `ymx`."""
     return Program(*words, build=sys.argv[2], variables={"LD_PRELOAD": sys.argv[3], **(variables or {})})
 
 
@@ -401,7 +432,7 @@ def an_accept_fails():
 
 
 def no_set_to_wait_for():
-    """Without a descriptor for it nothing is done, and nothing is said of listening."""
+    """Without a descriptor for it nothing is done, and nothing is logged of listening."""
     program, peer = local(files=5)
     assert has_ended(peer)
     peer.close()
@@ -409,7 +440,7 @@ def no_set_to_wait_for():
 
 
 def a_failed_accept_and_a_broken_session():
-    """Of both the failed accept is told."""
+    """Both log the failed accept."""
     program, peer = local(files=7)
     user = call(program.place())
     assert take(peer, 12) == frame(WINDOW, SYN, 1, 0)

@@ -7,7 +7,14 @@ here=$(cd "$(dirname "$0")" && pwd)
 . "$here/../over.sh"
 find_program
 find_dynamic
-no_dynamic='the program is static, and no kit is here to link another'
+# lacks WHAT: what needs the program linked with this machine's C library; under qemu there is none
+lacks() {
+    if [ "${YMX_UNDER_QEMU-}" = yes ]; then
+        impossible "$1" 'under qemu the program is static'
+    else
+        left_out "$1" 'the program is static, and no kit is here to link another'
+    fi
+}
 # where there is a /dev/null, which a root of its own lacks
 outside=$ymx
 alone
@@ -55,7 +62,7 @@ printf 'connection %s bytes echoed\n' '1: 0' '2: 1' '3: 300000' > echoed
 expect 0 echoed nothing nothing selftest
 "${CC-cc}" -O2 -shared -fPIC -o held.so "$here/held_connect.c" -ldl
 if [ -z "$dynamic" ]; then
-    left_out "whether selftest prints its lines as they come" "$no_dynamic"
+    lacks "whether selftest prints its lines as they come"
 elif timeout 300 "$here/as_they_come.py" "$dynamic" "$scratch/held.so" > log 2>&1; then
     good
 else
@@ -126,7 +133,7 @@ gone='ymx: the peer has gone'
 holds 'what local -v says' cmp -s "$(told local_err)" "$(says "ymx: listening at 127.0.0.1:$port" "$end")"
 holds 'what remote -v says' cmp -s "$(told remote_err)" "$(says "ymx: listening at 127.0.0.1:$peer" "$end" "$gone")"
 
-# without -v nothing is said
+# without -v nothing is logged
 rm -f echo_port remote_err local_err
 python3 "$here/ends.py" echo > echo_port &
 target=127.0.0.1:$(port_of echo_port)
@@ -167,7 +174,7 @@ holds() {
 holds 'both ends, frame by frame' python3 "$here/raw.py" "$ymx"
 holds 'connections beside others' python3 -B "$here/beside.py" "$ymx"
 "${CC-cc}" -O2 -shared -fPIC -o refusing.so "$here/../no_memory/failing_malloc.c" -ldl
-[ -n "$dynamic" ] || left_out 'threads that are refused' "$no_dynamic"
+[ -n "$dynamic" ] || lacks 'threads that are refused'
 # shellcheck disable=SC2086
 holds 'one session after another' python3 -B "$here/kept.py" "$ymx" ${dynamic:+"$dynamic" "$scratch/refusing.so"}
 holds 'many links to one peer' python3 -B "$here/links.py" "$ymx"
@@ -187,6 +194,12 @@ holds 'a thousand users at once' python3 -B "$here/bursts.py" "$ymx" 1000
 holds 'users beyond a full link' python3 -B "$here/full.py" "$ymx"
 holds 'connections on which no byte moves' python3 -B "$here/still.py" "$ymx"
 holds 'a line that says who a user is' python3 -B "$here/proxy.py" "$ymx"
+holds 'sessions that are lost, and drains' python3 -B "$here/lost.py" "$ymx"
+holds 'an end that has nothing to do' python3 -B "$here/asleep.py" "$ymx"
+holds 'how long a user waits at most' python3 -B "$here/bounds.py" "$ymx"
+holds 'what hundreds of peers leave' python3 -B "$here/residue.py" "$ymx"
+holds 'each row of the tables' python3 -B "$here/tables.py" "$ymx"
+holds 'what a lot of bytes costs' python3 -B "$here/cost.py" "$ymx"
 
 expect 0 "$here/help" nothing hello --help
 expect 0 "$here/help" nothing hello help
@@ -226,22 +239,26 @@ says_next() {
     fi
 }
 
-refuses 'error: '
-refuses 'error: ' frame
-refuses 'error: ' local
-refuses 'error: ' remote --bind 127.0.0.1:0
-refuses 'error: ' remote --peer 127.0.0.1:1
-refuses 'error: ' remote --call 127.0.0.1:1
+required='error: the following required arguments were not provided:'
+refuses "error: 'ymx' requires a subcommand but one was not provided"
+refuses "error: unrecognized subcommand 'frame'" frame
+refuses "$required" local
+says_next '  --listen <ADDRESS>'
+refuses "$required" remote --bind 127.0.0.1:0
+says_next '  --target <ADDRESS>'
+for connects in --peer --call; do
+    refuses "$required" remote $connects 127.0.0.1:1
+    says_next '  --target <ADDRESS>'
+done
 # an option that the other end alone has
 refuses 'ymx: --peers is an option of `ymx remote`$' local --listen 127.0.0.1:0 --peer 127.0.0.1:1 --peers 2
 refuses 'ymx: --links is an option of `ymx local`$' remote --bind 127.0.0.1:0 --links=2 --target 127.0.0.1:1
-refuses 'error: ' local --listen 127.0.0.1:0 --peer 127.0.0.1:1 --limit 262144
+refuses "error: unexpected argument '--limit' found" local --listen 127.0.0.1:0 --peer 127.0.0.1:1 --limit 262144
 # just one way to meet the peer
-neither='error: the following required arguments were not provided:'
-refuses "$neither" local --listen 127.0.0.1:0
+refuses "$required" local --listen 127.0.0.1:0
 says_next '  <--peer <ADDRESS>|--bind <ADDRESS>>'
 if grep -q '^Usage: ymx local \[OPTIONS\] --listen <ADDRESS>' err; then good; else bad 'the usage of local, where its options have a mistake' err; fi
-refuses "$neither" remote --target 127.0.0.1:1
+refuses "$required" remote --target 127.0.0.1:1
 says_next '  <--peer <ADDRESS>|--bind <ADDRESS>>'
 both="error: the argument '--peer <ADDRESS>' cannot be used with '--bind <ADDRESS>'"
 # `--await` and `--call` are older names of `--bind` and `--peer`
@@ -251,51 +268,57 @@ done
 for connects in --peer --call; do
     refuses "$both" remote --target 127.0.0.1:1 --bind 127.0.0.1:0 $connects 127.0.0.1:1
 done
-refuses 'error: ' local --listen 127.0.0.1:0 --bind 127.0.0.1:0 --await 127.0.0.1:0
-refuses 'error: ' remote --target 127.0.0.1:1 --peer 127.0.0.1:1 --call 127.0.0.1:1
+refuses "error: the argument '--bind <ADDRESS>' cannot be used multiple times" local --listen 127.0.0.1:0 --bind 127.0.0.1:0 --await 127.0.0.1:0
+refuses "error: the argument '--peer <ADDRESS>' cannot be used multiple times" remote --target 127.0.0.1:1 --peer 127.0.0.1:1 --call 127.0.0.1:1
 refuses "error: the argument '--links <N>' cannot be used with '--bind <ADDRESS>'" local --listen 127.0.0.1:0 --bind 127.0.0.1:0 --links 2
 refuses "error: the argument '--peers <N>' cannot be used with '--peer <ADDRESS>'" remote --target 127.0.0.1:1 --peer 127.0.0.1:1 --peers 2
+# out_of_range 'OPTION <VALUE>' 'FROM to TO' TEXT WORDS..: the option doesn't take this text for a number
+out_of_range() {
+    option=${1%% *} argument=$1 range=$2 text=$3
+    shift 3
+    refuses "error: invalid value '$text' for '--$argument': a number is decimal digits alone, from $range" "$@" "--$option=$text"
+}
+
 # a number is decimal digits alone: no sign, no blank, no empty text
 for limit in 262143 16777217 x -1 +262144 -262144 ' 262144' '262144 ' 262_144 0x40000 ''; do
-    refuses 'error: ' frames "--limit=$limit"
-    refuses 'error: ' local --listen 127.0.0.1:0 --peer 127.0.0.1:1 "--window=$limit"
-    refuses 'error: ' remote --bind 127.0.0.1:0 --target 127.0.0.1:1 "--window=$limit"
+    out_of_range 'limit <BYTES>' '262144 to 16777216' "$limit" frames
+    out_of_range 'window <BYTES>' '262144 to 16777216' "$limit" local --listen 127.0.0.1:0 --peer 127.0.0.1:1
+    out_of_range 'window <BYTES>' '262144 to 16777216' "$limit" remote --bind 127.0.0.1:0 --target 127.0.0.1:1
 done
 for count in 4294967296 x -1 +5 -0 +0 ' 5' '5 ' + ''; do
-    refuses 'error: ' local --listen 127.0.0.1:0 --peer 127.0.0.1:1 "--count=$count"
+    out_of_range 'count <N>' '0 to 4294967295' "$count" local --listen 127.0.0.1:0 --peer 127.0.0.1:1
 done
 for workers in 0 1025 x +16 -16 ' 16' ''; do
-    refuses 'error: ' remote --bind 127.0.0.1:0 --target 127.0.0.1:1 "--workers=$workers"
+    out_of_range 'workers <N>' '1 to 1024' "$workers" remote --bind 127.0.0.1:0 --target 127.0.0.1:1
 done
 for seconds in 0 3601 x +5 -5 ' 5' ''; do
-    refuses 'error: ' local --listen 127.0.0.1:0 --peer 127.0.0.1:1 "--ping=$seconds"
-    refuses 'error: ' remote --bind 127.0.0.1:0 --target 127.0.0.1:1 "--ping=$seconds"
+    out_of_range 'ping <SECONDS>' '1 to 3600' "$seconds" local --listen 127.0.0.1:0 --peer 127.0.0.1:1
+    out_of_range 'ping <SECONDS>' '1 to 3600' "$seconds" remote --bind 127.0.0.1:0 --target 127.0.0.1:1
 done
 for seconds in 3601 x +5 -5 -0 ' 5' 5s ''; do
-    refuses 'error: ' local --listen 127.0.0.1:0 --peer 127.0.0.1:1 "--keepalive=$seconds"
-    refuses 'error: ' remote --bind 127.0.0.1:0 --target 127.0.0.1:1 "--keepalive=$seconds"
+    out_of_range 'keepalive <SECONDS>' '0 to 3600' "$seconds" local --listen 127.0.0.1:0 --peer 127.0.0.1:1
+    out_of_range 'keepalive <SECONDS>' '0 to 3600' "$seconds" remote --bind 127.0.0.1:0 --target 127.0.0.1:1
 done
 for seconds in 0 86401 x -5 5s ''; do
-    refuses 'error: ' local --listen 127.0.0.1:0 --peer 127.0.0.1:1 "--idle=$seconds"
-    refuses 'error: ' remote --bind 127.0.0.1:0 --target 127.0.0.1:1 "--idle=$seconds"
+    out_of_range 'idle <SECONDS>' '1 to 86400' "$seconds" local --listen 127.0.0.1:0 --peer 127.0.0.1:1
+    out_of_range 'idle <SECONDS>' '1 to 86400' "$seconds" remote --bind 127.0.0.1:0 --target 127.0.0.1:1
 done
 for seconds in 0 3601 x +5 -5 ' 5' 5s ''; do
-    refuses 'error: ' local --listen 127.0.0.1:0 --peer 127.0.0.1:1 "--timeout=$seconds"
-    refuses 'error: ' remote --peer 127.0.0.1:1 --target 127.0.0.1:1 "--timeout=$seconds"
+    out_of_range 'timeout <SECONDS>' '1 to 3600' "$seconds" local --listen 127.0.0.1:0 --peer 127.0.0.1:1
+    out_of_range 'timeout <SECONDS>' '1 to 3600' "$seconds" remote --peer 127.0.0.1:1 --target 127.0.0.1:1
 done
 uncalled="error: the argument '--timeout <SECONDS>' cannot be used with '--bind <ADDRESS>'"
 refuses "$uncalled" local --listen 127.0.0.1:0 --bind 127.0.0.1:0 --timeout 5
 refuses "$uncalled" remote --target 127.0.0.1:1 --bind 127.0.0.1:0 --timeout 5
 for peers in 0 257 x +5 -5 ' 5' ''; do
-    refuses 'error: ' remote --bind 127.0.0.1:0 --target 127.0.0.1:1 "--peers=$peers"
+    out_of_range 'peers <N>' '1 to 256' "$peers" remote --bind 127.0.0.1:0 --target 127.0.0.1:1
 done
 refuses "error: invalid value '+5' for '--count <N>': a number is decimal digits alone, from 0 to 4294967295" local --listen 127.0.0.1:0 --peer 127.0.0.1:1 --count +5
 refuses "error: invalid value '+300000' for '--limit <BYTES>': a number is decimal digits alone, from 262144 to 16777216" frames --limit +300000
 refuses "error: invalid value '1M' for '--window <BYTES>': a number is decimal digits alone, from 262144 to 16777216" local --listen 127.0.0.1:0 --peer 127.0.0.1:1 --window 1M
 refuses "error: invalid value '5s' for '--ping <SECONDS>': a number is decimal digits alone, from 1 to 3600" remote --bind 127.0.0.1:0 --target 127.0.0.1:1 --ping 5s
-for limit in 262143 -1; do
-    refuses 'error: ' frames --limit $limit
-done
+refuses "error: invalid value '262143' for '--limit <BYTES>': a number is decimal digits alone, from 262144 to 16777216" frames --limit 262143
+refuses "error: unexpected argument '-1' found" frames --limit -1
 # networks, and the address of the status
 for network in 192.0.2.0/33 192.0.2.0/ /24 192.0.2 192.0.2.0/+4 ::1 localhost ''; do
     refuses "error: invalid value '$network' for '--from <NETWORK>': it wants an IPv4 address, or one with '/' and a number from 0 to 32, as 192.0.2.0/24" \

@@ -32,7 +32,7 @@ KINDS = {"counter", "gauge"}
 
 
 def ask(place, request):
-    """The status, the fields and the body of the answer to this request, behind which the connection ends."""
+    """The status, the fields and the body of the answer to this request, after which the connection ends."""
     connection = call(place)
     connection.sendall(request)
     said = b""
@@ -58,7 +58,7 @@ def get(place, path):
 
 
 def head(place, path):
-    """The status and the length of the body that HEAD says, behind which nothing comes."""
+    """The status and the length of the body that HEAD says, after which nothing comes."""
     connection = call(place)
     connection.sendall(request("HEAD", path))
     said = b""
@@ -71,7 +71,7 @@ def head(place, path):
 
 
 def parse(page):
-    """The samples of a page in Prometheus's text format, each of which stands behind the help and the type of its family."""
+    """The samples of a page in Prometheus's text format, each of which stands after the help and the type of its family."""
     samples, helped, typed = {}, set(), {}
     for line in page.removesuffix("\n").split("\n"):
         if line.startswith("# HELP "):
@@ -210,13 +210,13 @@ def counts_the_refused():
 
 
 def counts_who_waits():
-    """A stream for which no place is free is told and counted, until one is."""
+    """A stream for which no place is free is logged and counted, until one is."""
     tunnel = Tunnel(remote=("--workers", "1", "-v"))
     first = tunnel.join()
     await_counts(tunnel.far, connections_open=1, users_waiting=0)
     second = call(tunnel.users)
     await_counts(tunnel.far, users_waiting=1)
-    for line in iter(tunnel.remote.line, "ymx: all 1 places are taken: users wait\n"):
+    for line in iter(tunnel.remote.line, "ymx: all 1 stream slots are used: users wait\n"):
         assert line.startswith("ymx: listening at "), line
     for connection in first:
         connection.close()
@@ -227,7 +227,7 @@ def counts_who_waits():
 
 
 def counts_targets():
-    """A target that can't be reached is told, without -v too, and counted by the reason."""
+    """A target that can't be reached is logged, without -v too, and counted by the reason."""
     bound, near, far, nobody = free_places(4)
     remote = Program("remote", "--bind", bound, "--target", nobody, "--status", far)
     wait_for(far)
@@ -239,7 +239,7 @@ def counts_targets():
     while counts(far)["ymx_targets_unreached_total", "refused"] < 3:
         time.sleep(0.01)
     assert counts(far)["ymx_system_refusals_total"] == 0
-    # of three within a second one is said, and the number of the others
+    # of three within a second one is logged, and the number of the others
     local.process.kill()
     status, said = remote.end()
     others = f"(ymx: --target {nobody}: refused\n|ymx: . lines? like those before w[a-z]* left out\n)*"
@@ -248,7 +248,7 @@ def counts_targets():
 
 
 def says_what_is_lost():
-    """Where the session is lost, and none follows, that is said, and no less where the peer can't be reached."""
+    """Where the session is lost, and none follows, that is logged, and no less where the peer can't be reached."""
     tunnel = Tunnel()
     tunnel.remote.process.kill()
     while get(tunnel.near, "/health")[::2] != (503, "lost\n"):
@@ -513,7 +513,7 @@ def remote_drains_where_it_calls():
 
 
 def says_go_away(*words):
-    """A peer hears Go Away, behind which its stream goes on, and no other begins. Who calls then isn't let in."""
+    """A peer hears Go Away, after which its stream goes on, and no other begins. Who calls then isn't let in."""
     target, address = listen()
     page, bound = free_places(2)
     program = Program("remote", "--bind", bound, "--target", address, "--status", page, *words)
@@ -552,14 +552,15 @@ def remote_restarts(words=()):
     wait_for(near)
     began = [begin(place, target) for _ in range(100)]
     drain(page)
-    # `local` hears of it, which nothing shows from outside.
-    time.sleep(3)
+    # `local` has heard of it once nothing is under way any more.
+    raw.until(lambda: raw.is_at_rest(local))
     waiting = [call_when_there(place) for _ in range(100)]
     for user in waiting:
         user.sendall(bytes(1_000))
     finish_all(began)
     assert first.end() == (0, "")
-    time.sleep(1.5)
+    # It calls in vain before its peer is there again.
+    raw.until(lambda: get(near, "/health")[::2] == (503, "unreachable\n"))
     second = Program(*far, second_page)
     later = []
     for _ in waiting:
@@ -605,7 +606,8 @@ def users_wait_behind_go_away():
         pass
     second = call(users)
     second.sendall(b"two")
-    time.sleep(0.5)
+    raw.until(lambda: raw.is_at_rest(program))
+    assert is_open(second), "he is closed"
     first.close()
     peer.sendall(frame(DATA, 4, 1, 0))
     while peer.recv(65_536):
@@ -652,7 +654,7 @@ TESTS = (
     ("says go away with --keep", says_go_away, ("--keep",)),
     ("a restart of remote", remote_restarts, ()),
     ("a restart of remote with --links", remote_restarts, (("--links", "3"),)),
-    ("users wait behind go away", users_wait_behind_go_away, ()),
+    ("users wait after go away", users_wait_behind_go_away, ()),
 )
 
 

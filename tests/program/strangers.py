@@ -47,27 +47,27 @@ def is_closed(connection):
         return True
 
 
-def closed(connection, who="stranger"):
-    return "ymx: closed a {} from {}:{}\n".format(who, *connection.getsockname())
+def rejected(connection, why="--from denies it"):
+    return "ymx: rejected a peer from {}:{}: {}\n".format(*connection.getsockname(), why)
 
 
 def only_from_there(networks, *words):
-    """Who calls from elsewhere is closed, with -v is told, and the next one is served."""
+    """Who calls from elsewhere is closed, with -v is logged, and the next one is served."""
     target, address = listen()
     options = [word for network in networks for word in ("--from", network)]
     program = Program("remote", "-v", "--bind", ANY, "--target", address, *options, *words)
     place = program.place()
     stranger = call_from(STRANGER, place)
-    assert is_closed(stranger), "a stranger is let in"
-    says(program, closed(stranger))
-    # Another one is closed, and within a second isn't told.
+    assert is_closed(stranger), "a stranger is admitted"
+    says(program, rejected(stranger))
+    # Another one is closed, and within a second left out of the log, and counted.
     other = call_from(STRANGER, place)
-    assert is_closed(other), "a stranger is let in"
+    assert is_closed(other), "a stranger is admitted"
     peer = call_from(FRIEND, place)
     assert is_served(peer)
     if words:
         line = program.line()
-        if line == closed(other):
+        if line == rejected(other) or LEFT_OUT.fullmatch(line):
             line = program.line()
         assert line == COME, line
     peer.sendall(frame(WINDOW, SYN, 1, 0))
@@ -80,8 +80,8 @@ def of_local(*words):
     program = Program("local", "-v", "--bind", ANY, "--listen", ANY, "--from", FRIEND, *words)
     bound, place = program.place(), program.place()
     stranger = call_from(STRANGER, bound)
-    assert is_closed(stranger), "a stranger is let in"
-    says(program, closed(stranger))
+    assert is_closed(stranger), "a stranger is admitted"
+    says(program, rejected(stranger))
     peer = call_from(FRIEND, bound)
     if words:
         # With --keep it is asked for a sign of life.
@@ -101,7 +101,7 @@ def silent_ones():
     silent = [call(place) for _ in range(PLACES)]
     further = call(place)
     assert is_closed(further), "it is let in"
-    says(program, closed(further, "peer too many"), *[GONE] * PLACES)
+    says(program, rejected(further, "--peers reached"), *[GONE] * PLACES)
     for connection in silent:
         assert take(connection, 13) == frame(PING, SYN, 0, 0), "it was handed more"
     peer = call(place)
@@ -122,7 +122,7 @@ def call_again_and_again(place, is_over):
 
 
 def see_the_peer_come(near):
-    """Behind some silent ones that have gone it is told that the peer has come."""
+    """After some silent ones that have gone it is logged that the peer has come."""
     turns = 1
     while (said := near.line()) != COME:
         turns += 1
@@ -149,7 +149,7 @@ def a_silent_one_that_calls_again():
 
 
 def garbage():
-    """Of many calls with garbage a line of each kind is said in a second. The others are counted, the last ones at the end."""
+    """Of many calls with garbage a line of each kind is logged in a second. The others are counted, the last ones at the end."""
     place, page = free_places(2)
     program = Program("remote", "--keep", "--bind", place, "--target", NOBODY, "--status", page)
     await_listener(page)

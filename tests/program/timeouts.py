@@ -16,9 +16,9 @@ from kept import COME, connection, says
 from raw import ANY, NOBODY, Program, accept, break_off, call, is_cut, is_cut_at, listen
 
 # How much less may have gone by, as the clocks of two processes count it, and how much more: also on a loaded machine, but
-# less than a call takes where nothing is said.
+# less than connecting takes where no limit is given.
 EARLY, LATE = 0.1, 8
-# How long a call may take where nothing is said, in seconds.
+# How long connecting may take where no limit is given, in seconds.
 DEFAULT = 10
 # How long it is waited for an answer to one call of this test.
 ANSWER = 0.5
@@ -75,7 +75,7 @@ def kept(silent, *words):
 
 
 def a_user(limit, *words):
-    """He is closed behind the limit of the call, and so is the next, who has a call of his own."""
+    """He is closed after the limit of the call, and so is the next, who has a call of his own."""
     silent = Silent()
     program, place = kept(silent, *words)
     for number in 1, 2:

@@ -129,7 +129,7 @@ def a_full_pipe():
 
 
 def stranger(place, number):
-    """One who doesn't speak yamux, from an address of its own: what is said of another isn't said of him."""
+    """One who doesn't speak yamux, from an address of its own: what is logged of another isn't logged of him."""
     host, port = place.rsplit(":", 1)
     connection = socket.create_connection((host, int(port)), source_address=(f"127.1.{number // 250}.{number % 250 + 1}", 0))
     connection.sendall(BAD)
@@ -138,7 +138,7 @@ def stranger(place, number):
 
 
 def strangers():
-    """Their faults are said without `-v` too. Beside them a peer is served, and each line is said or counted."""
+    """Their faults are logged without `-v` too. Beside them a peer is served, and each line is logged or counted."""
     target, address = listen()
     place = free_place()
     program = Unread("remote", "--keep", "--bind", place, "--target", address, full=False, pages=2)
