@@ -9,16 +9,16 @@ here=$(cd "$(dirname "$0")" && pwd)
 PREFIX=$scratch/built "$root/c/build.sh" "$scratch/built" > "$scratch/log" 2>&1 || fail "libymx can't be built" "$scratch/log"
 library=$scratch/built/lib
 export PKG_CONFIG_PATH="$library/pkgconfig" LD_LIBRARY_PATH="$library" YMX_LIBRARY="$library/libymx.so.0" YMX_LIB_DIR="$library"
-export PYTHONPATH="$root/bindings/python/src" PYTHONDONTWRITEBYTECODE=1 CARGO_TARGET_DIR="$scratch/cargo" GOCACHE="$scratch/cache"
+export PYTHONPATH="$root/bindings/python/src" PYTHONDONTWRITEBYTECODE=1 CARGO_TARGET_DIR="$scratch/cargo"
 
 in_python() {
     cd "$root/bindings/python/tests"
-    "$1" -W ignore -m unittest test_scenes test_protocols
+    "$1" -W ignore -m unittest test_scenes test_protocols test_faults test_threads
 }
 
 over_uvloop() {
     cd "$root/bindings/python/tests"
-    YMX_LOOP=uvloop /usr/bin/python3 -W ignore -m unittest test_protocols test_ymx
+    YMX_LOOP=uvloop /usr/bin/python3 -W ignore -m unittest test_protocols test_faults test_ymx
 }
 
 in_rust() {
@@ -31,9 +31,9 @@ in_go() {
     go test -count 1 -run 'Cancelled|Behind|GivenUp|Twice|MadeAlike|Silent' .
 }
 
-if command -v python3 > /dev/null; then at_once Python in_python python3; else left_out Python 'no python3'; fi
-if /usr/bin/python3 -c 'import uvloop' 2> /dev/null; then at_once uvloop over_uvloop; else left_out uvloop 'no uvloop'; fi
-if command -v cargo > /dev/null; then at_once Rust in_rust; else left_out Rust 'no cargo'; fi
-if command -v go > /dev/null; then at_once Go in_go; else left_out Go 'no Go'; fi
+if command -v python3 > /dev/null; then at_once Python in_python python3; else left_out Python 'no python3' python3; fi
+if /usr/bin/python3 -c 'import uvloop' 2> /dev/null; then at_once uvloop over_uvloop; else left_out uvloop 'no uvloop' python3-uvloop; fi
+if command -v cargo > /dev/null; then at_once Rust in_rust; else left_out Rust 'no cargo' cargo; fi
+if command -v go > /dev/null; then at_once Go in_go; else left_out Go 'no Go' golang-go; fi
 awaited
 counted

@@ -217,7 +217,7 @@ def fate(block):
     """Whether it is run, and if not, why."""
     if block.mark == "needs":
         absent = [word for word in block.word.split() if not shutil.which(word)]
-        return f"for want of {absent[0]}" if absent else "run"
+        return f"no {absent[0]} (tools/packages.sh)" if absent else "run"
     return block.mark or "run"
 
 
@@ -231,8 +231,9 @@ def main():
     for block, wrong in zip(wanted, results):
         if wrong:
             print(f"FAIL  {block.name}: {wrong}")
-    left_out = "".join(f", {count} left out {why}" for why, count in fates.items() if why not in ("run", "not run"))
-    print(f"{fates['run']} blocks of commands were run, {fates['not run']} are marked as not run{left_out}")
+    print(f"{fates['run']} blocks of commands were run, {fates['not run']} are marked as not run")
+    for why in fates.keys() - {"run", "not run"}:
+        print(f"--    {fates[why]} blocks of commands: left out: {why}")
     failed = sum(wrong is not None for wrong in results)
     print(f"{len(wanted) - failed} passed, {failed} failed")
     return failed > 0

@@ -1,4 +1,4 @@
-# What the test scripts share. Each sources it, behind a line that says where it stands:
+# What the test scripts share. Each sources it, after a line that says where it stands:
 #
 #     here=$(cd "$(dirname "$0")" && pwd)
 #     . "$here/../over.sh"
@@ -14,6 +14,7 @@ scratch=$(mktemp -d)
 jobs=
 passed=0
 failed=0
+omitted=0
 
 # stop: ends what `jobs` names
 stop() {
@@ -48,9 +49,16 @@ bad() {
     [ $# = 0 ] || cat "$@"
 }
 
-# counted: the last line of a script, and its status: 77 if nothing was tried
+# counted: what its tests have left out, and the last line of a script; and its status: 77 if nothing was tried
 counted() {
-    echo "$passed passed, $failed failed"
+    if [ -s "$scratch/omitted" ]; then
+        cat "$scratch/omitted"
+    fi
+    if [ "$omitted" = 0 ]; then
+        echo "$passed passed, $failed failed"
+    else
+        echo "$passed passed, $failed failed, $omitted left out"
+    fi
     [ "$failed" = 0 ] || return 1
     [ "$passed" != 0 ] || return 77
 }
@@ -68,17 +76,26 @@ tried() {
     echo "$status $(($(date +%s) - began))" > "$kept.ended"
 }
 
-# judged NUMBER: counts such a test; one that could try nothing counts as none
+# judged NUMBER: counts such a test; one that could try nothing counts as none. What it has left out is listed at the end. In the
+# gate, which installs all tools, it fails for that, unless it is the machine that can't.
 judged() {
     kept=$scratch/test.$1
     read -r status seconds < "$kept.ended"
+    if grep '^--  ' "$kept.said" > "$kept.omitted"; then
+        omitted=$((omitted + $(wc -l < "$kept.omitted")))
+        cat "$kept.omitted" >> "$scratch/omitted"
+        if [ "${YMX_FROM_GATE-}" = yes ] && grep -q ': left out: ' "$kept.omitted"; then
+            bad "$(cat "$kept.name"): the gate leaves nothing out" "$kept.omitted"
+            return
+        fi
+    fi
     case $status in
     0)
         good
         spent=$(sed -n 2p "$kept.times" | tr 'ms' '  ' | awk '{ printf "%.0f", 60 * ($1 + $3) + $2 + $4 }')
         echo "ok    $(cat "$kept.name"): $(tail -n 1 "$kept.said") ($seconds seconds, $spent of processor time)"
         ;;
-    77) grep '^--' "$kept.said" ;;
+    77) [ -s "$kept.omitted" ] || bad "$(cat "$kept.name") has tried nothing" "$kept.said" ;;
     *) bad "$(cat "$kept.name")" "$kept.said" ;;
     esac
 }
@@ -160,13 +177,22 @@ alone() {
     if "$scratch/alone/ymx" --version > "$scratch/said" 2>&1; then
         ymx=$scratch/alone/ymx
     else
-        left_out 'a root of its own' "$(head -n 1 "$scratch/said")"
+        impossible 'a root of its own' "$(head -n 1 "$scratch/said")"
     fi
 }
 
-# left_out WHAT WHY: a test that can't be made here
+# left_out WHAT WHY [PACKAGE..]: a test that isn't made here for lack of a tool, which these packages of Debian's bring
 left_out() {
-    echo "--    $1: left out: $2"
+    what=$1 why=$2
+    shift 2
+    omitted=$((omitted + 1))
+    echo "--    $what: left out: $why${1+ (apt-get install $*)}"
+}
+
+# impossible WHAT WHY: a test that this machine's kernel, or what holds it in, doesn't let one make, whatever is installed
+impossible() {
+    omitted=$((omitted + 1))
+    echo "--    $1: can't be tried here: $2"
 }
 
 # below CRATE: what it uses, as crates.txt has it

@@ -1,8 +1,9 @@
 #!/bin/sh
 # Runs software of others over streams of the bindings, each test of it alone, beside TCP and HashiCorp's package: for Go the
 # tests of net/http, http2, crypto/tls, gRPC and ssh, with net.Listen and net.Dial of a copy of Go led over one session
-# (real/hook.go); for Python hypercorn; for Rust rustls and hyper. A suite that Debian's packages don't bring here
-# is left out with a word. Beside the gate: it takes an hour. With names it runs these alone: `tests/real.sh net/http`.
+# (real/hook.go); for Python hypercorn, and aiohttp, uvicorn, hypercorn and websockets over TLS with downloads that are given up; for Rust rustls. A suite that Debian's packages don't bring here
+# is left out with a word. It takes an hour; the gate runs what takes minutes. With names it runs these alone:
+# `tests/real.sh net/http`.
 # Ends with 'N passed, M failed'.
 set -eu
 here=$(cd "$(dirname "$0")" && pwd)
@@ -31,9 +32,18 @@ both_gos() {
         mkdir -p "$go/src/ystream" "$go/src/github.com/hashicorp/yamux"
         cp "$here/real/hook.go" "$go/src/ystream/"
         if [ $one = ours ]; then from=$root/bindings/go; else from=/usr/share/gocode/src/github.com/hashicorp/yamux; fi
-        cp "$from"/*.go "$go/src/github.com/hashicorp/yamux/"
+        find "$from" -maxdepth 1 \( -name '*.go' -o -name '*.s' \) -exec cp -t "$go/src/github.com/hashicorp/yamux" {} +
         rm -f "$go"/src/github.com/hashicorp/yamux/*_test.go
     done
+}
+
+# debian_of FOLDER: the package of Debian's that has it
+debian_of() {
+    case $1 in
+    google.golang.org/*) echo golang-google-grpc-dev ;;
+    */crypto/*) echo golang-golang-x-crypto-dev ;;
+    *) echo golang-golang-x-net-dev ;;
+    esac
 }
 
 # suite NAME FOLDER PACKAGE: the tests of a package of Go's own (below its src), or of Debian's
@@ -45,7 +55,7 @@ suite() {
         go=$scratch/$one
         where=$go/src/$folder
         [ -d "$where" ] || where=$scratch/path/src/$folder
-        [ -d "$where" ] || { left_out "$name" "no /usr/share/gocode/src/$folder"; return 0; }
+        [ -d "$where" ] || { left_out "$name" "no /usr/share/gocode/src/$folder" "$(debian_of "$folder")"; return 0; }
         printf 'package %s\n\nimport _ "ystream"\n' "$package" > "$where/led_test.go"
         (cd "$where" && GOROOT=$go GO111MODULE=off GOPATH=$scratch/path GOCACHE=$scratch/cache GOFLAGS=-vet=off \
             "$go/bin/go" test -c -o "$scratch/$one.test" .) > "$scratch/log" 2>&1 || { bad "$name can't be compiled" "$scratch/log"; return 0; }
@@ -63,7 +73,7 @@ suite() {
 program() {
     name=$1
     shift
-    is_wanted "$name" || return 0
+    is_wanted "${name%% *}" || return 0
     if timeout 900 "$@" > "$scratch/said" 2>&1; then
         good
         echo "ok    $name: $(tail -n 1 "$scratch/said")"
@@ -81,7 +91,7 @@ if has_go; then
     suite ssh golang.org/x/crypto/ssh ssh
     suite gRPC google.golang.org/grpc/test test
 else
-    left_out "Go's suites" "no Go, or not its yamux"
+    left_out "Go's suites" 'no Go, or not its yamux' golang-go golang-github-hashicorp-yamux-dev
 fi
 for python in python3 /usr/bin/python3; do
     if "$python" -c 'import hypercorn' 2> /dev/null && is_wanted hypercorn; then
@@ -89,12 +99,20 @@ for python in python3 /usr/bin/python3; do
         break
     fi
 done
-[ "$python" != /usr/bin/python3 ] || "$python" -c 'import hypercorn' 2> /dev/null || left_out hypercorn 'no python3 has it'
+[ "$python" != /usr/bin/python3 ] || "$python" -c 'import hypercorn' 2> /dev/null || left_out hypercorn 'no python3 has it' python3-hypercorn
+if ! is_wanted led; then
+    :
+elif /usr/bin/python3 -c 'import aiohttp, hypercorn, uvicorn, websockets' 2> /dev/null && command -v openssl > "$scratch/log"; then
+    program 'led over TCP' /usr/bin/python3 -W ignore "$here/real/led.py" tcp
+    program 'led over streams' /usr/bin/python3 -W ignore "$here/real/led.py"
+else
+    left_out 'aiohttp, uvicorn, hypercorn and websockets' 'not all stand here' openssl python3-aiohttp python3-hypercorn python3-uvicorn python3-websockets
+fi
 registry=/usr/share/cargo/registry
 if ! command -v cargo > /dev/null; then
-    left_out 'rustls and hyper' 'no cargo'
+    left_out rustls 'no cargo' cargo
 elif is_wanted rustls && ! { ls -d "$registry"/rustls-0.20.* && command -v openssl; } > /dev/null 2>&1; then
-    left_out rustls "no openssl, or no $registry/rustls-0.20"
+    left_out rustls "no openssl, or no $registry/rustls-0.20" openssl librust-rustls-dev
 elif is_wanted rustls; then
     mkdir -p "$scratch/tls/src" "$scratch/tls/.cargo"
     cp "$here/real/tls.rs" "$scratch/tls/src/main.rs"
@@ -112,8 +130,5 @@ END
     openssl req -x509 -newkey rsa:2048 -nodes -subj /CN=localhost -keyout "$scratch/key" -outform der -out "$scratch/tls/certificate" 2> "$scratch/log"
     openssl pkcs8 -topk8 -nocrypt -in "$scratch/key" -outform der -out "$scratch/tls/key"
     program rustls env -C "$scratch/tls" CARGO_TARGET_DIR="$scratch/tls/target" cargo run -q --offline
-fi
-if command -v cargo > /dev/null; then
-    program 'the binding for Rust, with hyper' "$root/bindings/rust/test.sh"
 fi
 counted

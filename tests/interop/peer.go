@@ -303,7 +303,7 @@ func dial(address string) *net.TCPConn {
 	return c.(*net.TCPConn)
 }
 
-// Copies both ways, and ends each side behind its last byte.
+// Copies both ways, and ends each side after its last byte.
 func join(a, b twoWay) {
 	done := make(chan bool, 2)
 	one := func(to, from twoWay) {

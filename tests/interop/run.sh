@@ -9,7 +9,11 @@ here=$(cd "$(dirname "$0")" && pwd)
 . "$here/../over.sh"
 numbers "$@"
 count=${1-10000}
-has_go || fail "Go or its yamux is not here: apt-get install golang-go golang-github-hashicorp-yamux-dev"
+if ! has_go; then
+    left_out "Go's yamux" 'no Go, or not its yamux' golang-go golang-github-hashicorp-yamux-dev
+    counted
+    exit
+fi
 find_program
 cd "$scratch"
 go_program "$here/peer.go" peer

@@ -2,12 +2,12 @@
 
 The users and the target are coroutines of this process; `ymx local` and `ymx remote` stand between them. Of each
 connection these are random: how many bytes each side sends, in which pieces, and how it ends. The two sides end in
-good order, one behind the other or both at once; or nobody reads for a while; or one side closes early, or resets its
+good order, one after the other or both at once; or nobody reads for a while; or one side closes early, or resets its
 connection. What came is compared with what was sent, byte for byte. Where the connection ended in good order it is the
 whole of it, and else a beginning. Nothing waits for longer than a bound.
 
-It is done in five blocks. After each block both `ymx` must hold the descriptors that they held at first. Behind the
-last block they have no more resident memory than behind the first, up to a bound, where a block has 1,000 connections
+It is done in five blocks. After each block both `ymx` must hold the descriptors that they held at first. After the
+last block they have no more resident memory than after the first, up to a bound, where a block has 1,000 connections
 or more. While a block runs they never hold many more descriptors than there are users.
 
 Before that the test is tried itself: a proxy between the two changes one byte, or drops the last byte of a connection,
@@ -43,8 +43,8 @@ REST = 120
 SHORT = 2
 # How long nobody reads, at most, in seconds.
 LONGEST_PAUSE = 0.2
-# How much more resident memory a side may have behind the last block than behind the first, in KiB. Measured were 2 to 11
-# MiB behind 10,000 connections in four runs, and no more than 12 behind 40,000, of which the last 10,000 added less than
+# How much more resident memory a side may have after the last block than after the first, in KiB. Measured were 2 to 11
+# MiB after 10,000 connections in four runs, and no more than 12 after 40,000, of which the last 10,000 added less than
 # 0.2: what is freed lies in pieces between what is not. 8,000 connections that leave 2 KiB each are 16 MiB; a ring, a
 # buffer or a stack that is left would be 4 KiB at least.
 MOST_GROWTH = 16_384
@@ -148,7 +148,7 @@ class Side:
         loop = asyncio.get_running_loop()
         while got := await loop.sock_recv(self.connection, self.chance.choice((100, 5_000, 65_536))):
             if got != piece(self.plan.number, not self.from_target, self.came, len(got)):
-                raise Fault(f"other bytes came behind {self.came}: {self}")
+                raise Fault(f"other bytes came after {self.came}: {self}")
             self.came += len(got)
         self.has_seen_end = True
 
@@ -358,7 +358,7 @@ def check_growth(first, last):
 
 
 async def run_block(tunnel, load, numbers):
-    """Makes these connections, and answers what both held while they ran, and their memory behind them."""
+    """Makes these connections, and answers what both held while they ran, and their memory after them."""
     watch = Watch(tunnel)
     watching = asyncio.ensure_future(watch.run())
     try:
@@ -407,7 +407,7 @@ class Proxy:
         self.has_spoiled = False
 
     def begin(self, behind):
-        """Listens for `local`, in a thread of its own, and answers where. `remote` listens at the place behind it."""
+        """Listens for `local`, in a thread of its own, and answers where. `remote` listens at the place after it."""
         listener = socket.create_server(("127.0.0.1", 0))
 
         def work():

@@ -161,7 +161,7 @@ func (l *listener) Accept() (net.Conn, error) {
 
 func (l *listener) Addr() net.Addr { return l.below.Addr() }
 
-// Close lets streams that are there go on, as that of a TCP listener does. The sessions end behind the last of them.
+// Close lets streams that are there go on, as that of a TCP listener does. The sessions end after the last of them.
 func (l *listener) Close() error {
 	err := l.fault("close")
 	l.once.Do(func() {

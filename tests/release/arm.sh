@@ -15,7 +15,11 @@ shut() {
     exit
 }
 
-[ "$(uname -m)" = x86_64 ] || shut 'arm64 under qemu' "this machine is $(uname -m)"
+if [ "$(uname -m)" != x86_64 ]; then
+    impossible 'arm64 under qemu' "this machine is $(uname -m)"
+    counted
+    exit
+fi
 [ "$(sed -n 's/^sources: //p' "$root/release/RELEASE")" = "$("$root/release/sources.sh")" ] || shut 'arm64 under qemu' 'the release was made from other sources'
 qemu=$(command -v qemu-aarch64-static || true)
 if [ -z "$qemu" ]; then
@@ -36,7 +40,7 @@ part() {
     "$@" > log 2>&1 || status=$?
     last=$(tail -n 1 log)
     case $last in
-    *' passed, '*' failed')
+    *' passed, '*' failed'*)
         passed=$((passed + ${last%% *}))
         last=${last#* passed, }
         failed=$((failed + ${last%% *}))

@@ -75,7 +75,7 @@ done
 if command -v systemd-analyze > /dev/null && command -v man > /dev/null; then
     if systemd-analyze verify elsewhere/lib/systemd/system/*.service > said 2>&1 && [ ! -s said ]; then good; else bad 'systemd finds fault with the units:' said; fi
 else
-    left_out 'what systemd says of the units' 'no systemd-analyze, or no man'
+    left_out 'what systemd says of the units' 'no systemd-analyze, or no man' systemd man-db
 fi
 "$root/release/install.sh" --uninstall elsewhere > said
 

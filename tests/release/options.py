@@ -107,7 +107,7 @@ def old_words(page):
 
 
 def of_bash(*line):
-    """What bash offers behind these words, of which the last may be a beginning."""
+    """What bash offers after these words, of which the last may be a beginning."""
     script = 'source "$1"; shift; COMP_WORDS=("$@"); COMP_CWORD=$(($# - 1)); _ymx; printf "%s\\n" "${COMPREPLY[@]}"'
     command = ["bash", "-c", script, "bash", os.path.join(SHARE, "ymx.bash"), "ymx", *line]
     return set(subprocess.run(command, capture_output=True, text=True, check=True, timeout=60).stdout.split())
@@ -115,7 +115,7 @@ def of_bash(*line):
 
 def compare_bash(command, options):
     before = [command] if command else []
-    where = f"the completion for bash, behind `{' '.join(['ymx'] + before)}`,"
+    where = f"the completion for bash, after `{' '.join(['ymx'] + before)}`,"
     differ(where, words(options), of_bash(*before, "-"))
     for _, long, value in options if command else ():
         offered = of_bash(command, long, "-")
@@ -189,7 +189,7 @@ def main(place):
     zsh, (fish, everywhere, commands_of_fish) = parts_of_zsh(), parts_of_fish()
     differ("ymx.1", commands, re.findall(r"^\.SS ymx (\w+)$", page, re.M))
     differ("the completion for bash", commands, {word for word in of_bash("") if not word.startswith("-")})
-    differ("the completion for bash, behind `ymx help`,", commands, of_bash("help", ""))
+    differ("the completion for bash, after `ymx help`,", commands, of_bash("help", ""))
     differ("the completion for zsh", commands, re.findall(r"^ +'(\w+):", text("_ymx").split("_ymx_commands() {")[1], re.M))
     differ("the completion for zsh, as cases,", commands, set(zsh) - {None})
     differ("the completion for fish", commands, commands_of_fish)

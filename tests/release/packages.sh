@@ -143,13 +143,13 @@ over_musl() {
 over_musl x86_64 amd64 cc
 if [ -n "$qemu" ]; then over_musl aarch64 arm64 aarch64-linux-gnu-gcc "$qemu"; fi
 if has go; then
-    is 'the Go module, with no library installed' sh -c 'cd bindings/go && PKG_CONFIG=/nowhere timeout 600 go test ./...'
+    is 'the Go module' sh -c 'cd bindings/go && CGO_ENABLED=0 timeout 600 go test ./...'
 else
-    left_out 'the Go module' 'no go'
+    left_out 'the Go module' 'no go' golang-go
 fi
 if has cargo; then
     is 'the Rust crates, with no library installed' sh -c "cd bindings/rust && CARGO_TARGET_DIR='$scratch/cargo' PKG_CONFIG=/nowhere timeout 600 cargo test --offline --features ymx/bundled -p ymx"
 else
-    left_out 'the Rust crates' 'no cargo'
+    left_out 'the Rust crates' 'no cargo' cargo
 fi
 counted

@@ -172,7 +172,7 @@ def main():
     if subprocess.run([*AS_FIRST, "true"], stderr=subprocess.DEVNULL, check=False).returncode == 0:
         tests = TESTS + FIRST
     else:
-        print("--    as process 1: left out: no namespace of processes can be made here")
+        print("--    as process 1: can't be tried here: no namespace of processes can be made")
     passed = []
 
     def count(test, *words):

@@ -36,7 +36,7 @@ class Server:
         """The next answer, whatever it is."""
         line = self.answers.readline()
         if not line.endswith(b"\r\n"):
-            raise Wrong(f"the connection ended behind {line!r}")
+            raise Wrong(f"the connection ended after {line!r}")
         kind, text = line[:1], line[1:-2]
         if kind == b"$":
             length = int(text)

@@ -100,7 +100,7 @@ class Line:
             ip("-n", self.near, "addr", "replace", f"{MOVED_HOST}/24", "dev", "ymx0")
 
     def renew(self, how, near_ones):
-        """Makes the near namespace anew. What ran there ends behind its card, so that no word of it comes out."""
+        """Makes the near namespace anew. What ran there ends after its card, so that no word of it comes out."""
         ip("-n", self.near, "link", "del", "ymx0")
         for one in near_ones:
             one.stop()

@@ -33,7 +33,7 @@ near=ymx_near_$$
 far=ymx_far_$$
 trap 'stop; ip netns del $near 2> /dev/null || true; ip netns del $far 2> /dev/null || true; rm -rf "$scratch"' EXIT
 if ! { ip netns add $near && ip netns del $near; } > "$scratch/said" 2>&1; then
-    echo "--    left out: no network namespaces here: $(tail -n 1 "$scratch/said")"
+    impossible 'a line that is cut' "no network namespaces: $(tail -n 1 "$scratch/said")"
     counted
     exit
 fi

@@ -9,21 +9,23 @@ here=$(cd "$(dirname "$0")" && pwd)
 . "$here/../over.sh"
 unset DESTDIR PREFIX
 
-# leave_out WHY: it can't be run here
+# leave_out HOW WHY [PACKAGE]: it can't be run here
 leave_out() {
-    left_out 'the units under systemd' "$1"
+    how=$1
+    shift
+    "$how" 'the units under systemd' "$@"
     counted
     exit
 }
 
 PATH=$PATH:/usr/sbin:/sbin
-[ "$(id -u)" = 0 ] || leave_out 'only root can make such namespaces'
+[ "$(id -u)" = 0 ] || leave_out impossible 'only root can make such namespaces'
 for tool in unshare nsenter pivot_root ip systemctl python3; do
-    command -v $tool > /dev/null || leave_out "no $tool"
+    command -v $tool > /dev/null || leave_out left_out "no $tool" util-linux iproute2 systemd python3
 done
-[ -x /lib/systemd/systemd ] || leave_out 'no /lib/systemd/systemd'
+[ -x /lib/systemd/systemd ] || leave_out left_out 'no /lib/systemd/systemd' systemd
 groups=$(awk '$3 == "cgroup2" { print $2; exit }' /proc/mounts)
-[ -n "$groups" ] || leave_out 'cgroup2 is mounted nowhere'
+[ -n "$groups" ] || leave_out impossible 'cgroup2 is mounted nowhere'
 find_program
 DESTDIR=$scratch/installed "$root/release/install.sh" > "$scratch/said"
 cp "$ymx" "$scratch/installed/usr/local/bin/ymx"
@@ -42,7 +44,7 @@ end() {
     rm -rf "$scratch"
 }
 trap end EXIT
-mkdir "$group" 2> "$scratch/said" || leave_out "no control group can be made: $(cat "$scratch/said")"
+mkdir "$group" 2> "$scratch/said" || leave_out impossible "no control group can be made: $(cat "$scratch/said")"
 mkdir "$scratch/root"
 # (a shell moves into the group first, as one enters no group from within the namespace)
 sh -c 'echo $$ > "$1/cgroup.procs" && exec unshare --fork --kill-child --pid --mount --cgroup --uts --ipc --net "$2" "$3" "$4"' \
@@ -64,7 +66,7 @@ up_or_over() {
     process_1 || ! kill -0 "$outer" 2> /dev/null
 }
 in_time up_or_over || true
-if ! process_1; then leave_out "systemd doesn't come up here: $(tail -n 1 "$scratch/console")"; fi
+if ! process_1; then leave_out impossible "systemd doesn't come up here: $(tail -n 1 "$scratch/console")"; fi
 said=0
 nsenter -t "$first" -n python3 -B "$here/systemd.py" "$first" > "$scratch/said" 2>&1 || said=$?
 cat "$scratch/said"
