@@ -34,6 +34,7 @@ void rattle_dealloc(void *at) { free(at); }
 #include <sys/ioctl.h>
 #include <sys/resource.h>
 #include <sys/socket.h>
+#include <sys/syscall.h>
 #include <sys/uio.h>
 #include "signals.c"
 
@@ -101,6 +102,12 @@ ssize_t rattle_epoll_wait(int epoll, struct entry *entries, size_t room, int tim
         entries[i] = (struct entry){one.events, one.data.u64};
     }
     return found;
+}
+
+/* Nobody asks for this limit of a connection. The answer is how many bytes of it the other side hasn't acknowledged. */
+int getsockopt(int file, int level, int name, void *value, socklen_t *size) {
+    if (level == IPPROTO_TCP && name == TCP_USER_TIMEOUT && *size == sizeof(int)) return ioctl(file, TIOCOUTQ, value);
+    return (int)syscall(SYS_getsockopt, file, level, name, value, size);
 }
 
 int rattle_set_nonblocking(int file, bool on) { return ioctl(file, FIONBIO, &(int){on}); }

@@ -28,7 +28,7 @@ use ymx_page::{Declined, EndedConnection, Ending, Event, Origin};
 use ymx_policy::{Notice, Reason, Session as Asked, SessionEnd};
 use ymx_session::{NewFault, Session};
 use ymx_sockets::{
-    Context, Drain, Host, NoEvents, Peer, Poll, ProxyHeader, SocketEvent, Source, Stream,
+    Context, Drain, GLANCE, Host, NoEvents, Peer, Poll, ProxyHeader, SocketEvent, Source, Stream,
     TcpConnection, Users, begin_connect, has_passed, shorter, time_of,
 };
 
@@ -45,9 +45,6 @@ const UNWRITTEN: u64 = 131_072;
 /// How many seconds nothing may move where a session was lost and another follows, and how many a peer may be silent at the
 /// end before its connection is closed, where others may wait.
 const PATIENCE: u64 = 10;
-
-/// How many seconds it waits for events there, and where connections may be idle for too long.
-const GLANCE: u64 = 1;
 
 /// How many seconds a session lasts at least after which a reconnect comes at once.
 const LASTING: u64 = 1;
@@ -120,19 +117,15 @@ pub fn run_session<R: Host, D: Outlet>(
 ) -> SessionEnd {
     let began = time_of(context.rt);
     let address = peer.address;
-    let mut how = match Socket::wire(peer.into_connection(&session), poll) {
+    let mut how = match Socket::wire(peer.into_connection(session.options.keepalive), poll) {
         Ok(wire) => run_over(context, poll, service, wire, (session, address)),
-        Err(_) => unwatched(),
+        Err(_) => SessionEnd {
+            lacks_peer: true,
+            ..SessionEnd::clean()
+        },
     };
     how.peer = address;
     how.has_lasted = has_passed(began, time_of(context.rt), Duration::from_secs(LASTING));
-    how
-}
-
-/// How a session ends whose events the system refuses to report.
-fn unwatched() -> SessionEnd {
-    let mut how = SessionEnd::clean();
-    how.lacks_peer = true;
     how
 }
 
@@ -147,12 +140,12 @@ fn run_over<R: Host, D: Outlet>(
     let (session, peer) = asked;
     let tunnel = match new_tunnel(context.alloc, wire, service.role(), session.options.window) {
         Ok(tunnel) => tunnel,
-        Err(NewFault::OutOfMemory(_)) => {
-            let mut how = SessionEnd::clean();
-            how.lacked_memory = true;
-            return how;
+        Err(_) => {
+            return SessionEnd {
+                lacked_memory: true,
+                ..SessionEnd::clean()
+            };
         }
-        Err(_) => return unwatched(),
     };
     let mut session_loop = SessionLoop {
         context,
@@ -233,7 +226,11 @@ impl<R: Host, D: Outlet> SessionLoop<'_, '_, R, D> {
         // A loop that wasn't left is over: nothing is due, or the wire has failed, and no connection is left.
         ensures over { result ≡ OutcomeOf.Over → IsOver self.new.tunnel × (length self.new.tunnel.connections.by_id ≡ 0) }
     {
-        self.begin();
+        let context = self.context;
+        context.log(Event::SessionBegan(self.slots()));
+        if self.session.needs_first_frame {
+            self.ask();
+        }
         for _ in self.context.rt.forever() {
             if self.is_over() {
                 return Outcome::Over;
@@ -253,17 +250,6 @@ impl<R: Host, D: Outlet> SessionLoop<'_, '_, R, D> {
         unreachable!()
     }
 
-    /// Counts that it begins, and pings the peer, if users wait for its first frame.
-    fn begin(&mut self)
-        ensures { Runs self.old.tunnel self.new.tunnel }
-    {
-        let context = self.context;
-        context.log(Event::SessionBegan(self.slots()));
-        if self.session.needs_first_frame {
-            self.ask();
-        }
-    }
-
     /// Looks whether the peer is silent: then it is pinged, and given up where no answer comes. How long it may be
     /// silent yet, or None if for ever.
     fn on_silence(&mut self) -> Option<Duration>
@@ -274,9 +260,9 @@ impl<R: Host, D: Outlet> SessionLoop<'_, '_, R, D> {
         }
         let now = time_of(self.context.rt);
         let mut silence = self.silence?;
-        silence.note_sent(now, self.tunnel.wire().pushed);
-        silence.on_bytes(now, self.tunnel.wire().pulled, self.tunnel.unframed());
-        let due = silence.due(now);
+        let wire = self.tunnel.wire();
+        silence.on_bytes(now, wire.pulled, wire.pushed, self.tunnel.unframed());
+        let due = silence.due(now, wire.pushed, || wire.socket.unacknowledged());
         self.silence = Some(silence);
         match due {
             Due::In(left) => Some(left),
@@ -295,19 +281,12 @@ impl<R: Host, D: Outlet> SessionLoop<'_, '_, R, D> {
     fn ask(&mut self)
         ensures { Runs self.old.tunnel self.new.tunnel }
     {
-        if !self.is_answer_due() {
-            self.pending = self.tunnel.ping().ok();
+        if let Some(number) = self.pending
+            && matches!(self.tunnel.ponged(number), Ok(false))
+        {
+            return;
         }
-    }
-
-    /// Whether the answer to the last ping is still to come.
-    fn is_answer_due(&mut self) -> bool
-        ensures { Runs self.old.tunnel self.new.tunnel }
-    {
-        match self.pending {
-            Some(number) => matches!(self.tunnel.ponged(number), Ok(false)),
-            None => false,
-        }
+        self.pending = self.tunnel.ping().ok();
     }
 
     /// The connection to the peer is cut off, for this cause alone.
@@ -324,30 +303,21 @@ impl<R: Host, D: Outlet> SessionLoop<'_, '_, R, D> {
         ensures waits { Serving self.old.tunnel → (poll.new.waits ≡ poll.old.waits) ⊎ (NeedsEvents self.old.tunnel × CountsOne poll.old.waits poll.new.waits) }
         ensures looked { CountsOne poll.old.looks poll.new.looks }
     {
-        self.take_events(poll, limit)?;
-        self.note_all(poll);
-        Ok(())
-    }
-
-    /// Takes the events that are there or, if nothing can be done without one, waits for some, for so long at most.
-    fn take_events(&mut self, poll: &mut Poll, limit: Option<Duration>) -> Result<(), NoEvents>
-        ensures same { self.new.tunnel ≡ self.old.tunnel }
-        ensures waits { Serving self.old.tunnel → (poll.new.waits ≡ poll.old.waits) ⊎ (NeedsEvents self.old.tunnel × CountsOne poll.old.waits poll.new.waits) }
-        ensures looked { CountsOne poll.old.looks poll.new.looks }
-    {
         if self.has_work() {
             self.still_since = None;
-            return poll.look();
+            poll.look()?;
+        } else {
+            if self.still_since.is_none() {
+                self.still_since = time_of(self.context.rt);
+            }
+            poll.wait(shorter(self.timeout(), limit))?;
+            if poll.events().next().is_some() {
+                self.still_since = None;
+            } else if let Service::Users(users, _) = &mut *self.service {
+                users.note_waited();
+            }
         }
-        if self.still_since.is_none() {
-            self.still_since = time_of(self.context.rt);
-        }
-        poll.wait(shorter(self.timeout(), limit))?;
-        if poll.events().next().is_some() {
-            self.still_since = None;
-        } else if let Service::Users(users, _) = &mut *self.service {
-            users.note_waited();
-        }
+        self.note_all(poll);
         Ok(())
     }
 
@@ -472,13 +442,11 @@ impl<R: Host, D: Outlet> SessionLoop<'_, '_, R, D> {
     fn is_to_be_left(&self) -> bool
         ensures { result ≡ true → is_running self.now.tunnel.engine.session.status ≡ false }
     {
-        self.session.reconnects
-            && self.is_lost()
-            && has_passed(
-                self.still_since,
-                time_of(self.context.rt),
-                Duration::from_secs(PATIENCE),
-            )
+        if !self.session.reconnects || !self.is_lost() {
+            return false;
+        }
+        let now = time_of(self.context.rt);
+        has_passed(self.still_since, now, Duration::from_secs(PATIENCE))
     }
 
     /// Whether users are left to the next session: another one follows, and this one is over, or its peer takes no more streams.
@@ -684,19 +652,14 @@ impl<R: Host, D: Outlet> SessionLoop<'_, '_, R, D> {
             return false;
         };
         self.unwritten = self.unwritten.saturating_add(served.gave as u64);
-        self.note_passed(served.id);
-        self.forget_if_over(served.id);
-        self.unwritten < UNWRITTEN
-    }
-
-    /// Notes what the connection of this stream has passed since that was noted last.
-    fn note_passed(&mut self, id: u32)
-        ensures { self.new.tunnel ≡ self.old.tunnel }
-    {
-        if let Some(socket) = self.tunnel.device(id) {
+        if let Some(socket) = self.tunnel.device(served.id) {
             let passed = socket.take_passed();
             self.add_passed(passed);
         }
+        if self.tunnel.is_connection_over(served.id) {
+            self.forget(served.id);
+        }
+        self.unwritten < UNWRITTEN
     }
 
     /// So many bytes more have passed to the peer and from it.
@@ -730,15 +693,6 @@ impl<R: Host, D: Outlet> SessionLoop<'_, '_, R, D> {
         }
     }
 
-    /// Drops a connection of which neither direction is open.
-    fn forget_if_over(&mut self, id: u32)
-        ensures { Runs self.old.tunnel self.new.tunnel }
-    {
-        if self.tunnel.is_connection_over(id) {
-            self.forget(id);
-        }
-    }
-
     /// Drops a connection, and logs how it ended.
     fn forget(&mut self, id: u32)
         // Nothing of it is left to move.
@@ -753,10 +707,8 @@ impl<R: Host, D: Outlet> SessionLoop<'_, '_, R, D> {
             self.add_passed(socket.take_passed());
             let ended = socket.ended(directions, is_lost);
             self.how.lacked_memory |= ended.lacked_memory();
-            if let (Some(why), Service::Target(target, _, _)) = (
-                socket.unreached(),
-                &*self.service,
-            ) {
+            let unreached = socket.unreached();
+            if let (Some(why), Service::Target(target, _, _)) = (unreached, &*self.service) {
                 context.log(Event::Unreached(*target, why));
             }
             if let Some(origin) = socket.origin {

@@ -9,11 +9,12 @@ use std::time::{Clock, Duration};
 use ymx_engine::Device;
 use ymx_sockets::{NoEvents, has_passed, time_of};
 
-/// How many bytes that come while a payload is under way count as activity: 4,096 of it, after a header at most.
+/// How many bytes count as activity that come while a payload is under way, or are acknowledged while an answer is: 4,096 of a
+/// payload, after a header at most.
 const LONG_PART: u64 = 4_108;
 
-/// How many bytes may stand before a ping that is due, until the system has taken it: what a tunnel may have read
-/// of its connections for the wire.
+/// How many bytes that the system hasn't taken may stand before a ping that is due: what a tunnel may have read of its
+/// connections for the wire.
 const AHEAD: u64 = 262_336;
 
 /// The peer was silent for too long, though it was pinged. Only [`Silence::due`] makes one.
@@ -42,71 +43,97 @@ pub(crate) enum Due {
     Loss(SilentPeer),
 }
 
+/// How many seconds a line may take no bytes at least that it was given.
+const STILL: u64 = 10;
+
 /// When the peer was last active, and whether it was pinged since. A whole frame is activity, and so are 4,096
 /// bytes of the payload of one: a stranger to yamux shows none, and a slow line is not cut within a long frame.
 #[derive(Clone, Copy)]
 pub(crate) struct Silence {
-    /// How long it may be silent before it is asked, and then before it counts as gone.
-    pub(crate) patience: Duration,
-    /// When it was last active or pinged, by the clock.
+    /// When it was last active or pinged, by the clock, or as much later as it has longer.
     since: Duration,
     was_asked: bool,
     /// How many bytes had come of it when it was last active.
     received: u64,
-    /// How many bytes the system had taken for it when it was last looked at.
+    /// How many the system had taken for it then.
     sent: u64,
-    /// With so many the ping that it was last asked by is among them.
-    sent_with_ping: u64,
+    /// How long it may be silent before it is asked, and then before it counts as gone.
+    pub(crate) patience: Duration,
+    /// How much longer where bytes are on their way to it.
+    slack: Duration,
+    /// How many bytes it had acknowledged when it was last asked, or when that last gave it longer.
+    acknowledged: u64,
+    /// With so many the ping that it was asked by is among them.
+    acknowledged_with_ping: u64,
 }
 
 impl Silence {
     /// It is active at this time, and may be silent for so many seconds. None where silence doesn't matter, or the time
     /// is unknown.
     pub(crate) fn new(now: Option<Duration>, seconds: Option<u32>) -> Option<Silence> {
+        let patience = Duration::from_secs(seconds? as u64);
         Some(Silence {
-            patience: Duration::from_secs(seconds? as u64),
             since: now?,
             was_asked: false,
             received: 0,
             sent: 0,
-            sent_with_ping: 0,
+            patience,
+            slack: patience.max(Duration::from_secs(STILL).saturating_sub(patience)),
+            acknowledged: 0,
+            acknowledged_with_ping: 0,
         })
     }
 
-    /// So many bytes have come of the peer, of which this many stand after the last whole frame, or a payload is under way.
-    /// With activity the time begins anew.
+    /// So many bytes have come of the peer, of which this many stand after the last whole frame, or a payload is under way; and
+    /// the system has taken so many for it. With activity the time begins anew.
     pub(crate) fn on_bytes(
         &mut self,
         now: Option<Duration>,
         received: u64,
+        sent: u64,
         unframed: Option<usize>,
     ) {
         if is_sign(self.received, received, unframed) {
             self.received = received;
+            self.sent = sent;
             self.was_asked = false;
             self.since = now.unwrap_or(self.since);
         }
     }
 
-    /// The system has taken so many bytes for the peer. While the ping may stand after these, that they go out is activity too.
-    pub(crate) fn note_sent(&mut self, now: Option<Duration>, sent: u64) {
-        if self.sent < sent && self.sent < self.sent_with_ping {
-            self.since = now.unwrap_or(self.since);
-        }
-        self.sent = sent;
-    }
-
-    /// What is due now. Where the time is unknown, nothing is. A peer that is pinged has as long again.
-    pub(crate) fn due(&mut self, now: Option<Duration>) -> Due {
+    /// What is due now, where so many bytes were sent, of which so many aren't acknowledged; nothing where the time is unknown. A peer
+    /// that is pinged has as long again, and longer where 4,096 bytes are on their way to it, and after each 4,096 before the ping.
+    pub(crate) fn due<F: Fn() -> u64>(
+        &mut self,
+        now: Option<Duration>,
+        sent: u64,
+        unacknowledged: F,
+    ) -> Due
+        requires { F.IsAlwaysCallable unacknowledged }
+    {
         let Some(now) = now else {
             return Due::In(self.patience);
         };
-        let passed = now.saturating_sub(self.since);
-        let due = due_after(self.patience, passed, self.was_asked);
+        if self.was_asked && self.acknowledged < self.acknowledged_with_ping {
+            let acknowledged = sent.saturating_sub(unacknowledged());
+            if acknowledged.saturating_sub(self.acknowledged) >= LONG_PART {
+                self.acknowledged = acknowledged;
+                self.since = now.saturating_add(self.slack);
+            }
+        }
+        let due = due_after(
+            self.patience,
+            now.saturating_sub(self.since),
+            self.was_asked,
+        );
         if matches!(due, Due::Ping) {
             self.was_asked = true;
-            self.sent_with_ping = self.sent.saturating_add(AHEAD);
+            self.acknowledged = sent.saturating_sub(unacknowledged());
+            self.acknowledged_with_ping = sent.saturating_add(AHEAD);
             self.since = now;
+            if sent.saturating_sub(self.sent.min(self.acknowledged)) >= LONG_PART {
+                self.since = now.saturating_add(self.slack);
+            }
         }
         due
     }

@@ -319,12 +319,8 @@ impl<S: Stream + Drop> Socket<S> {
                 Pulled::Ended
             }
             Err(e) if e.kind() == ErrorKind::WouldBlock => Pulled::NotNow,
-            Err(e) => {
-                self.fail(SocketFault::Pull, Some(&e));
-                Pulled::Failed
-            }
-            Ok(_) => {
-                self.fail(SocketFault::Pull, None);
+            failed => {
+                self.fail(SocketFault::Pull, failed.as_ref().err());
                 Pulled::Failed
             }
         }
@@ -344,12 +340,8 @@ impl<S: Stream + Drop> Socket<S> {
                 Pushed::Took(count)
             }
             Err(e) if e.kind() == ErrorKind::WouldBlock => Pushed::NotNow,
-            Err(e) => {
-                self.fail(SocketFault::Push, Some(&e));
-                Pushed::Failed
-            }
-            Ok(_) => {
-                self.fail(SocketFault::Push, None);
+            failed => {
+                self.fail(SocketFault::Push, failed.as_ref().err());
                 Pushed::Failed
             }
         }

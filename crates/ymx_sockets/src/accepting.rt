@@ -1,17 +1,17 @@
 //! Listeners: of users, and of peers.
 
 use crate::Host;
+use crate::clock::shorter;
 use crate::logging::Context;
 use crate::peer::Peer;
-use crate::system::{Listener, Poll, TcpConnection, listen};
-use crate::users::local_address;
+use crate::system::{Listener, Poll, TcpConnection, listen, local_address};
 use std::io;
 use std::io::ErrorKind;
 use std::net::{SocketAddr, SocketAddrV4, TcpListener};
 use std::time::Duration;
 use ymx_model::Outlet;
 use ymx_page::Event;
-use ymx_policy::{Named, Networks, Notice, Peers, Reason};
+use ymx_policy::{Named, Networks, Notice, Outcome, Peers, Reason};
 
 /// How often an accept whose connection went away meanwhile is made again in a row.
 const RETRIES: u32 = 1_024;
@@ -190,6 +190,15 @@ impl PeerAcceptor {
         }
         context.log(Event::Notice(Notice::Denied(peer.address)));
         Incoming::Closed
+    }
+
+    /// Waits until a connection may come, and for so long at most. The error is that none can be accepted any more.
+    pub fn wait(&self, poll: &mut Poll, limit: Option<Duration>) -> Result<(), Outcome> {
+        if let Some(why) = self.acceptor.failure() {
+            return Err(Outcome::Failed(why));
+        }
+        let waited = poll.wait(shorter(limit, self.acceptor.limit()));
+        waited.map_err(|_| Outcome::Failed(None))
     }
 }
 

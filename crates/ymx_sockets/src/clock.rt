@@ -2,6 +2,9 @@
 
 use std::time::{Clock, Duration};
 
+/// After how many seconds, at most, it is looked at again what no event reports.
+pub const GLANCE: u64 = 1;
+
 /// The shorter of two times, of which none is as long as can be.
 pub fn shorter(time: Option<Duration>, other: Option<Duration>) -> Option<Duration> {
     match (time, other) {

@@ -22,7 +22,7 @@ mod system;
 mod users;
 
 pub use accepting::{Acceptor, Incoming, PeerAcceptor};
-pub use clock::{has_passed, shorter, time_of};
+pub use clock::{GLANCE, has_passed, shorter, time_of};
 pub use drain::Drain;
 pub use fault::StartFault;
 pub use logging::{Context, Sink, context_of, new_sink};
@@ -32,10 +32,10 @@ pub use source::Source;
 pub use status::Page;
 pub use stream::Stream;
 pub use system::{
-    NoEvents, Poll, SocketEvent, TcpConnection, accept, address_of, begin_connect, connect, echo,
-    finish, listen, prepare, receive, send,
+    NoEvents, Poll, SocketEvent, TcpConnection, accept, begin_connect, connect, echo, events_of,
+    finish, listen, local_address, prepare, receive, send,
 };
-pub use users::{Shared, Users, local_address};
+pub use users::{Shared, Users};
 
 /// What an endpoint runs on: TCP, the clock, and waiting.
 pub trait Host: Net<Stream = TcpStream, Listener = TcpListener> + Clock + Wait {}

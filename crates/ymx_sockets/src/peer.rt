@@ -3,7 +3,6 @@
 use crate::stream::Stream;
 use crate::system::TcpConnection;
 use std::net::{SocketAddr, SocketAddrV4};
-use ymx_policy::Session;
 
 /// A connection to a peer, which never waits, and whose bytes go out at once. No poll reports it yet.
 #[derive(Drop)]
@@ -26,14 +25,10 @@ impl Peer {
         }
     }
 
-    /// Its connection, for such a session. The system probes a silent peer, if it is to, and fails the connection where
-    /// what was sent isn't acknowledged for twice the seconds of `--ping`.
-    pub fn into_connection(self, session: &Session) -> TcpConnection {
+    /// Its connection, in which the system probes the peer after so many seconds of silence; never for 0.
+    pub fn into_connection(self, keepalive: u32) -> TcpConnection {
         let Peer { socket, address: _ } = self;
-        socket.prepare(session.options.keepalive);
-        if let Some(seconds) = session.options.ping {
-            socket.limit_silence(seconds.saturating_mul(2_000));
-        }
+        socket.prepare(keepalive);
         socket
     }
 }

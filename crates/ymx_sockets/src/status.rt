@@ -2,6 +2,7 @@
 //! line of a request is read, up to 8,192 bytes, and within two seconds. One that is stuck holds up no other.
 
 use crate::Host;
+use crate::clock::GLANCE;
 use crate::drain::Drain;
 use crate::fault::StartFault;
 use crate::logging::Context;
@@ -27,9 +28,6 @@ const CALLS: usize = 8;
 
 /// How many seconds one has to ask, and to take the answer.
 const PATIENCE: u64 = 2;
-
-/// After how many seconds the clients that are there are looked at again, at most.
-const GLANCE: u64 = 1;
 
 /// The server of the page, and its clients.
 #[derive(Drop)]

@@ -22,7 +22,7 @@ use mio::unix::SourceFd;
 use mio::{Interest, Token};
 use std::alloc::Global;
 use std::io::{ErrorKind, IoSlice, Read, Write};
-use std::net::{Net, Shutdown, SocketAddr, TcpListener, TcpStream};
+use std::net::{Net, Shutdown, SocketAddr, SocketAddrV4, TcpListener, TcpStream};
 use std::os::fd::AsRawFd;
 use std::sync::Arc;
 use std::time::Duration;
@@ -118,12 +118,7 @@ impl TcpConnection {
 
     /// Whether one that was begun is there, after so many milliseconds at most. The error is why it can't be made.
     pub fn is_there(&self, milliseconds: i32) -> io::Result<bool> {
-        let mut asked = [pollfd {
-            fd: self.inner.as_raw_fd(),
-            events: c::POLLOUT,
-            revents: 0,
-        }];
-        c::poll(&mut asked, milliseconds);
+        events_of(self.inner.as_raw_fd(), c::POLLOUT, milliseconds);
         match self.inner.take_error()? {
             Some(error) => Err(error),
             None => Ok(self.inner.peer_addr().is_ok()),
@@ -135,15 +130,26 @@ impl TcpConnection {
         prepare(&self.inner, keepalive);
     }
 
-    /// The system fails the connection where what was sent isn't acknowledged for so many milliseconds.
-    pub fn limit_silence(&self, milliseconds: u32) {
-        set(
-            &self.inner,
-            c::IPPROTO_TCP,
-            c::TCP_USER_TIMEOUT,
-            milliseconds,
-        );
+    /// How many of the bytes that it took the other side hasn't acknowledged. `release/parts.c` answers that to this call; where
+    /// the program is linked without it, the answer is 0.
+    pub fn unacknowledged(&self) -> u64 {
+        let (mut value, mut size) = ([0u8; 16], 4);
+        let socket = self.inner.as_raw_fd();
+        let (level, name) = (c::IPPROTO_TCP, c::TCP_USER_TIMEOUT);
+        let _ = unsafe { c::getsockopt(socket, level, name, &mut value, &mut size) };
+        u64::from(u32::from_ne_bytes([value[0], value[1], value[2], value[3]]))
     }
+}
+
+/// What the system reports of a descriptor that is asked for these events, once it has one or so many milliseconds are over.
+pub fn events_of(descriptor: i32, events: i16, milliseconds: i32) -> i16 {
+    let mut asked = [pollfd {
+        fd: descriptor,
+        events,
+        revents: 0,
+    }];
+    c::poll(&mut asked, milliseconds);
+    asked[0].revents
 }
 
 /// What is written to this socket goes out at once. Where nothing comes for so many seconds, the system asks the other side for a
@@ -253,12 +259,7 @@ impl Listener {
 
     /// Whether a connection waits, which stays there.
     pub(crate) fn is_awaited(&self) -> bool {
-        let mut asked = [pollfd {
-            fd: self.inner.as_raw_fd(),
-            events: c::POLLIN,
-            revents: 0,
-        }];
-        c::poll(&mut asked, 0) > 0 && asked[0].revents & c::POLLIN != 0
+        events_of(self.inner.as_raw_fd(), c::POLLIN, 0) & c::POLLIN != 0
     }
 
     /// Nobody listens any more, at none of its duplicates: their polls report that.
@@ -412,9 +413,12 @@ pub(crate) fn duplicate(listener: &TcpListener) -> io::Result<TcpListener> {
     listener.try_clone()
 }
 
-/// Where this one listens.
-pub fn address_of(listener: &TcpListener) -> io::Result<SocketAddr> {
-    listener.local_addr()
+/// Where this one listens, which was to listen here.
+pub fn local_address(listener: &TcpListener, address: SocketAddrV4) -> SocketAddrV4 {
+    match listener.local_addr() {
+        Ok(SocketAddr::V4(address)) => address,
+        _ => address,
+    }
 }
 
 /// The next connection that comes.

@@ -5,7 +5,7 @@ use crate::accepting::Acceptor;
 use crate::drain::Drain;
 use crate::fault::StartFault;
 use crate::logging::Context;
-use crate::system::{Poll, TcpConnection, address_of, duplicate, listen};
+use crate::system::{Poll, TcpConnection, duplicate, listen};
 use std::alloc::{AllocError, Global};
 use std::io;
 use std::net::{SocketAddr, SocketAddrV4, TcpListener};
@@ -140,14 +140,6 @@ impl Shared {
         } else {
             self.reserved.fetch_sub(1, Ordering::SeqCst);
         }
-    }
-}
-
-/// Where this listener is.
-pub fn local_address(listener: &TcpListener, address: SocketAddrV4) -> SocketAddrV4 {
-    match address_of(listener) {
-        Ok(SocketAddr::V4(at)) => at,
-        _ => address,
     }
 }
 

@@ -1,11 +1,14 @@
-use Rattle.std.proofs.Common.{refl, arith, suc}
+use Rattle.std.proofs.Common.{refl, ap, arith, suc}
 use Rattle.ymx_engine.proofs.Attending.{runs_then}
+use Rattle.ymx_loop.specs.declared.session.SessionLoop.{SessionLoop}
+use Rattle.ymx_loop.proofs.Going.{runs_before, same}
 use Rattle.ymx_loop.proofs.Rounds.{ends_before, ends_behind, looks_more, round_more}
 use Rattle.ymx_loop.proofs.Waiting.{waits_never, waits_behind, waits_before}
 use Rattle.ymx_loop.proofs.session.SessionLoop.run.Goals as goal
+use Rattle.ymx_loop.proofs.session.SessionLoop.run.Goals.{then-self, else-self}
 
 pub loop-init : goal.loop-init
-loop-init g c = record { next = (tt, tt); runs = c.begin.ensures; rounds = (0, c.begin.ensures, omega arith); waits = waits_never _ _ _ _ c.begin.ensures refl }
+loop-init g c = elim c.if-self.branch [ then-self w ↦ let r = runs_before _ _ _ (ap (λ (v : SessionLoop _ _). v.tunnel) w.self-is) w.ask.ensures in record { next = (tt, tt); runs = r; rounds = (0, r, omega arith); waits = waits_never _ _ _ _ r refl } | else-self w ↦ let r = same _ _ (ap (λ (v : SessionLoop _ _). v.tunnel) w.self-is) in record { next = (tt, tt); runs = r; rounds = (0, r, omega arith); waits = waits_never _ _ _ _ r refl } ]
 
 pub loop-preserved : goal.loop-preserved
 loop-preserved g c = record {
