@@ -104,9 +104,9 @@ HasClash given name = IsSomeAnd (row_of name).apart (λ other. AreBothGiven (fir
 abbrev pub IsNumberOf : List Entry → Text → Option ℕ → Type 0
 IsNumberOf given name number = (HasClash given name → ⊥) × ReadsAs (row_of name).least (row_of name).most (first_of name given) number
 
--- it has this number, or the default
-abbrev pub IsNumberOr : (default : ℕ) → List Entry → Text → ℕ → Type 0
-IsNumberOr default given name number = (read : Option ℕ) × IsNumberOf given name read × (number ≡ unwrap_or read default)
+-- it has this number, or the least of its row
+abbrev pub IsNumberOrLeast : List Entry → Text → ℕ → Type 0
+IsNumberOrLeast given name number = (read : Option ℕ) × IsNumberOf given name read × (number ≡ unwrap_or read (row_of name).least)
 
 -- the flag, of which clap keeps this text, wasn't given
 abbrev pub IsNotSaid : Option Text → Type 0
@@ -181,16 +181,16 @@ IsFileOf given (Some name) = (first_of (codes "file") given ≡ Some name.now) �
 -- an endpoint has what its own options say
 abbrev pub IsEndpointOf : List Entry → Endpoint → Type 0
 IsEndpointOf given (Local listen count links names) =
-    IsAddressOf given (codes "listen") listen × IsNumberOf given (codes "count") count × IsNumberOr 1 given (codes "links") links
+    IsAddressOf given (codes "listen") listen × IsNumberOf given (codes "count") count × IsNumberOrLeast given (codes "links") links
     × ReadsFlag given (codes "proxy-protocol") names
 IsEndpointOf given (Remote target workers peers) =
-    IsAddressOf given (codes "target") target × IsNumberOr 1024 given (codes "workers") workers × IsNumberOf given (codes "peers") peers
+    IsAddressOf given (codes "target") target × IsNumberOrLeast given (codes "workers") workers × IsNumberOf given (codes "peers") peers
 
 -- a session is what the options say
 abbrev pub IsSessionOf : List Entry → SessionOptions → Type 0
 IsSessionOf given session =
-    IsNumberOr 262144 given (codes "window") session.window × IsNumberOf given (codes "ping") session.ping
-    × IsNumberOr 60 given (codes "keepalive") session.keepalive × IsNumberOf given (codes "idle") session.idle
+    IsNumberOrLeast given (codes "window") session.window × IsNumberOf given (codes "ping") session.ping
+    × IsNumberOrLeast given (codes "keepalive") session.keepalive × IsNumberOf given (codes "idle") session.idle
 
 -- a plan is what the options say
 abbrev pub IsPlanOf : List Entry → Plan → Type 0
@@ -208,7 +208,7 @@ name_of (Remote target workers peers) = codes "remote"
 
 -- the task is what the subcommand of this name asks for, with what its options say
 abbrev pub IsTaskFor : Text → List Entry → Task → Type 0
-IsTaskFor name given (Frames limit file) = (name ≡ codes "frames") × IsNumberOr 262144 given (codes "limit") limit × IsFileOf given file
+IsTaskFor name given (Frames limit file) = (name ≡ codes "frames") × IsNumberOrLeast given (codes "limit") limit × IsFileOf given file
 IsTaskFor name given (Script file) = (name ≡ codes "script") × IsFileOf given file
 IsTaskFor name given (Tunnel plan) = (name ≡ name_of plan.endpoint) × IsPlanOf given plan
 IsTaskFor name given Selftest = (name ≢ codes "frames") × (name ≢ codes "script") × (name ≢ codes "local") × (name ≢ codes "remote")

@@ -3,7 +3,7 @@
 ghost use Rattle.std.specs.Prelude.{[], ◌≡◌, ◌≢◌, ◌≤◌, codes, map, option_map, unwrap_or, IfErr, MatchOption, MatchResult};
 ghost use Rattle.std.specs.Str.Parse.{digits_value};
 ghost use Rattle.clap.specs.Words.{all_of, first_of, found_of, one_of, rows_of};
-ghost use Rattle.ymx_arguments.specs.CommandLine.{AreNetworksOf, HasClash, IsAddressOf, IsEndpointOf, IsFileOf, IsNumberIn, IsNumberOf, IsNumberOr, IsPeerOf, IsPlanOf, IsStatusOf, IsWrong, ReadsFlag, name_of};
+ghost use Rattle.ymx_arguments.specs.CommandLine.{AreNetworksOf, HasClash, IsAddressOf, IsEndpointOf, IsFileOf, IsNumberIn, IsNumberOf, IsNumberOrLeast, IsPeerOf, IsPlanOf, IsStatusOf, IsWrong, ReadsFlag, name_of};
 
 use crate::networks::network_at;
 use crate::rows::row_of;
@@ -44,7 +44,7 @@ pub(crate) fn local_plan<'a>(found: &ArgMatches<'a>) -> Result<Plan, BadOption<'
     let endpoint = Endpoint::Local {
         listen,
         count: number(found, "count")?,
-        links: number_or(found, "links", 1)?,
+        links: number_or_least(found, "links")?,
         names_users: flag(found, "proxy-protocol"),
     };
     plan_of(found, peer, endpoint)
@@ -57,7 +57,7 @@ pub(crate) fn remote_plan<'a>(found: &ArgMatches<'a>) -> Result<Plan, BadOption<
     let peer = peer(found)?;
     let endpoint = Endpoint::Remote {
         target: address(found, "target")?,
-        workers: number_or(found, "workers", 1_024)?,
+        workers: number_or_least(found, "workers")?,
         peers: number(found, "peers")?,
     };
     plan_of(found, peer, endpoint)
@@ -73,9 +73,9 @@ fn plan_of<'a>(
     ensures { MatchResult result (λ plan. (name_of plan.endpoint ≡ name_of endpoint) × IsPlanOf (rows_of (found_of found.now)) plan) (IsWrong (rows_of (found_of found.now))) }
 {
     let session = SessionOptions {
-        window: number_or(found, "window", 262_144)?,
+        window: number_or_least(found, "window")?,
         ping: number(found, "ping")?,
-        keepalive: number_or(found, "keepalive", 60)?,
+        keepalive: number_or_least(found, "keepalive")?,
         idle: number(found, "idle")?,
     };
     Ok(Plan {
@@ -101,16 +101,15 @@ pub(crate) fn file<'a>(found: &ArgMatches<'a>) -> Option<&'a str>
     }
 }
 
-/// The number that the option of this name was given, or this one.
-pub(crate) fn number_or<'a>(
+/// The number that the option of this name was given or has by default, or the least of its row.
+pub(crate) fn number_or_least<'a>(
     found: &ArgMatches<'a>,
     name: &'a str,
-    default: u32,
 ) -> Result<u32, BadOption<'a>>
-    ensures read { MatchResult result (IsNumberOr default (rows_of (found_of found.now)) name.now) (IsWrong (rows_of (found_of found.now))) }
+    ensures read { MatchResult result (IsNumberOrLeast (rows_of (found_of found.now)) name.now) (IsWrong (rows_of (found_of found.now))) }
     ensures met { IfErr result (λ bad. bad ≢ BadOption.NoPeer) }
 {
-    Ok(number(found, name)?.unwrap_or(default))
+    Ok(number(found, name)?.unwrap_or(row_of(name).least))
 }
 
 /// The number that the option of this name was given, if it was given one.

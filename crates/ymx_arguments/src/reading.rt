@@ -5,7 +5,7 @@ ghost use Rattle.clap.specs.Words.{found_of, kind_of, rows_of, subcommand_of, su
 ghost use Rattle.ymx_arguments.specs.CommandLine.{IsClap, IsFaultFor, IsFaultOf, kind_for, IsMistakeFor, IsMistakeOf, IsTaskFor, IsTaskOf, LacksMemory, ymx_app};
 
 use crate::command::{command, subcommand};
-use crate::options::{BadOption, file, local_plan, number_or, remote_plan};
+use crate::options::{BadOption, file, local_plan, number_or_least, remote_plan};
 use crate::rows::row_of;
 use clap::error::ErrorKind;
 use clap::{ArgMatches, Error};
@@ -87,7 +87,7 @@ fn task_for<'a>(name: &str, found: &ArgMatches<'a>) -> Result<Task<'a>, BadOptio
 {
     match name {
         "frames" => Ok(Task::Frames {
-            limit: number_or(found, "limit", 262_144)?,
+            limit: number_or_least(found, "limit")?,
             file: file(found),
         }),
         "script" => Ok(Task::Script { file: file(found) }),

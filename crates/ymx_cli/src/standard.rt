@@ -3,13 +3,13 @@
 //! whether it takes a line now.
 
 use crate::log::LineDevice;
-use libc::net::{POLLNVAL, POLLOUT, poll};
-use libc::types::pollfd;
+use libc::net::{POLLNVAL, POLLOUT};
 use std::fs::File;
 use std::io::Write;
 use std::os::fd::IntoRawFd;
 use std::rt::Files;
 use ymx_model::{DeviceFault, Outlet, WriterOutlet};
+use ymx_sockets::events_of;
 
 /// The descriptor of standard error.
 const ERRORS: i32 = 2;
@@ -29,17 +29,6 @@ fn fill(rt: &impl Files<File = File>, number: i32) -> bool {
         Ok(file) => file.into_raw_fd() == number,
         Err(_) => false,
     }
-}
-
-/// What the system says of a descriptor, within so many milliseconds, to the question for these events.
-fn events_of(descriptor: i32, events: i16, milliseconds: i32) -> i16 {
-    let mut asked = [pollfd {
-        fd: descriptor,
-        events,
-        revents: 0,
-    }];
-    poll(&mut asked, milliseconds);
-    asked[0].revents
 }
 
 /// Standard error as a device for lines. No contract says what it takes. A pipe that others fill too, or a terminal that

@@ -18,15 +18,12 @@ use ymx_policy::{
     Users as UserSource, World, run,
 };
 use ymx_sockets::{
-    Context, Host, Incoming, NoEvents, Peer, PeerAcceptor, Poll, Shared, StartFault, Stream,
-    TcpConnection, Users, begin_connect, has_passed, local_address, prepare, shorter, time_of,
+    Context, GLANCE, Host, Incoming, Peer, PeerAcceptor, Poll, Shared, StartFault, Stream,
+    TcpConnection, Users, begin_connect, has_passed, local_address, prepare, time_of,
 };
 
 /// How many users are rejected at once at most: as many as wait in the system.
 const WAITING: u32 = 4_096;
-
-/// How many milliseconds go by at once where it pauses, or waits for a connect.
-const GLANCE: u16 = 100;
 
 /// A link of an endpoint.
 #[derive(Drop)]
@@ -108,14 +105,6 @@ impl<'a, 's, R: Host, D: Outlet> Link<'a, 's, R, D> {
             self.poll = Some(poll);
         }
         self.poll.as_mut().ok_or(StartFault::OutOfMemory)
-    }
-
-    /// Waits for events, for so long at most.
-    fn wait(&mut self, limit: Option<Duration>) -> Result<(), NoEvents> {
-        match &mut self.poll {
-            Some(poll) => poll.wait(limit),
-            None => Ok(()),
-        }
     }
 
     /// Performs this action. The error is why something can't begin.
@@ -206,7 +195,7 @@ impl<'a, 's, R: Host, D: Outlet> Link<'a, 's, R, D> {
             if self.is_drained() {
                 return Ok(None);
             }
-            if socket.is_there(i32::from(GLANCE))? {
+            if socket.is_there(1_000 * GLANCE as i32)? {
                 return Ok(Some(Peer::of(socket)));
             }
             if let Some(seconds) = dial.limit {
@@ -272,18 +261,14 @@ impl<'a, 's, R: Host, D: Outlet> Link<'a, 's, R, D> {
 
     /// Waits until a peer may connect.
     fn await_incoming(&mut self) -> Result<(), Outcome> {
-        let Some(incoming) = &self.incoming else {
-            return Err(Outcome::Failed(None));
-        };
-        if let Some(why) = incoming.acceptor.failure() {
-            return Err(Outcome::Failed(why));
-        }
-        let users = match &self.service {
+        let limit = match &self.service {
             Some(Service::Users(users, _)) => users.limit(),
             _ => None,
         };
-        let limit = shorter(users, incoming.acceptor.limit());
-        self.wait(limit).map_err(|_| Outcome::Failed(None))
+        match (&self.incoming, &mut self.poll) {
+            (Some(incoming), Some(poll)) => incoming.wait(poll, limit),
+            _ => Err(Outcome::Failed(None)),
+        }
     }
 
     // ---- its users
@@ -295,7 +280,8 @@ impl<'a, 's, R: Host, D: Outlet> Link<'a, 's, R, D> {
             self.pause(1);
         }
         for _ in self.context.rt.forever() {
-            let Some(Service::Users(users, _)) = &mut self.service else {
+            let (Some(Service::Users(users, _)), Some(poll)) = (&mut self.service, &mut self.poll)
+            else {
                 return Outcome::NoUsers(None);
             };
             users.note_event();
@@ -305,7 +291,7 @@ impl<'a, 's, R: Host, D: Outlet> Link<'a, 's, R, D> {
             if users.acceptor.is_awaited() {
                 return Outcome::UserCame;
             }
-            if self.wait(None).is_err() {
+            if poll.wait(None).is_err() {
                 return Outcome::NoUsers(None);
             }
         }
@@ -382,11 +368,11 @@ impl<'a, 's, R: Host, D: Outlet> Link<'a, 's, R, D> {
 
     /// Lets so many seconds go by, or fewer where no more sessions are to begin.
     fn pause(&mut self, seconds: u64) {
-        for _ in 0..seconds.saturating_mul(1_000) / u64::from(GLANCE) {
+        for _ in 0..seconds / GLANCE {
             if self.is_drained() {
                 return;
             }
-            thread::sleep(self.context.rt, Duration::from_millis(u64::from(GLANCE)));
+            thread::sleep(self.context.rt, Duration::from_secs(GLANCE));
         }
     }
 }

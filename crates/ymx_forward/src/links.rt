@@ -217,12 +217,8 @@ impl<R: Host, D: Outlet> Admission<'_, '_, R, D> {
                 }
                 Incoming::Closed => {}
                 Incoming::Nobody => {
-                    let acceptor = &incoming.acceptor;
-                    if let Some(why) = acceptor.failure() {
-                        return Outcome::Failed(why);
-                    }
-                    if poll.wait(acceptor.limit()).is_err() {
-                        return Outcome::Failed(None);
+                    if let Err(outcome) = incoming.wait(poll, None) {
+                        return outcome;
                     }
                 }
             }

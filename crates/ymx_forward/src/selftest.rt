@@ -17,8 +17,8 @@ use ymx_loop::{Service, run_session};
 use ymx_model::{Outlet, WriterOutlet, push_all};
 use ymx_policy::{Fault, Session, SessionOptions, Text, Users as UserSource, fault_text};
 use ymx_sockets::{
-    Drain, Host, Peer, Poll, Shared, StartFault, TcpConnection, Users, accept, address_of, connect,
-    context_of, echo, finish, listen, new_sink, receive, send,
+    Drain, Host, Peer, Poll, Shared, StartFault, TcpConnection, Users, accept, connect, context_of,
+    echo, finish, listen, local_address, new_sink, receive, send,
 };
 
 /// How many connections there are.
@@ -31,7 +31,7 @@ const WINDOW: u32 = 262_144;
 #[derive(Drop)]
 struct Server {
     listener: TcpListener,
-    at: SocketAddr,
+    at: SocketAddrV4,
 }
 
 /// What the servers own, and both ends of the connection that carries the session.
@@ -151,7 +151,7 @@ fn any_port() -> SocketAddrV4 {
 /// Listens at a port that the system chooses.
 fn begin_server<R: Host>(rt: &R) -> io::Result<Server> {
     let listener = listen(rt, SocketAddr::V4(any_port()))?;
-    let at = address_of(&listener)?;
+    let at = local_address(&listener, any_port());
     Ok(Server { listener, at })
 }
 
@@ -164,7 +164,7 @@ fn prepare<R: Host>(rt: &R) -> Option<Owned> {
     Some(Owned {
         echo,
         local,
-        near: connect(rt, meeting.at).ok()?,
+        near: connect(rt, SocketAddr::V4(meeting.at)).ok()?,
         far: accept(&meeting.listener).ok()?,
     })
 }
@@ -203,9 +203,9 @@ fn size_of(number: u8) -> usize {
 // ---- the servers
 
 /// Connects to this listener as often as its server accepts, so that none waits any longer. One that has closed refuses it.
-fn release<R: Net<Stream = TcpStream>>(rt: &R, address: SocketAddr) {
+fn release<R: Net<Stream = TcpStream>>(rt: &R, address: SocketAddrV4) {
     for _ in 0..CONNECTIONS {
-        let _ = connect(rt, address);
+        let _ = connect(rt, SocketAddr::V4(address));
     }
 }
 
@@ -220,9 +220,9 @@ fn serve_echoes(listener: TcpListener) {
 }
 
 /// The endpoint of the tunnel at the echo server.
-fn run_remote_end<R: Host>(rt: &R, alloc: Global, connection: TcpStream, target: SocketAddr) {
+fn run_remote_end<R: Host>(rt: &R, alloc: Global, connection: TcpStream, target: SocketAddrV4) {
     let drain = Arc::new(alloc, Drain::new(alloc));
-    if let (Ok(poll), Ok(drain), SocketAddr::V4(target)) = (Poll::new(rt, alloc), drain, target) {
+    if let (Ok(poll), Ok(drain)) = (Poll::new(rt, alloc), drain) {
         let service = Service::Target(target, CONNECTIONS as u32, drain);
         run_one(rt, alloc, connection, (poll, service));
     }
@@ -273,21 +273,15 @@ fn run_one<R: Host>(
         needs_first_frame: false,
         reconnects: false,
     };
-    let context = context_of(rt, alloc, &sink);
-    let _ = run_session(
-        context,
-        &mut poll,
-        &mut service,
-        Peer::of(connection),
-        session,
-    );
+    let (context, peer) = (context_of(rt, alloc, &sink), Peer::of(connection));
+    let _ = run_session(context, &mut poll, &mut service, peer, session);
 }
 
 // ---- the client
 
 /// Makes the three connections, one after the other, and hands on the number of each whose bytes came back. Stops at the first that
 /// fails.
-fn run_client<R: Host>(rt: &R, alloc: Global, address: SocketAddr, sender: Sender<u8, Global>) {
+fn run_client<R: Host>(rt: &R, alloc: Global, address: SocketAddrV4, sender: Sender<u8, Global>) {
     for number in 1..=CONNECTIONS {
         if exchange(rt, alloc, address, size_of(number)).is_none()
             || sender.send(rt, number).is_err()
@@ -301,14 +295,14 @@ fn run_client<R: Host>(rt: &R, alloc: Global, address: SocketAddr, sender: Sende
 fn exchange<R: Net<Stream = TcpStream>>(
     rt: &R,
     alloc: Global,
-    address: SocketAddr,
+    address: SocketAddrV4,
     size: usize,
 ) -> Option<()> {
     let mut sent = Vec::with_capacity(alloc, size).ok()?;
     for position in 0..size {
         sent.push((position % 251) as u8).ok()?;
     }
-    let socket = connect(rt, address).ok()?;
+    let socket = connect(rt, SocketAddr::V4(address)).ok()?;
     send(&socket, sent.as_slice()).ok()?;
     finish(&socket).ok()?;
     let mut received = Vec::new(alloc);

@@ -6,6 +6,12 @@ use std::time::Instant;
 use ymx_model::CallFault;
 use ymx_policy::{Reason, source_text};
 
+/// The labels under which endings are counted, in the order of [`Ending`].
+pub(crate) const ENDINGS: &str = "ended connection_failed idle reset lost no_memory refused";
+
+/// The labels under which it is counted why connections got no stream, in the order of [`Cause`].
+pub(crate) const CAUSES: &str = "lost peer_away no_memory unwatched other";
+
 /// Why one direction of a connection ended.
 #[derive(Clone, Copy, PartialEq, Eq)]
 pub enum Ending {
@@ -22,27 +28,16 @@ pub enum Ending {
     Refused,
 }
 
-impl Ending {
-    /// The label under which it is counted.
-    pub(crate) fn label(self) -> &'static str {
-        match self {
-            Ending::Ended => "ended",
-            Ending::ConnectionFailed => "connection_failed",
-            Ending::Idle => "idle",
-            Ending::Reset => "reset",
-            Ending::Lost => "lost",
-            Ending::OutOfMemory => "no_memory",
-            Ending::Refused => "refused",
-        }
-    }
-}
-
 impl fmt::Display for Ending {
     fn fmt<W: fmt::Write>(&self, f: &mut fmt::Formatter<W>) -> fmt::Result {
         f.write_str(match self {
+            Ending::Ended => "ended",
             Ending::ConnectionFailed => "connection failed",
+            Ending::Idle => "idle",
+            Ending::Reset => "reset",
+            Ending::Lost => "lost",
             Ending::OutOfMemory => "no memory",
-            other => other.label(),
+            Ending::Refused => "refused",
         })
     }
 }
@@ -126,15 +121,26 @@ pub enum Declined {
     Unwatched,
 }
 
+/// The same, as it is counted.
+#[derive(Clone, Copy)]
+pub(crate) enum Cause {
+    Lost,
+    PeerAway,
+    NoMemory,
+    Unwatched,
+    Other,
+}
+
 impl Declined {
-    /// The label under which it is counted.
-    pub(crate) fn label(self) -> &'static str {
+    /// As what it is counted.
+    pub(crate) fn cause(self) -> Cause {
         match self {
-            Declined::BySession(CallFault::Lost | CallFault::Closed) => "lost",
-            Declined::BySession(CallFault::PeerAway) => "peer_away",
-            Declined::BySession(CallFault::OutOfMemory(_)) | Declined::OutOfMemory => "no_memory",
-            Declined::Unwatched => "unwatched",
-            Declined::BySession(_) => "other",
+            Declined::BySession(CallFault::Lost | CallFault::Closed) => Cause::Lost,
+            Declined::BySession(CallFault::PeerAway) => Cause::PeerAway,
+            Declined::BySession(CallFault::OutOfMemory(_)) | Declined::OutOfMemory =>
+                Cause::NoMemory,
+            Declined::Unwatched => Cause::Unwatched,
+            Declined::BySession(_) => Cause::Other,
         }
     }
 }

@@ -6,25 +6,30 @@ use std::collections::BTreeMap;
 use std::time::Instant;
 use ymx_policy::Reason;
 
-/// How a connection may have ended.
-pub(crate) const ENDINGS: &str = "ended connection_failed idle reset lost no_memory refused";
-
-/// Why a connection may have got no stream.
-pub(crate) const CAUSES: &str = "lost peer_away no_memory unwatched other";
-
-/// Why a connection to the target may not have been made.
+/// The labels under which it is counted why connections to the target could not be made, in the order of [`Obstacle`].
 pub(crate) const REASONS: &str = "refused unreachable timed_out no_port no_descriptor other";
+
+/// Why a connection to the target could not be made, as it is counted.
+#[derive(Clone, Copy)]
+enum Obstacle {
+    Refused,
+    Unreachable,
+    TimedOut,
+    NoPort,
+    NoDescriptor,
+    Other,
+}
 
 /// The counts of an endpoint since it began. Each count stays at the greatest `u64`.
 #[derive(Drop)]
 pub struct Counts {
     /// When each connection began that is open, by its number.
     open_since: BTreeMap<u64, Instant>,
-    /// Connections that have ended, by [`ENDINGS`].
+    /// Connections that have ended, by [`Ending`](crate::Ending).
     pub(crate) ended: [u64; 7],
-    /// Connections that got no stream, by [`CAUSES`].
+    /// Connections that got no stream, by [`Cause`](crate::connections::Cause).
     pub(crate) declined: [u64; 5],
-    /// Connections to the target that could not be made, by [`REASONS`].
+    /// Connections to the target that could not be made, by [`Obstacle`].
     pub(crate) unreached: [u64; 6],
     pub(crate) numbers: Numbers,
 }
@@ -76,11 +81,11 @@ impl Counts {
         match event {
             Event::Ended(origin, ended) => {
                 self.end(origin.number);
-                add_to(&mut self.ended, ENDINGS, ended.ending().label());
+                add_at(&mut self.ended, ended.ending() as usize);
             }
             Event::Declined(origin, why) => {
                 self.end(origin.number);
-                add_to(&mut self.declined, CAUSES, why.label());
+                add_at(&mut self.declined, why.cause() as usize);
             }
             Event::Unreached(_, reason) => {
                 // a shortage is a refusal of the system too
@@ -89,7 +94,7 @@ impl Counts {
                     Reason::NoPort | Reason::NoDescriptor | Reason::NoMemory
                 );
                 add(&mut self.numbers.system_refusals, u64::from(is_short));
-                add_to(&mut self.unreached, REASONS, label_of(*reason));
+                add_at(&mut self.unreached, obstacle_of(*reason) as usize);
             }
             Event::Passed(to_peer, from_peer) => {
                 add(&mut self.numbers.to_peer, *to_peer);
@@ -142,24 +147,22 @@ impl Counts {
     }
 }
 
-/// The label of what could not be made for this reason.
-fn label_of(reason: Reason) -> &'static str {
+/// As what this reason is counted.
+fn obstacle_of(reason: Reason) -> Obstacle {
     match reason {
-        Reason::Refused => "refused",
-        Reason::Unreachable => "unreachable",
-        Reason::TimedOut => "timed_out",
-        Reason::NoPort => "no_port",
-        Reason::NoDescriptor => "no_descriptor",
-        _ => "other",
+        Reason::Refused => Obstacle::Refused,
+        Reason::Unreachable => Obstacle::Unreachable,
+        Reason::TimedOut => Obstacle::TimedOut,
+        Reason::NoPort => Obstacle::NoPort,
+        Reason::NoDescriptor => Obstacle::NoDescriptor,
+        _ => Obstacle::Other,
     }
 }
 
-/// Counts one more of what has this one of these labels.
-fn add_to(counts: &mut [u64], labels: &str, label: &str) {
-    for (count, of) in counts.iter_mut().zip(labels.split(' ')) {
-        if of == label {
-            add(count, 1);
-        }
+/// Counts one more in this place.
+fn add_at(counts: &mut [u64], place: usize) {
+    if let Some(count) = counts.get_mut(place) {
+        add(count, 1);
     }
 }
 

@@ -1,6 +1,7 @@
 //! The page of metrics, in Prometheus's text format, version 0.0.4: a row a family.
 
-use crate::counts::{CAUSES, Counts, ENDINGS, REASONS};
+use crate::connections::{CAUSES, ENDINGS};
+use crate::counts::{Counts, REASONS};
 use crate::requests::Standing;
 use std::alloc::{AllocError, Global};
 

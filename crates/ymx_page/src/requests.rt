@@ -50,14 +50,12 @@ pub enum Answer {
     Metrics,
     /// 200 or 503: whether connections are taken.
     Health,
+    /// 405: this path takes these methods alone.
+    NotAllowed(&'static str),
     /// 202: no more are taken from now on. Where nobody can be asked for that the caller answers [`Answer::NotFound`].
     Drain,
     /// 404: there is nothing at this path.
     NotFound,
-    /// 405: this path is only got.
-    WantsGet,
-    /// 405: this path is only posted to.
-    WantsPost,
     /// 400: this is no request.
     Bad,
 }
@@ -100,8 +98,8 @@ fn answer_for(method: &str, path: &str) -> Answer {
         "/metrics" | "/" if gets => Answer::Metrics,
         "/health" if gets => Answer::Health,
         "/drain" if method == "POST" => Answer::Drain,
-        "/metrics" | "/" | "/health" => Answer::WantsGet,
-        "/drain" => Answer::WantsPost,
+        "/metrics" | "/" | "/health" => Answer::NotAllowed("GET, HEAD"),
+        "/drain" => Answer::NotAllowed("POST"),
         _ => Answer::NotFound,
     }
 }
@@ -114,11 +112,14 @@ impl Answer {
         counts: &Counts,
         standing: Standing,
     ) -> Result<String, AllocError> {
-        let not_allowed = "method not allowed\n";
         let (status, words) = match (self, counts.trouble()) {
             (Answer::Metrics, _) => {
                 let page = page(alloc, counts, standing)?;
                 return framed(alloc, "200 OK", page.as_str(), standing);
+            }
+            (Answer::NotAllowed(methods), _) => {
+                let status = format!(in alloc; "405 Method Not Allowed\r\nAllow: {methods}")?;
+                return framed(alloc, status.as_str(), "method not allowed\n", standing);
             }
             (Answer::Health, _) if standing.is_draining => {
                 ("503 Service Unavailable", "draining\n")
@@ -127,8 +128,6 @@ impl Answer {
             (Answer::Health, None) => ("200 OK", "serving\n"),
             (Answer::Drain, _) => ("202 Accepted", "draining\n"),
             (Answer::NotFound, _) => ("404 Not Found", "not found\n"),
-            (Answer::WantsGet, _) => ("405 Method Not Allowed\r\nAllow: GET, HEAD", not_allowed),
-            (Answer::WantsPost, _) => ("405 Method Not Allowed\r\nAllow: POST", not_allowed),
             (Answer::Bad, _) => ("400 Bad Request", "bad request\n"),
         };
         framed(alloc, status, words, standing)

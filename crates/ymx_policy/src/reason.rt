@@ -13,13 +13,13 @@ pub enum Reason {
     Unreachable,
     TimedOut,
     Reset,
+    /// The system has this number for it, or 0 where it gives none.
+    Other(i32),
     /// No port of this machine is left to connect from.
     NoPort,
     NoDescriptor,
     NoMemory,
     NoThread,
-    /// The system has this number for it, or 0 where it gives none.
-    Other(i32),
 }
 
 impl Reason {
