@@ -327,7 +327,7 @@ YMX_API int64_t ymx_forget(ymx_session *session, uint32_t id);
  * still name it.
  *
  * So nothing is lost, as it is by a ymx_forget before the peer's end. But a peer that never ends the stream keeps it
- * among the YMX_MOST_STREAMS: whoever won't wait for that calls ymx_forget in its place.
+ * among the YMX_MOST_STREAMS: a caller that won't wait for that calls ymx_forget in its place.
  *
  * Refused with YMX_E_CLOSED, YMX_E_NO_STREAM. */
 YMX_API int64_t ymx_release(ymx_session *session, uint32_t id);
@@ -348,7 +348,7 @@ YMX_API int64_t ymx_shrink_spare(ymx_session *session);
 
 /* ---- the session as a whole */
 
-/* Asks the peer for a sign of life, and returns the number of the ping (ping). A ping stays pending until ymx_ponged
+/* Pings the peer, and returns the number of the ping (ping). A ping stays pending until ymx_ponged
  * has said that its answer is back. So collect each one, even if nobody waits for its answer: after
  * YMX_MOST_PINGS_PENDING that nobody collects, no more are taken.
  *
