@@ -9,11 +9,11 @@ prints with the blocks of output that follow it in the same section.
 - What lines print that end is compared letter by letter; a block of output may stand for some commands that print the
   same. What a line that serves prints is compared but for its numbers, of which only the ports that are shown must agree.
 - `<!-- not run: WHY -->` in the line above a block leaves it out. `<!-- needs: COMMAND.. -->` leaves it out where these
-  commands aren't there.
+  commands aren't there. LINE, a line of commands, leaves out the block in which it stands: a test before has run it.
 
 It says which failed, how many were run and how many were not, and ends with 'N passed, M failed'.
 
-usage: documents.py CLONE    a copy of the repository with the program in its out/
+usage: documents.py CLONE [LINE..]    a copy of the repository with the program in its out/
 """
 
 import contextlib
@@ -50,7 +50,7 @@ COMMAND = re.compile(r"^(?:\$ |ymx |\./|c/|release/|tests/|cc |go |cargo |pip )"
 class Block:
     def __init__(self, path, line, mark, word, text):
         self.name = f"{path.relative_to(ROOT)}:{line}"
-        self.mark, self.word, self.text, self.outputs = mark, word, text, []
+        self.mark, self.word, self.text, self.lines, self.outputs = mark, word, text, set(text.splitlines()), []
 
 
 def blocks_of(path):
@@ -78,7 +78,7 @@ def blocks_of(path):
 def begun(line, folder, said):
     """These words in a shell, and all that they begin, which ends with this."""
     bin = folder / "bin"
-    words = {**os.environ, "PATH": f"{bin}:{os.environ['PATH']}", "GOCACHE": str(folder / "go")}
+    words = {**os.environ, "PATH": f"{bin}:{os.environ['PATH']}"}
     process = subprocess.Popen(["sh", "-e", "-c", line], cwd=folder / "clone", env=words, start_new_session=True,
                                stdin=subprocess.DEVNULL, stdout=said, stderr=subprocess.STDOUT)
     try:
@@ -215,6 +215,8 @@ def tried(block):
 
 def fate(block):
     """Whether it is run, and if not, why."""
+    if not block.lines.isdisjoint(sys.argv[2:]):
+        return "run before"
     if block.mark == "needs":
         absent = [word for word in block.word.split() if not shutil.which(word)]
         return f"no {absent[0]} (tools/packages.sh)" if absent else "run"
@@ -224,6 +226,9 @@ def fate(block):
 def main():
     documents = [ROOT / "README.md", *sorted(ROOT.glob("docs/*.md")), *sorted(ROOT.glob("bindings/*/README.md"))]
     blocks = [block for path in documents for block in blocks_of(path)]
+    for line in sys.argv[2:]:
+        if sum(line in block.lines for block in blocks) != 1:
+            sys.exit(f"FAIL  not just one block has the line {line}")
     fates = Counter(map(fate, blocks))
     wanted = [block for block in blocks if fate(block) == "run"]
     with ThreadPoolExecutor(4) as pool:
@@ -231,8 +236,8 @@ def main():
     for block, wrong in zip(wanted, results):
         if wrong:
             print(f"FAIL  {block.name}: {wrong}")
-    print(f"{fates['run']} blocks of commands were run, {fates['not run']} are marked as not run")
-    for why in fates.keys() - {"run", "not run"}:
+    print(f"{fates['run']} blocks of commands were run, {fates['run before']} were run by tests before, {fates['not run']} are marked as not run")
+    for why in fates.keys() - {"run", "run before", "not run"}:
         print(f"--    {fates[why]} blocks of commands: left out: {why}")
     failed = sum(wrong is not None for wrong in results)
     print(f"{len(wanted) - failed} passed, {failed} failed")

@@ -1,6 +1,7 @@
 #!/bin/sh
 # Runs what the documents show: documents.py says how. It proves nothing: where the release is of other sources, the
-# program is the one of ./ymx, and the library for C is the released one.
+# program is the one of ./ymx, and the library for C is the released one. Each word is a line of commands whose block isn't run,
+# as a test before has run it.
 set -eu
 here=$(cd "$(dirname "$0")" && pwd)
 . "$here/over.sh"
@@ -13,4 +14,4 @@ if ! "$root/release/library.sh" "$scratch/libymx_c.a" > "$scratch/said" 2>&1; th
     gzip -dc "$root/release/$(uname -m)/libymx_c.a.gz" > "$scratch/libymx_c.a"
     export YMX_ARCHIVE="$scratch/libymx_c.a"
 fi
-python3 -B "$here/documents.py" "$scratch/clone"
+python3 -B "$here/documents.py" "$scratch/clone" "$@"

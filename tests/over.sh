@@ -136,6 +136,40 @@ fail() {
     exit 1
 }
 
+# ---- tests that are run once
+
+# once NAME WORD PATH..: where the word is `--once`, ends a script that has passed here before, with a line that says so, if all
+# is as it was then: the sources of the program and of the library for C, the kit, the release, and these files and folders of
+# the repository. Any other run has to call `passes_now` once it has passed; until then nothing says that it has.
+once() {
+    note=$root/out/passed/$1 word=$2
+    shift 2
+    now=$(sum_of_all "$@")
+    if [ "$word" = --once ] && [ "$(sed -n 1p "$note" 2> /dev/null)" = "$now" ]; then
+        echo "not run again: it passed on $(sed -n 2p "$note") with the same sources, kit, release and tests"
+        exit
+    fi
+    rm -f "$note"
+}
+
+# passes_now: notes that the script has passed, where that can be kept
+passes_now() {
+    if mkdir -p "${note%/*}" 2> /dev/null && [ -w "${note%/*}" ]; then
+        printf '%s\n' "$now" "$(date -u +%F)" > "$note.$$"
+        mv "$note.$$" "$note"
+    fi
+}
+
+# sum_of_all PATH..: a hash of all that `once` names
+sum_of_all() {
+    sources=$("$root/release/sources.sh")
+    library=$("$root/release/sources.sh" ymx_c)
+    kit='no kit'
+    if command -v rt > /dev/null; then kit=$(rt version); fi
+    files=$(cd "$root" && find release "$@" \( -name out -o -name __pycache__ \) -prune -o -type f -print | LC_ALL=C sort | tr '\n' '\0' | xargs -0 sha256sum)
+    printf '%s\n' "$sources" "$library" "$kit" "$files" | sha256sum | cut -d ' ' -f 1
+}
+
 # ---- the program and its crates
 
 # find_program: `ymx` is the program, as ./ymx finds or builds it, or the one whose path YMX has

@@ -3,7 +3,8 @@
 # a machine; the program's selftest, scripts, parts in C, and the program from outside; and the library for C with programs in C, linked
 # with musl. What counts threads or memory of the program is left out, as qemu has some of its own. So is what no tool is here
 # for: qemu and the libraries are fetched from Debian's packages where they aren't installed, and the programs in C want the
-# kit's clang. With --quick only the first run, selftest and scripts.
+# kit's clang. With --quick only the first run, selftest and scripts. With --once it isn't run again where all of it has passed
+# with all that it depends on (`once` of over.sh).
 set -eu
 here=$(cd "$(dirname "$0")" && pwd)
 . "$here/../over.sh"
@@ -21,6 +22,7 @@ if [ "$(uname -m)" != x86_64 ]; then
     exit
 fi
 [ "$(sed -n 's/^sources: //p' "$root/release/RELEASE")" = "$("$root/release/sources.sh")" ] || shut 'arm64 under qemu' 'the release was made from other sources'
+[ "${1-}" = --quick ] || once arm "${1-}" ymx tests bench c examples tools
 qemu=$(command -v qemu-aarch64-static || true)
 if [ -z "$qemu" ]; then
     "$root/tools/debian.sh" qemu-user-static amd64 > "$scratch/said" 2>&1 || shut 'arm64 under qemu' "$(cat "$scratch/said")"
@@ -117,4 +119,5 @@ else
     in_c refused_memory "$root/tests/capi/refused_memory.c" --wrap=malloc --wrap=realloc --wrap=free
     in_c pair "$root/examples/c/pair.c"
 fi
+[ $failed != 0 ] || [ $omitted != 0 ] || passes_now
 counted

@@ -43,6 +43,12 @@ for _ in 1 2 3 4 5; do
     [ "$took" -ge 3000 ] || break
 done
 [ "$took" -lt 3000 ] || fail "the first use took $took ms"
+# the rest of the README's first run
+PATH=$scratch/bare ./ymx frames < examples/hello.yamux > got || fail 'it shows no frames of its input'
+cmp got wanted || fail 'of its input it prints something else'
+printf 'connection %s bytes echoed\n' '1: 0' '2: 1' '3: 300000' > echoed
+PATH=$scratch/bare ./ymx selftest > got || fail 'its selftest fails'
+cmp got echoed || fail 'its selftest prints something else'
 
 # only_says LINE COMMAND..: the command fails, and says this line alone
 only_says() {
