@@ -1,8 +1,9 @@
 /* Loaded before the C library (LD_PRELOAD), this makes one allocation of a program fail: the one whose number,
-   counted from 1, the variable FAIL_AT gives; or each of so many bytes or more as FAIL_FROM_BYTES gives. Or it
-   refuses one thread: the one whose number FAIL_THREAD_AT gives; or one call about the readiness of descriptors,
-   to make a set, to change it or to wait for it: the one whose number FAIL_POLL_AT gives. If it came to one of
-   those that have a number, the file that the variable FAILED names is there afterwards. */
+   counted from 1, the variable FAIL_AT gives, of all or of those that are made while the file is there that
+   COUNT_WHILE names; or each of so many bytes or more as FAIL_FROM_BYTES gives. Or it refuses one thread: the one
+   whose number FAIL_THREAD_AT gives; or one call about the readiness of descriptors, to make a set, to change it or
+   to wait for it: the one whose number FAIL_POLL_AT gives. If it came to one of those that have a number, the file
+   that the variable FAILED names is there afterwards. */
 #define _GNU_SOURCE
 #include <dlfcn.h>
 #include <errno.h>
@@ -15,6 +16,7 @@
 extern void *__libc_malloc(size_t size);
 extern void *__libc_realloc(void *block, size_t size);
 
+static const char *count_while;
 static long calls, fail_at, fail_from_bytes, threads, fail_thread_at, polls, fail_poll_at;
 
 static long number_in(const char *variable)
@@ -25,6 +27,7 @@ static long number_in(const char *variable)
 
 __attribute__((constructor)) static void begin(void)
 {
+    count_while = getenv("COUNT_WHILE");
     fail_at = number_in("FAIL_AT");
     fail_from_bytes = number_in("FAIL_FROM_BYTES");
     fail_thread_at = number_in("FAIL_THREAD_AT");
@@ -54,7 +57,7 @@ static int fails(long *count, long wanted)
 static int fails_of(size_t size)
 {
     if (!fail_from_bytes || size < (size_t)fail_from_bytes)
-        return fails(&calls, fail_at);
+        return (!count_while || !access(count_while, F_OK)) && fails(&calls, fail_at);
     errno = ENOMEM;
     return 1;
 }

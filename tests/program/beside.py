@@ -24,7 +24,7 @@ RST = 8
 IDLE = 300
 MEGABYTE = random.Random(5).randbytes(1_000_000)
 AT_ONCE = 65_536
-# So many users come at once, whose streams come in a few pieces of data: a field of `struct tcp_info` of linux/tcp.h counts them.
+# So many users come, and send, at once: that comes in a few pieces of data, which a field of `struct tcp_info` of linux/tcp.h counts.
 AT_ONCE_USERS, FEW = 60, 6
 PIECES, PIECES_AT = struct.Struct("=I"), 152
 # How much of a wire the system may hold unsent, and how much a frame carries at most.
@@ -293,8 +293,14 @@ def waits_on_a_slow_line(peer, target):
     return most
 
 
+def pieces_of(connection):
+    """In how many pieces bytes have come so far."""
+    return PIECES.unpack_from(connection.getsockopt(socket.IPPROTO_TCP, socket.TCP_INFO, 256), PIECES_AT)[0]
+
+
 def users_at_once():
-    """Users who wait at the listener together are taken together: their streams come to the peer in a few pieces."""
+    """Users who wait at the listener together are taken together: their streams come to the peer in a few pieces. So does what all
+    of them send then."""
     program, connection = local()
     place = program.place()
     program.process.send_signal(signal.SIGSTOP)
@@ -302,8 +308,16 @@ def users_at_once():
     program.process.send_signal(signal.SIGCONT)
     for number in range(AT_ONCE_USERS):
         assert take(connection, HEADER.size) == frame(WINDOW, SYN, 2 * number + 1, 0)
-    pieces = PIECES.unpack_from(connection.getsockopt(socket.IPPROTO_TCP, socket.TCP_INFO, 256), PIECES_AT)[0]
+    pieces = pieces_of(connection)
     assert pieces <= FEW, f"{AT_ONCE_USERS} streams in {pieces} pieces"
+    program.process.send_signal(signal.SIGSTOP)
+    for user in users:
+        user.sendall(b"?")
+    program.process.send_signal(signal.SIGCONT)
+    came = sorted(take(connection, HEADER.size + 1) for _ in users)
+    assert came == [frame(DATA, 0, 2 * number + 1, 1) + b"?" for number in range(AT_ONCE_USERS)], came
+    pieces = pieces_of(connection) - pieces
+    assert pieces <= FEW, f"the words of {AT_ONCE_USERS} users in {pieces} pieces"
     program.process.kill()
     program.end()
     for user in users:

@@ -17,7 +17,7 @@ import time
 import raw
 from beside import Peer
 from kept import finish, local_kept, show
-from links import which
+from links import sound, which
 from raw import ACK, ANY, FIN, NOBODY, PING, SYN, WINDOW, Program, accept, break_off, call, frame, free_place, has_ended, is_cut
 from raw import listen, take
 from silence import question
@@ -32,10 +32,14 @@ EARLY = 0.1
 LONG, AT_ONCE, PAUSE = 1.3, 0.7, 1
 # How many users come beside a dead link, and how many seconds half of them take at most.
 USERS, MEDIAN = 41, 0.1
+# How many users come whom one of two links alone can take, beside one that it has, and how many seconds one of them takes at most.
+TURNS, TURN = 10, 0.3
 # How many users come where there are descriptors for two, and how many seconds half of the others wait for one at most.
 WAITING, SHORT = 13, 0.2
 # How many strangers come, one after another, and how many users, of each of whom a line is logged that a short pipe can't hold.
 STRANGERS, MANY = 40, 120
+# From so many addresses others come together.
+ADDRESSES = [f"127.0.0.{number}" for number in range(2, 10)]
 # What sets the size of a pipe, of linux/fcntl.h.
 F_SETPIPE_SZ = 1_031
 # How often what a loaded machine may hold up is tried.
@@ -155,6 +159,22 @@ def beside_a_dead_link(*words):
     stays.close()
 
 
+def beside_a_silent_link():
+    """Where the peer of the other link hasn't spoken yet, the one that has a user takes the next one too, and soon."""
+    listener, address = listen()
+    program = Program("local", "-v", "--links", "2", "--listen", ANY, "--peer", address)
+    links = [Peer(accept(listener)) for _ in range(2)]
+    sound(links[0])
+    place, took = program.place(), []
+    for _ in range(TURNS):
+        stays = call(place)
+        number = await_stream(links[0])
+        took.append(served(place, links[0]))
+        finish(links[0], number, stays)
+    # (each of them, where the link's turn is forgotten)
+    assert min(took) < TURN, f"users wait for {took} seconds"
+
+
 def logs_of(program, text):
     """Waits for a line with this text."""
     while text not in (line := program.line()):
@@ -272,6 +292,21 @@ def lines_of_strangers():
     assert 1 <= count <= 2 + seconds, f"{count} lines in {seconds:.1f} seconds"
 
 
+def lines_of_several_strangers():
+    """What one address causes leaves out no line of another's."""
+    program = Program("remote", "-v", "--keep", "--bind", ANY, "--target", NOBODY, "--from", "127.0.0.1")
+    host, port = program.place().split(":")
+    for address in ADDRESSES:
+        assert is_closed(socket.create_connection((host, int(port)), source_address=(address, 0))), "it is let in"
+    show(call(f"{host}:{port}"))
+    lines = ""
+    while " has come " not in (line := program.process.stderr.readline().decode()):
+        assert line, "it has ended"
+        lines += line
+    lacking = [address for address in ADDRESSES if f"ymx: rejected a peer from {address}:" not in lines]
+    assert not lacking, f"no line of {lacking}: {lines!r}"
+
+
 TESTS = (
     *((f"a silent peer of {name}{' that spoke' * speaks}", a_silent_peer, (name, speaks))
       for name in ("local", "remote") for speaks in (False, True)),
@@ -281,9 +316,11 @@ TESTS = (
     ("a local that connects again", a_local_connects_again, ()),
     ("users beside a dead link", beside_a_dead_link, ()),
     ("users beside a dead link, with --keep", beside_a_dead_link, ("--keep",)),
+    ("users beside a silent link", beside_a_silent_link, ()),
     *((("a descriptor that comes free", a_descriptor_that_comes_free, ()),) if raw.COUNTS else ()),
     ("lines that come", lines_that_come, ()),
     ("lines of strangers", lines_of_strangers, ()),
+    ("lines of several strangers", lines_of_several_strangers, ()),
     ("lines that nobody read", lines_that_nobody_read, ()),
 )
 

@@ -13,6 +13,7 @@ import random
 import re
 import socket
 import sys
+import tempfile
 import time
 
 import raw
@@ -263,6 +264,45 @@ def streams_without_memory():
     while not lines or lines[-1] != GONE:
         lines.append(program.line())
     assert "ymx: out of memory\n" in lines, lines
+
+
+@preloads
+def a_connection_without_memory():
+    """Of the allocations that a stream and its connection take each is refused in turn. Where the log says that a connection ended
+    for lack of memory, which is so of some, it is counted under that word, and elsewhere under no other."""
+    target, address = listen()
+    seen, number = 0, 0
+    with tempfile.TemporaryDirectory() as folder:
+        now, refused_one = f"{folder}/now", f"{folder}/refused"
+        while number == 0 or os.path.exists(refused_one):
+            number += 1
+            remove(refused_one)
+            page = free_place()
+            variables = {"FAIL_AT": str(number), "COUNT_WHILE": now, "FAILED": refused_one}
+            program = preloaded("remote", "-v", "--bind", ANY, "--target", address, "--status", page, variables=variables)
+            peer = call(program.place())
+            assert is_served(peer)
+            open(now, "w").close()
+            peer.sendall(frame(WINDOW, SYN, 1, 0))
+            next_frame(peer)
+            remove(now)
+            has_ended = "ymx_connections_ended_total"
+            counts = {label: count for (family, label), count in labelled(page) if family == has_ended and count}
+            leave(peer)
+            lacks = "0 bytes to the peer (no memory)" in program.end()[1]
+            assert counts == ({"no_memory": 1} if lacks else {}), (number, counts)
+            seen += lacks
+    assert seen, f"none of {number} allocations was a connection's"
+
+
+def labelled(page):
+    """The samples of the page that have a label."""
+    return [(name, count) for name, count in parse(get(page, "/metrics")[2]).items() if isinstance(name, tuple)]
+
+
+def remove(file):
+    if os.path.exists(file):
+        os.remove(file)
 
 
 def peers_without_keep():
@@ -580,6 +620,7 @@ TESTS = (
     ("from where one calls after another", from_where_one_calls_after_another, ()),
     ("where a called one is", where_a_called_one_is, ()),
     ("streams without memory", streams_without_memory, ()),
+    ("a connection without memory", a_connection_without_memory, ()),
     ("--peers without --keep", peers_without_keep, ()),
     ("a fault among peers", a_fault_among_peers, ()),
     ("no thread", no_thread, (1, "--peers", "2")),

@@ -22,6 +22,8 @@ from standard import await_listener, listens
 
 # How many bytes of a request are read at most.
 REQUEST = 8_192
+# So many are answered at once, and one more has the place of the one that came first.
+AT_ONCE = 16
 # How often what a loaded machine may hold up is tried.
 ATTEMPTS = 5
 SAMPLE = re.compile(r'([a-z_:]+)(?:\{([a-z_]+)="([a-z_]+)"\})? ([0-9]+)')
@@ -343,6 +345,35 @@ def stuck_ones():
     raise AssertionError("others were held up")
 
 
+def too_many_ask():
+    """As many as are answered at once say nothing; one who asks slowly comes, and all but one of so many more. They take the places of
+    those who came first, and he is answered. Where this process is held up until all are closed that says nothing; so it is tried
+    again."""
+    tunnel = Tunnel()
+    for _ in range(ATTEMPTS):
+        first = [call(tunnel.near) for _ in range(AT_ONCE)]
+        slow = call(tunnel.near)
+        slow.sendall(b"GET /hea")
+        later = [call(tunnel.near) for _ in range(AT_ONCE - 1)]
+        while any(map(is_open, first)) and is_open(later[-1]):
+            time.sleep(0.001)
+        answer = answered(slow, b"lth HTTP/1.1\r\n\r\n")
+        if answer and all(map(is_open, later)):
+            assert answer == b"HTTP/1.1 200"
+            tunnel.kill()
+            return
+    raise AssertionError("the first ones keep others out")
+
+
+def answered(connection, rest):
+    """How the answer begins once the rest of a request is sent, or nothing where the connection is closed."""
+    try:
+        connection.sendall(rest)
+        return take(connection, 12)
+    except OSError:
+        return b""
+
+
 def address_in_use():
     """Where it can't listen at the address nothing begins, and it says why."""
     listener, address = listen()
@@ -631,6 +662,7 @@ TESTS = (
     ("answers", answers, ()),
     ("a line in parts", parts, ()),
     ("stuck ones", stuck_ones, ()),
+    ("too many ask", too_many_ask, ()),
     ("address in use", address_in_use, ()),
     ("drains", drains, ()),
     ("drains with --keep", drains, (("--keep",), ("--keep",))),
