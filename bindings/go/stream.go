@@ -454,10 +454,16 @@ func (st *Stream) refused(answer int64) error {
 	return err
 }
 
-// flush waits until it holds that these bytes of the stream are out, or all that was due is: a reset or the peer's end
-// may have made them needless.
+// flush has what is due sent, and waits until it holds that these bytes of the stream are out, or all that was due is: a reset or
+// the peer's end may have made them needless.
 func (st *Stream) flush(cond *sync.Cond, areOut func() bool) error {
 	s := st.session
+	if areOut() {
+		if s.due || len(s.rest) > 0 {
+			s.sender.Signal() // the caller doesn't wait for it, so the writing goroutine sends it
+		}
+		return nil
+	}
 	enough := s.drains
 	if s.due {
 		enough++
