@@ -19,7 +19,8 @@ const lastReads = time.Second
 // Session is one side of a connection. All its calls may be made by many goroutines at once.
 //
 // One goroutine at a time reads, feeds, and wakes those who wait for a stream that was touched: over a socket the only call
-// that waits for the peer, and otherwise a goroutine of the session. Who has bytes to send emits them into one block and
+// that waits for the peer, and otherwise a goroutine of the session. What that one reads, a Read that waits copies itself, without the
+// lock, once it is woken. Who has bytes to send emits them into one block and
 // writes it, as far as the connection takes it at once; another goroutine writes the rest. Nobody holds the lock while it
 // reads from the connection or writes to it.
 type Session struct {
@@ -71,6 +72,8 @@ type Session struct {
 	isReading     bool        // somebody reads from the connection, or feeds what came
 	reader        *sync.Cond  // what the call that reads from the connection would wait for otherwise; nil where none reads
 	isInterrupted bool        // that call shall look anew
+	loan          *loan       // of the block that is fed, where Reads may copy from it later; or nil
+	loans         [2]loan     // the blocks from which Reads have still to copy
 	isDeaf        bool        // nobody reads any more
 	isResting     bool        // the reading goroutine leaves it to calls that wait, for the time being
 	unfed         []byte      // what a call has read, and the library doesn't take before answers are out

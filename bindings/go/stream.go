@@ -14,7 +14,7 @@ type Stream struct {
 	id      uint32
 	sending sync.Mutex // one Write at a time
 
-	// The session's lock guards all below. Those of one byte stand together, so that the whole takes 448.
+	// The session's lock guards all below. Those of one byte stand together, so that the whole takes no more than 512.
 	nothing    bool // a read would wait
 	stalled    bool // a write would wait
 	finished   bool // our end is on its way, or out
@@ -33,11 +33,12 @@ type Stream struct {
 	reading  deadline
 	writing  deadline
 
-	place  []byte // where a Read that waits wants its bytes; nil where none has a seat
-	placed int    // how many are there
-	rest   []byte // what has come after Close, or before the session ended
-	end    error  // what Read returns after that, once the library has forgotten the stream; nil before
-	last   error  // what it returns there in place of that, and at once, as Close has decided; or nil
+	place  []byte  // where a Read that waits wants its bytes; nil where none has a seat
+	placed int     // how many have come for it
+	pieces []piece // what of them that Read has still to copy there
+	rest   []byte  // what has come after Close, or before the session ended
+	end    error   // what Read returns after that, once the library has forgotten the stream; nil before
+	last   error   // what it returns there in place of that, and at once, as Close has decided; or nil
 
 	closedAt time.Time
 	opening  waiting
@@ -176,7 +177,9 @@ func (st *Stream) await(buffer []byte) int {
 		s.core.unseat(st.id)
 	}
 	st.place = nil
-	return st.placed
+	count := st.placed
+	st.copyPieces()
+	return count
 }
 
 // leastRead is how many bytes a call of a stream reads from the connection at once, at least: most frames are no longer.
@@ -211,13 +214,24 @@ func (st *Stream) awaitPeer(cond *sync.Cond, most int) {
 	}
 }
 
-// deliver takes payload that has come for a Read that waits, and says how much. What more comes, waits for the next Read.
+// deliver takes payload that has come for a Read that waits, and says how much. What more comes, waits for the next Read. Where the
+// block is lent, the Read copies it itself, once it is woken.
 func (st *Stream) deliver(bytes []byte) int {
 	s := st.session
 	if last := len(s.passed) - 1; last < 0 || s.passed[last] != st {
 		s.passed = append(s.passed, st)
 	}
-	count := copy(st.place[st.placed:], bytes)
+	place := st.place[st.placed:]
+	count := len(bytes)
+	if len(place) < count {
+		count = len(place)
+	}
+	if s.loan != nil && count >= leastPiece {
+		s.loan.readers++
+		st.pieces = append(st.pieces, piece{place, bytes[:count], s.loan})
+	} else {
+		copy(place, bytes[:count])
+	}
 	st.placed += count
 	if st.placed == len(st.place) {
 		s.core.unseat(st.id)
