@@ -53,8 +53,12 @@ type Session struct {
 	pings     map[uint32]*ping
 	block     *[blockSize]byte // for what is emitted; nil while nothing is
 	rest      []byte           // what of it the connection has not taken
+	next      *[blockSize]byte // for what goes out behind it; nil while nothing does
+	filled    int              // how many bytes stand there
+	called    int              // how many bytes those have who were called to put theirs there, and have not come yet
 	out       outgoing
 	drains    uint64      // emissions after which nothing was due
+	inRest    uint64      // how many of them are out once the rest is
 	outside   uint64      // how many of them the connection has taken
 	flushing  []*Stream   // of which calls wait for their bytes to be out
 	passed    []*Stream   // of which a Read that waits has got bytes by the feed that is under way
@@ -368,6 +372,7 @@ func (s *Session) fill() bool {
 	if !s.due {
 		s.drains++
 	}
+	s.inRest = s.drains
 	s.emitted.Broadcast()
 	s.drained()
 	s.giveBlock()
@@ -381,12 +386,17 @@ func (s *Session) takeBlock() {
 	}
 }
 
-// giveBlock gives it back, once the connection has taken all, or takes no more.
+// giveBlock gives it back, and the one behind it, once the connection has taken all, or takes no more.
 func (s *Session) giveBlock() {
-	if s.block != nil && !s.busy && (s.over || len(s.rest) == 0) {
-		s.rest = nil
-		blocks.Put(s.block)
-		s.block = nil
+	if s.busy || len(s.rest) > 0 && !s.over {
+		return
+	}
+	s.rest, s.filled = nil, 0
+	for _, block := range []**[blockSize]byte{&s.block, &s.next} {
+		if *block != nil {
+			blocks.Put(*block)
+			*block = nil
+		}
 	}
 }
 
@@ -401,8 +411,50 @@ func (s *Session) through(id uint32, bytes []byte) int {
 	if filled > 0 {
 		s.drains++ // nothing is due after it
 	}
+	s.inRest = s.drains
 	s.giveBlock()
 	return taken
+}
+
+// ahead has bytes of a stream go into frames while somebody writes those before them, behind what is due, and says how many. There
+// is room for them.
+func (s *Session) ahead(id uint32, bytes []byte) int {
+	if s.next == nil {
+		s.next = blocks.Get().(*[blockSize]byte)
+	}
+	if s.due {
+		s.filled += s.core.emit(s.next[s.filled:])
+		s.due = s.filled == blockSize
+		if !s.due {
+			s.drains++
+		}
+		s.emitted.Broadcast()
+	}
+	taken := 0
+	if !s.due {
+		var count int
+		taken, count = s.core.writeThrough(id, bytes, s.next[s.filled:])
+		if count > 0 {
+			s.filled += count
+			s.drains++
+		}
+	}
+	if s.filled == 0 {
+		s.inRest = s.drains
+	}
+	return taken
+}
+
+// hasRoom says whether a frame can go ahead, beside so many bytes of others.
+func (s *Session) hasRoom(others int) bool { return s.filled+others <= blockSize-headerSize-leastTurn }
+
+// turnOver has what went ahead be written next, once all before it is out.
+func (s *Session) turnOver() {
+	if len(s.rest) == 0 && s.filled > 0 {
+		s.block, s.next = s.next, s.block
+		s.rest, s.filled = s.block[:s.filled], 0
+		s.inRest = s.drains
+	}
 }
 
 // writeRest writes what was emitted, without the lock, and notes what the connection took.
@@ -417,6 +469,7 @@ func (s *Session) writeRest(write func([]byte) (int, error)) error {
 		s.rest = rest[count:]
 		s.sent(rest[:count])
 		s.drained()
+		s.turnOver()
 		if s.failure != nil && !s.due && len(s.rest) == 0 {
 			go s.end(s.failure)
 		}
@@ -451,15 +504,19 @@ func (s *Session) writeHere() bool {
 // isOccupied says whether somebody writes to the connection, or has still to.
 func (s *Session) isOccupied() bool { return s.busy || s.full || len(s.rest) > 0 }
 
-// nextTurn lets the first of those who wait for the connection have it, if it is free and nothing else is to go out.
+// nextTurn calls those who wait for the connection, the first to come first: as many as have room ahead of others, also if it is free
+// and nothing else is to go out.
 func (s *Session) nextTurn() {
-	if len(s.turns) == 0 || s.isOccupied() || s.due {
+	if !s.isOccupied() && s.due {
 		return
 	}
-	first := s.turns[0]
-	s.leaveTurns(first)
-	first.hasTurn = true
-	first.writable.Broadcast()
+	for len(s.turns) > 0 && s.hasRoom(s.called) {
+		first := s.turns[0]
+		s.leaveTurns(first)
+		s.called += first.waiting
+		first.hasTurn = true
+		first.writable.Broadcast()
+	}
 }
 
 // leaveTurns takes a stream off the list of those that wait for the connection.
@@ -474,10 +531,10 @@ func (s *Session) leaveTurns(stream *Stream) {
 
 // drained notes that all that was emitted is out, if it is, and wakes those who wait for no more than that.
 func (s *Session) drained() {
-	if s.outside == s.drains || len(s.rest) > 0 {
+	if s.outside == s.inRest || len(s.rest) > 0 {
 		return
 	}
-	s.outside = s.drains
+	s.outside = s.inRest
 	s.wakeFlushing()
 }
 

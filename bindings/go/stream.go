@@ -25,7 +25,7 @@ type Stream struct {
 	begins     bool  // its first frame is out
 	ends       bool  // our end is out
 	isFlushing bool  // it is in the session's list of those
-	hasTurn    bool  // its Write may have the connection
+	hasTurn    bool  // its Write was called, as there is room for its bytes
 	waiters    int16 // calls that wait for the peer, and that nothing has woken
 
 	readable sync.Cond // something has come, or the end; or a credit is out
@@ -320,6 +320,9 @@ func (st *Stream) Write(bytes []byte) (int, error) {
 	}
 	before, all := st.taken, len(bytes)
 	err := st.hand(bytes)
+	if err != nil {
+		s.nextTurn() // it may have had a turn
+	}
 	st.waiting = 0
 	fault := st.flush(&st.writable, func() bool { return st.gone >= st.taken || st.closed || st.writing.isPast() })
 	if err == nil {
@@ -354,13 +357,14 @@ func (st *Stream) unsent() error {
 	return ErrTimeout
 }
 
-// leastTurn is how many bytes wait for the connection, so that they go straight into frames. Fewer are copied into the
-// stream's ring where somebody else writes: a frame's payload.
+// leastTurn is how many bytes go straight into frames also where somebody else writes, and wait for room if there is none. Fewer are
+// copied into the stream's ring there: a frame's payload.
 const leastTurn = 16384
 
 // hand gives all of it to the library, as the peer grants credit.
 func (st *Stream) hand(bytes []byte) error {
 	s := st.session
+	st.hasTurn = false
 	for len(bytes) > 0 {
 		st.waiting = len(bytes)
 		if err := st.writeFault(); err != nil {
@@ -372,10 +376,17 @@ func (st *Stream) hand(bytes []byte) error {
 					continue
 				}
 				if s.isOccupied() {
-					if err := st.awaitTurn(); err != nil {
-						return err
+					if !st.hasRoom() {
+						if err := st.awaitTurn(); err != nil {
+							return err
+						}
+						continue
 					}
-					continue
+					if count := s.ahead(st.id, bytes); count > 0 {
+						st.taken += uint64(count)
+						bytes = bytes[count:]
+						continue
+					}
 				}
 			}
 			if count := s.through(st.id, bytes); count > 0 {
@@ -392,7 +403,6 @@ func (st *Stream) hand(bytes []byte) error {
 				continue
 			}
 			if answer != answerWait {
-				s.nextTurn()
 				return st.refused(answer)
 			}
 			st.stalled = true
@@ -409,7 +419,16 @@ func (st *Stream) hand(bytes []byte) error {
 	return nil
 }
 
-// awaitTurn waits until the connection is free, after those who came first.
+// hasRoom says whether bytes of the stream can go ahead. Those who were called keep the room for which they were.
+func (st *Stream) hasRoom() bool {
+	if st.hasTurn {
+		st.hasTurn = false
+		return st.session.hasRoom(0)
+	}
+	return st.session.hasRoom(st.session.called)
+}
+
+// awaitTurn waits until the connection is free, or there is room ahead, after those who came first.
 func (st *Stream) awaitTurn() error {
 	s := st.session
 	since := time.Now()
@@ -422,6 +441,7 @@ func (st *Stream) awaitTurn() error {
 		}
 		st.writable.Wait()
 	}
+	s.called -= st.waiting
 	return nil
 }
 
