@@ -19,9 +19,9 @@ const lastReads = time.Second
 // Session is one side of a connection. All its calls may be made by many goroutines at once.
 //
 // One goroutine at a time reads, feeds, and wakes those who wait for a stream that was touched: over a socket the only call
-// that waits for the peer, and otherwise a goroutine of the session. What that one reads, a Read that waits copies itself, without the
-// lock, once it is woken. Who has bytes to send emits them into one block and
-// writes it, as far as the connection takes it at once; another goroutine writes the rest. Nobody holds the lock while it
+// that waits for the peer, and otherwise a goroutine of the session. What that goroutine reads from a socket, a Read that waits
+// copies itself once it is woken. Who has bytes to send emits them into one block and writes it, as far as the connection takes it at
+// once. Another goroutine writes the rest, and what others have put into a second block meanwhile. Nobody holds the lock while it
 // reads from the connection or writes to it.
 type Session struct {
 	config     *Config
