@@ -83,7 +83,7 @@ type Session struct {
 	unfed         []byte      // what a call has read, and the library doesn't take before answers are out
 	waiters       int         // calls that wait for the peer, and that nothing has woken
 	woken         int         // how many streams the last feed has touched
-	isCrowded     bool        // they were several, and many bytes had come
+	isCrowded     bool        // they were several, many bytes had come, and no Read has still to copy some
 	standby       *time.Timer // for the reading goroutine; nil before the first time
 	isStandingBy  bool        // the timer will have it read, if nobody does
 
