@@ -102,6 +102,25 @@ class Protocols(BothSides):
             near.close()
             await self.gone()
 
+    async def test_the_end_comes_in_a_turn_of_its_own_though_it_came_with_the_last_bytes(self):
+        class Planning(Noting):
+            planned = None
+
+            def data_received(self, data):
+                asyncio.get_running_loop().call_soon(setattr, self, "planned", data)
+
+            def eof_received(self):
+                self.before_end = self.planned
+
+        (_, near), (_, far) = await self.pair()
+        protocol = bring(far, Planning())
+        near.write(b"all")
+        near.write_eof()
+        self.assertIsNone(await asyncio.wait_for(protocol.over, 5))
+        self.assertEqual(protocol.before_end, b"all")
+        near.close()
+        await self.gone()
+
     async def test_a_protocol_is_told_of_an_end_that_came_before_it(self):
         (_, near), (far_reader, far) = await self.pair()
         near.write(b"all")

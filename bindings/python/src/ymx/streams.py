@@ -278,7 +278,9 @@ class StreamTransport(_FlowControlMixin):
 
     def _give(self, is_last: bool = False) -> None:
         """Gives what has come to the protocol, or throws it away after close. The last time also to a reader that has
-        enough. Bytes that come once both sides are closed here reset the stream, so that the peer learns of it."""
+        enough. Bytes that come once both sides are closed here reset the stream, so that the peer learns of it. A program's
+        protocol learns of the end in a turn of the loop of its own, as over TCP."""
+        has_passed = False
         while not self.is_gone and (self._reading or self._closing or is_last):
             data: Optional[bytes] = self._back
             self._back = b""
@@ -289,9 +291,14 @@ class StreamTransport(_FlowControlMixin):
                 self._connection.plan()  # there may be credit to send
                 self._at_end = data == b""
             if not data:
-                return self._tell_end()
+                if has_passed and self.is_brought and not is_last:
+                    self.loop.call_soon(self.touch)
+                else:
+                    self._tell_end()
+                return
             if not self._closing:
                 self._pass(data)
+                has_passed = True
             elif self._is_unwanted():
                 self._session.reset(self._id)
                 self._leave()
