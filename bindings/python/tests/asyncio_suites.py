@@ -33,11 +33,6 @@ SUITES = (
     "test_sendfile.EPollEventLoopTests",
 )
 SECONDS = 60  # for one test
-# they look at a transport that their server may have ended already
-BY_CHANCE = (
-    "test_events.EPollEventLoopTests.test_create_ssl_connection",
-    "test_events.EPollEventLoopTests.test_create_ssl_unix_connection",
-)
 READ_FIRST = "what came before the error is read first"
 IN_FRAMES = "bytes go into frames, so there is no sendfile of the system's"
 IN_WINDOW = "the window takes the whole file, so the cut may come after it"
@@ -109,23 +104,12 @@ def run(test, is_led):
     return (word, text) if word else ("failed", f"nothing within {SECONDS} seconds, or it has crashed")
 
 
-def tried(test, name):
-    """How a test ends over streams. One that fails is tried twice more, and has passed if it passes in both; of those that
-    BY_CHANCE names once in four more is enough."""
-    first = run(test, is_led=True)
-    if first[0] != "failed":
-        return first
-    more, needed = (4, 1) if name in BY_CHANCE else (2, 2)
-    passed = [end for end in (run(test, is_led=True) for _ in range(more)) if end[0] != "failed"]
-    return passed[0] if len(passed) >= needed else first
-
-
 def judged(test):
-    """The same, seen beside asyncio's own transports."""
+    """How a test ends over streams, seen beside asyncio's own transports."""
     name = test.id()[len(PACKAGE) :]
+    word, text = run(test, is_led=True)
     if name in DIFFERS:
-        return as_named(name, run(test, is_led=True)[0])
-    word, text = tried(test, name)
+        return as_named(name, word)
     if word != "failed":
         return word, text
     if run(test, is_led=False)[0] == "failed":
