@@ -67,6 +67,7 @@ struct Shared {
 struct State {
     session: Session,
     streams: HashMap<u32, Waits>,
+    is_notified: bool, // the task is about to look for what is due
     accepting: Waiters,
     opening: Waiters,
     pinging: Waiters,
@@ -79,7 +80,7 @@ struct State {
     given_up: Vec<u32>, // pings for whose answer nobody waits any more
     over: Option<Ended>,
     linger: Duration,
-    moved: Instant, // when bytes last went, or it ended
+    moved: Instant, // when bytes last went since it ended
     farewell: Farewell,
     is_read_out: bool, // nothing more is read
     is_carrying: bool, // bytes of streams are in the block that is under way
@@ -116,6 +117,13 @@ impl State {
         if let Some(waits) = self.streams.get_mut(&id) {
             let both = waits.reader.take().into_iter().chain(waits.writer.take());
             both.for_each(Waker::wake);
+        }
+    }
+
+    /// Bytes have gone. When that was matters once the connection is over.
+    fn note_move(&mut self) {
+        if self.over.is_some() {
+            self.moved = Instant::now();
         }
     }
 
@@ -212,7 +220,7 @@ impl Shared {
         state.opening.wake();
         state.pinging.wake();
         state.ending.wake();
-        self.due.notify_one();
+        self.notify(&mut state);
     }
 
     fn done(&self) {
@@ -313,14 +321,21 @@ impl Shared {
             state.accepting.wake();
         }
         state.opening.wake();
-        self.notify_if_due(&state);
+        self.notify_if_due(&mut state);
         taken
     }
 
-    /// Wakes the task, if it has something to do.
-    fn notify_if_due(&self, state: &State) {
-        if state.session.due() || state.over.is_some() {
+    /// Wakes the task, once for all that becomes due until it looks.
+    fn notify(&self, state: &mut State) {
+        if !std::mem::replace(&mut state.is_notified, true) {
             self.due.notify_one();
+        }
+    }
+
+    /// Wakes the task, if it has something to do.
+    fn notify_if_due(&self, state: &mut State) {
+        if state.session.due() || state.over.is_some() {
+            self.notify(state);
         }
     }
 
@@ -349,6 +364,7 @@ impl Shared {
 
     /// Sends what is due. Whether the connection is over too, and nothing is left.
     fn poll_send(&self, context: &mut Context<'_>) -> Poll<io::Result<bool>> {
+        self.lock().is_notified = false; // first, so that nothing stays that becomes due meanwhile
         loop {
             // anew for each block, as others may write too
             let mut wire = match self.try_wire() {
@@ -408,7 +424,7 @@ impl Shared {
         let before = wire.written;
         let put = wire.poll_write(context);
         if put.is_pending() && wire.written > before {
-            self.lock().moved = Instant::now();
+            self.lock().note_move();
         }
         ready!(put)?;
         match wire.is_awaited {
@@ -444,7 +460,7 @@ impl Shared {
         }
         if count > 0 {
             state.emitted += 1;
-            state.moved = Instant::now();
+            state.note_move();
         }
         state.is_carrying = state.session.unsent_total() < before;
         for at in 0..state.flushing.len() {
@@ -536,6 +552,7 @@ impl Connection {
         let state = State {
             session: Session::new(role, window, 0)?,
             streams: HashMap::new(),
+            is_notified: false,
             accepting: Waiters::default(),
             opening: Waiters::default(),
             pinging: Waiters::default(),
@@ -600,7 +617,7 @@ impl Connection {
 
     fn stream(&self, state: &mut State, id: u32) -> Stream {
         state.streams.insert(id, Waits::default());
-        self.0 .0.due.notify_one();
+        self.0 .0.notify(state);
         Stream::new(&self.0 .0, id)
     }
 
@@ -621,7 +638,7 @@ impl Connection {
         let mut state = self.0 .0.lock();
         state.check()?;
         state.session.go_away()?;
-        self.0 .0.due.notify_one();
+        self.0 .0.notify(&mut state);
         Ok(())
     }
 

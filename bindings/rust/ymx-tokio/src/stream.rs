@@ -41,7 +41,7 @@ impl Stream {
         let mut state = self.shared.lock();
         match state.session.read(self.id, buffer) {
             Ok(Got::Bytes(count)) => {
-                self.shared.notify_if_due(&state); // there may be credit to send
+                self.shared.notify_if_due(&mut state); // there may be credit to send
                 return Poll::Ready(Ok(count));
             }
             Ok(Got::End) => return Poll::Ready(Ok(0)),
@@ -63,7 +63,7 @@ impl Stream {
             }
         };
         state.written(self.id);
-        self.shared.due.notify_one();
+        self.shared.notify(&mut state);
         Poll::Ready(Ok(count))
     }
 
@@ -85,7 +85,7 @@ impl Stream {
         state.check()?;
         state.streams.entry(self.id).or_default().writer = Some(context.waker().clone());
         state.note_flush(self.id);
-        self.shared.due.notify_one();
+        self.shared.notify(&mut state);
         Poll::Pending
     }
 
@@ -133,8 +133,8 @@ impl State {
     /// Notes with which block the last byte of a stream goes, once that is emitted. A reset that comes later changes nothing.
     pub(crate) fn note_block(&mut self, id: u32) {
         let waits = match self.streams.get_mut(&id) {
-            Some(waits) => waits,
-            None => return, // it was dropped meanwhile
+            Some(waits) if waits.goes_with.is_none() => waits,
+            _ => return, // it is known, or the stream was dropped meanwhile
         };
         let (next, is_rest) = self.session.next_of(id);
         let is_due = match next {
@@ -143,7 +143,7 @@ impl State {
         };
         // a session that broke emits no end any more
         let is_cut = self.session.is_reset(id) || waits.is_finished && self.session.fault().is_some();
-        if waits.goes_with.is_none() && !is_due && !is_cut && self.session.unsent(id) == 0 {
+        if !is_due && !is_cut && self.session.unsent(id) == 0 {
             waits.goes_with = Some(self.emitted + u64::from(is_rest)); // the rest of a frame begins the next block
         }
     }
@@ -206,6 +206,6 @@ impl Drop for Stream {
         }
         state.tidy(self.id, false);
         state.opening.wake();
-        self.shared.notify_if_due(&state);
+        self.shared.notify_if_due(&mut state);
     }
 }

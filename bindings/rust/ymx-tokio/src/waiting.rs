@@ -23,7 +23,10 @@ impl Waiters {
     fn fill(&mut self, slot: &mut Option<u64>, waker: &Waker) {
         self.last += u64::from(slot.is_none());
         let number = *slot.get_or_insert(self.last);
-        self.wakers.insert(number, waker.clone());
+        match self.wakers.get_mut(&number) {
+            Some(kept) if kept.will_wake(waker) => {}
+            _ => drop(self.wakers.insert(number, waker.clone())),
+        }
     }
 }
 
