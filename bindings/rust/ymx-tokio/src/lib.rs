@@ -37,6 +37,8 @@ const BLOCK: usize = 65_536;
 const LINGER: Duration = Duration::from_secs(10);
 /// For how long nothing was due when memory goes back, if there is no stream.
 const IDLE: Duration = Duration::from_secs(1);
+/// For how long a peer may not hear that its stream was accepted, if nothing else is said of it.
+const SOON: Duration = Duration::from_millis(20);
 /// For how long is read what has come, once nothing can be written any more.
 const READ_OUT: Duration = Duration::from_secs(1);
 
@@ -68,6 +70,7 @@ struct State {
     session: Session,
     streams: HashMap<u32, Waits>,
     is_notified: bool, // the task is about to look for what is due
+    is_soon: bool,     // it looks within SOON, though nobody wakes it
     accepting: Waiters,
     opening: Waiters,
     pinging: Waiters,
@@ -354,7 +357,7 @@ impl Shared {
     }
 
     async fn send_out(&self) -> io::Result<()> {
-        let alarm = sleep(IDLE);
+        let alarm = sleep(SOON);
         tokio::pin!(alarm);
         while !poll_fn(|context| self.poll_send(context)).await? {
             self.idle(alarm.as_mut()).await;
@@ -364,7 +367,7 @@ impl Shared {
 
     /// Sends what is due. Whether the connection is over too, and nothing is left.
     fn poll_send(&self, context: &mut Context<'_>) -> Poll<io::Result<bool>> {
-        self.lock().is_notified = false; // first, so that nothing stays that becomes due meanwhile
+        self.note_look(); // first, so that nothing stays that becomes due meanwhile
         loop {
             // anew for each block, as others may write too
             let mut wire = match self.try_wire() {
@@ -382,6 +385,12 @@ impl Shared {
                 Some(_) => {}
             }
         }
+    }
+
+    fn note_look(&self) {
+        let mut state = self.lock();
+        state.is_notified = false;
+        state.is_soon = true;
     }
 
     fn try_wire(&self) -> Option<MutexGuard<'_, Wire>> {
@@ -480,18 +489,29 @@ impl Shared {
                 biased;
                 () = self.due.notified() => return,
                 // which is set anew only here, as that costs as much as a small write
-                () = alarm.as_mut() => alarm.as_mut().reset(began + IDLE),
+                () = alarm.as_mut() => alarm.as_mut().reset(Instant::now() + SOON),
+            }
+            if self.lock().session.due() {
+                return;
             }
         }
-        self.shrink_if_idle();
+        if !self.rests() {
+            return;
+        }
         self.due.notified().await;
     }
 
-    fn shrink_if_idle(&self) {
+    /// Before it looks no more until it is woken, gives memory back. Nothing may be due then.
+    fn rests(&self) -> bool {
         let mut state = self.lock();
+        if state.session.due() {
+            return false;
+        }
+        state.is_soon = false;
         if state.streams.is_empty() {
             state.session.shrink_spare();
         }
+        true
     }
 
     async fn ping(&self) -> io::Result<Duration> {
@@ -553,6 +573,7 @@ impl Connection {
             session: Session::new(role, window, 0)?,
             streams: HashMap::new(),
             is_notified: false,
+            is_soon: false,
             accepting: Waiters::default(),
             opening: Waiters::default(),
             pinging: Waiters::default(),
@@ -599,7 +620,11 @@ impl Connection {
             state.check()?;
             match state.session.open() {
                 Err(refused) if refused.name() == "OPENS_PENDING" => Ok(None),
-                opened => Ok(Some(self.stream(state, opened?))),
+                opened => {
+                    let id = opened?;
+                    self.0 .0.notify(state);
+                    Ok(Some(self.stream(state, id)))
+                }
             }
         };
         Waiting::new(&self.0 .0, |state| &mut state.opening, ask).await
@@ -608,16 +633,25 @@ impl Connection {
     /// Waits for a stream of the peer's. Once the peer has hung up, it still gives the streams that came before, and then
     /// `ConnectionAborted`.
     pub async fn accept(&self) -> io::Result<Stream> {
-        let ask = |state: &mut State| match state.session.accept() {
-            Ok(Some(id)) => Ok(Some(self.stream(state, id))),
-            _ => state.check().map(|()| None),
+        let ask = |state: &mut State| {
+            let is_due = state.session.due();
+            match state.session.accept() {
+                Ok(Some(id)) => {
+                    // that it was accepted goes with its first bytes, or soon: the task woken beside one that is spawned for
+                    // the stream would wake a second thread. Only one stream's waits so
+                    if is_due || !state.is_soon {
+                        self.0 .0.notify(state);
+                    }
+                    Ok(Some(self.stream(state, id)))
+                }
+                _ => state.check().map(|()| None),
+            }
         };
         Waiting::new(&self.0 .0, |state| &mut state.accepting, ask).await
     }
 
     fn stream(&self, state: &mut State, id: u32) -> Stream {
         state.streams.insert(id, Waits::default());
-        self.0 .0.notify(state);
         Stream::new(&self.0 .0, id)
     }
 

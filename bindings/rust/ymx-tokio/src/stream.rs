@@ -49,6 +49,7 @@ impl Stream {
             Ok(Got::Wait) | Err(_) => state.check()?,
         }
         state.streams.entry(self.id).or_default().reader = Some(context.waker().clone());
+        self.shared.notify_if_due(&mut state); // the peer may wait to hear that the stream was accepted
         Poll::Pending
     }
 

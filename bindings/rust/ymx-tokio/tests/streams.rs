@@ -287,6 +287,25 @@ async fn flush_and_shutdown_wait_until_all_has_gone() {
     }
 }
 
+/// Whether the stream was just offered, or the task waits for nothing but to be woken. The time is tokio's own.
+#[tokio::test(start_paused = true)]
+async fn a_stream_is_acknowledged_soon_though_nothing_is_done_with_it() {
+    for late in [false, true] {
+        let (near, mut far) = tokio::io::duplex(100);
+        let server = Connection::begin(Role::Server, LEAST_WINDOW, near).unwrap();
+        // Window Updates with SYN for stream 1, and with ACK, by the specification
+        far.write_all(&[0, 1, 0, 1, 0, 0, 0, 1, 0, 0, 0, 0]).await.unwrap();
+        if late {
+            tokio::time::sleep(Duration::from_secs(2)).await;
+        }
+        let _stream = server.accept().await.unwrap();
+        let mut came = [0; 12];
+        let read = tokio::time::timeout(Duration::from_millis(100), far.read_exact(&mut came)).await;
+        read.unwrap().unwrap();
+        assert_eq!(came, [0, 1, 0, 2, 0, 0, 0, 1, 0, 0, 0, 0]);
+    }
+}
+
 /// What a stream's `poll_shutdown` says where nobody else runs meanwhile.
 async fn shut_at_once(stream: &mut Stream) -> Poll<io::Result<()>> {
     poll_fn(|context| Poll::Ready(Pin::new(&mut *stream).poll_shutdown(context))).await
