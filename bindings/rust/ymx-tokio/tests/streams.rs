@@ -227,6 +227,48 @@ async fn what_is_ok_arrives_though_the_program_ends() {
     }
 }
 
+/// Not a test of its own: a program that exits from within as soon as `flush` or `shutdown` is Ok. Its one thread runs the
+/// connection's task only where it waits.
+#[tokio::test]
+async fn a_client_that_exits_at_once() {
+    let word = |name| std::env::var(name).unwrap_or_default();
+    let port: u16 = match word("YMX_EXITS_FROM").parse() {
+        Ok(port) => port,
+        Err(_) => return,
+    };
+    let socket = TcpStream::connect(("127.0.0.1", port)).await.unwrap();
+    let connection = Connection::begin(Role::Client, LEAST_WINDOW, socket).unwrap();
+    let mut stream = connection.open().await.unwrap();
+    stream.write_all(b"hello").await.unwrap();
+    match &*word("YMX_AFTER") {
+        "flush" => stream.flush().await.unwrap(),
+        _ => stream.shutdown().await.unwrap(),
+    }
+    std::process::exit(0);
+}
+
+#[test]
+fn what_is_ok_arrives_though_the_process_exits() {
+    use std::io::Read;
+    let listener = std::net::TcpListener::bind("127.0.0.1:0").unwrap();
+    let port = listener.local_addr().unwrap().port();
+    // by the specification: a Window Update with SYN for stream 1, Data of 5 bytes, and a Window Update with FIN
+    let flushed = b"\0\x01\0\x01\0\0\0\x01\0\0\0\0\0\0\0\0\0\0\0\x01\0\0\0\x05hello".to_vec();
+    let shut = [&flushed[..], b"\0\x01\0\x04\0\0\0\x01\0\0\0\0"].concat();
+    for (after, expected) in [("flush", flushed), ("shutdown", shut)] {
+        let mut client = std::process::Command::new(std::env::current_exe().unwrap())
+            .args(["--exact", "a_client_that_exits_at_once"])
+            .envs([("YMX_EXITS_FROM", &*port.to_string()), ("YMX_AFTER", after)])
+            .stdout(std::process::Stdio::null())
+            .spawn()
+            .unwrap();
+        let mut came = Vec::new();
+        let read = listener.accept().unwrap().0.read_to_end(&mut came);
+        assert!(client.wait().unwrap().success());
+        assert!(read.is_ok() && came == expected, "after {after}: {came:?}");
+    }
+}
+
 /// How long the end of a runtime takes whose peer reads nothing, with 250,000 bytes written.
 fn end_of_runtime(shuts: bool) -> Duration {
     let listener = std::net::TcpListener::bind("127.0.0.1:0").unwrap();
@@ -284,6 +326,41 @@ async fn flush_and_shutdown_wait_until_all_has_gone() {
             }
         }
         assert!(came + 5 >= least, "it has returned, and {came} bytes have come");
+    }
+}
+
+/// The peer resets a stream whose last byte, or end, is under way: the session has given it, and there is no room for it.
+#[tokio::test]
+async fn a_reset_that_comes_after_the_last_byte_changes_nothing() {
+    for shuts in [false, true] {
+        let (near, mut far) = tokio::io::duplex(20);
+        let client = Connection::begin(Role::Client, LEAST_WINDOW, near).unwrap();
+        let mut stream = client.open().await.unwrap();
+        stream.write_all(&ZEROS[..1000]).await.unwrap();
+        let going = |context: &mut Context<'_>, stream: &mut Stream| match shuts {
+            false => Pin::new(stream).poll_flush(context),
+            true => Pin::new(stream).poll_shutdown(context),
+        };
+        // before the task runs, so that it takes all into one block
+        assert!(poll_fn(|context| Poll::Ready(going(context, &mut stream)))
+            .await
+            .is_pending());
+        far.read_exact(&mut [0]).await.unwrap();
+        // by the specification: a Window Update with RST for stream 1
+        far.write_all(&[0, 1, 0, 8, 0, 0, 0, 1, 0, 0, 0, 0]).await.unwrap();
+        let reset = stream.read(&mut [0]).await.unwrap_err();
+        assert_eq!(reset.kind(), ErrorKind::ConnectionReset);
+        assert!(poll_fn(|context| Poll::Ready(going(context, &mut stream)))
+            .await
+            .is_pending());
+        // and a Window Update with SYN, Data, and for the end another Window Update
+        let mut rest = vec![0; 12 + 1012 + if shuts { 12 } else { 0 } - 1];
+        let (gone, read) = tokio::join!(
+            poll_fn(|context| going(context, &mut stream)),
+            far.read_exact(&mut rest)
+        );
+        read.unwrap();
+        gone.unwrap();
     }
 }
 
