@@ -1,9 +1,9 @@
 #!/bin/sh
 # Runs software of others over streams of the bindings, each test of it alone, beside TCP and HashiCorp's package: for Go the
 # tests of net/http, http2, crypto/tls, gRPC and ssh, with net.Listen and net.Dial of a copy of Go led over one session
-# (real/hook.go); for Python hypercorn, and aiohttp, uvicorn, hypercorn and websockets over TLS with downloads that are given up; for Rust rustls. A suite that Debian's packages don't bring here
-# is left out with a word. It takes an hour; the gate runs what takes minutes. With names it runs these alone:
-# `tests/real.sh net/http`.
+# (real/hook.go); for Python hypercorn, and aiohttp, uvicorn, hypercorn and websockets over TLS with downloads that are given
+# up; for Rust rustls and tokio-rustls. A suite that Debian's packages don't bring here is left out with a word. It takes an
+# hour; the gate runs what takes minutes. With names it runs these alone: `tests/real.sh net/http`.
 # Ends with 'N passed, M failed'.
 set -eu
 here=$(cd "$(dirname "$0")" && pwd)
@@ -109,26 +109,29 @@ else
     left_out 'aiohttp, uvicorn, hypercorn and websockets' 'not all stand here' openssl python3-aiohttp python3-hypercorn python3-uvicorn python3-websockets
 fi
 registry=/usr/share/cargo/registry
+# in_rust NAME FILE CRATE DEPENDENCIES: builds and runs a program that reads a certificate and its key, and needs CRATE of Debian's
+in_rust() {
+    is_wanted "${1%% *}" || return 0
+    ls -d "$registry/$3"* > /dev/null 2>&1 || { left_out "$1" "no $registry/$3" "librust-${3%-*}-dev"; return 0; }
+    mkdir -p "$scratch/tls/src"
+    cp "$here/real/$2" "$scratch/tls/src/main.rs"
+    printf '[package]\nname = "tls"\nversion = "0.1.0"\nedition = "2021"\n\n[dependencies]\n%s\n' "$4" > "$scratch/tls/Cargo.toml"
+    program "$1" env -C "$scratch/tls" CARGO_TARGET_DIR="$scratch/tls/target" cargo run -q --offline
+}
+
 if ! command -v cargo > /dev/null; then
     left_out rustls 'no cargo' cargo
-elif is_wanted rustls && ! { ls -d "$registry"/rustls-0.20.* && command -v openssl; } > /dev/null 2>&1; then
-    left_out rustls "no openssl, or no $registry/rustls-0.20" openssl librust-rustls-dev
+elif is_wanted rustls && ! command -v openssl > /dev/null; then
+    left_out rustls 'no openssl' openssl
 elif is_wanted rustls; then
-    mkdir -p "$scratch/tls/src" "$scratch/tls/.cargo"
-    cp "$here/real/tls.rs" "$scratch/tls/src/main.rs"
+    mkdir -p "$scratch/tls/.cargo"
     printf '[source.crates-io]\nreplace-with = "debian"\n[source.debian]\ndirectory = "%s"\n' "$registry" > "$scratch/tls/.cargo/config.toml"
-    cat > "$scratch/tls/Cargo.toml" <<END
-[package]
-name = "tls"
-version = "0.1.0"
-edition = "2021"
-
-[dependencies]
-rustls = { version = "0.20", features = ["dangerous_configuration"] }
-ymx = { path = "$root/bindings/rust/ymx" }
-END
     openssl req -x509 -newkey rsa:2048 -nodes -subj /CN=localhost -keyout "$scratch/key" -outform der -out "$scratch/tls/certificate" 2> "$scratch/log"
     openssl pkcs8 -topk8 -nocrypt -in "$scratch/key" -outform der -out "$scratch/tls/key"
-    program rustls env -C "$scratch/tls" CARGO_TARGET_DIR="$scratch/tls/target" cargo run -q --offline
+    in_rust rustls tls.rs rustls-0.20 "rustls = { version = \"0.20\", features = [\"dangerous_configuration\"] }
+ymx = { path = \"$root/bindings/rust/ymx\" }"
+    in_rust 'rustls with tokio' tls_tokio.rs tokio-rustls-0.23 "tokio = { version = \"1.24\", features = [\"io-util\", \"macros\", \"net\", \"rt-multi-thread\"] }
+tokio-rustls = { version = \"0.23\", features = [\"dangerous_configuration\"] }
+ymx-tokio = { path = \"$root/bindings/rust/ymx-tokio\" }"
 fi
 counted
