@@ -18,7 +18,7 @@ mod wire;
 pub use stream::Stream;
 pub use ymx::{Ended, Fault, Refused, Role, LEAST_WINDOW, MOST_STREAMS, WIDEST_WINDOW};
 
-use std::collections::HashMap;
+use std::collections::BTreeMap;
 use std::future::poll_fn;
 use std::io::{self, ErrorKind};
 use std::pin::Pin;
@@ -35,10 +35,10 @@ use ymx::{Session, Touched};
 
 const BLOCK: usize = 65_536;
 const LINGER: Duration = Duration::from_secs(10);
-/// For how long nothing was due when memory goes back, if there is no stream.
-const IDLE: Duration = Duration::from_secs(1);
 /// For how long a peer may not hear that its stream was accepted, if nothing else is said of it.
 const SOON: Duration = Duration::from_millis(20);
+/// After how many of these, a second, memory goes back if nothing was due and there is no stream.
+const LOOKS: u32 = 50;
 /// For how long is read what has come, once nothing can be written any more.
 const READ_OUT: Duration = Duration::from_secs(1);
 
@@ -61,16 +61,16 @@ struct Shared {
     wire: Mutex<Wire>,     // taken before the state
     is_wanted: AtomicBool, // the task has found it taken
     state: Mutex<State>,
-    due: Notify,
     emitted: Notify,
 }
 
 #[derive(Debug)]
 struct State {
     session: Session,
-    streams: HashMap<u32, Waits>,
-    is_notified: bool, // the task is about to look for what is due
-    is_soon: bool,     // it looks within SOON, though nobody wakes it
+    streams: BTreeMap<u32, Waits>,
+    task: Option<Waker>, // which waits until something is due
+    is_notified: bool,   // it is about to look
+    is_soon: bool,       // it looks within SOON, though nobody wakes it
     accepting: Waiters,
     opening: Waiters,
     pinging: Waiters,
@@ -121,6 +121,25 @@ impl State {
             let both = waits.reader.take().into_iter().chain(waits.writer.take());
             both.for_each(Waker::wake);
         }
+    }
+
+    /// Wakes the task, once for all that becomes due until it looks.
+    fn notify(&mut self) {
+        if !std::mem::replace(&mut self.is_notified, true) {
+            self.task.iter().for_each(Waker::wake_by_ref);
+        }
+    }
+
+    /// Wakes the task, if something is due.
+    fn notify_if_due(&mut self) {
+        if self.session.due() || self.over.is_some() {
+            self.notify();
+        }
+    }
+
+    /// Whether the task has something to do.
+    fn is_due(&self) -> bool {
+        self.session.due() || self.over.is_some() || !self.flushing.is_empty()
     }
 
     /// Bytes have gone. When that was matters once the connection is over.
@@ -223,7 +242,7 @@ impl Shared {
         state.opening.wake();
         state.pinging.wake();
         state.ending.wake();
-        self.notify(&mut state);
+        state.notify();
     }
 
     fn done(&self) {
@@ -324,22 +343,8 @@ impl Shared {
             state.accepting.wake();
         }
         state.opening.wake();
-        self.notify_if_due(&mut state);
+        state.notify_if_due();
         taken
-    }
-
-    /// Wakes the task, once for all that becomes due until it looks.
-    fn notify(&self, state: &mut State) {
-        if !std::mem::replace(&mut state.is_notified, true) {
-            self.due.notify_one();
-        }
-    }
-
-    /// Wakes the task, if it has something to do.
-    fn notify_if_due(&self, state: &mut State) {
-        if state.session.due() || state.over.is_some() {
-            self.notify(state);
-        }
     }
 
     /// Sends what is due, until the connection is over and all has gone.
@@ -367,7 +372,7 @@ impl Shared {
 
     /// Sends what is due. Whether the connection is over too, and nothing is left.
     fn poll_send(&self, context: &mut Context<'_>) -> Poll<io::Result<bool>> {
-        self.note_look(); // first, so that nothing stays that becomes due meanwhile
+        let is_due = self.look(); // first, so that nothing stays that becomes due meanwhile
         loop {
             // anew for each block, as others may write too
             let mut wire = match self.try_wire() {
@@ -375,6 +380,9 @@ impl Shared {
                 None => return Poll::Ready(Ok(false)), // who has it makes sure that this comes again
             };
             wire.polled_by_task(context.waker());
+            if !is_due && wire.has_gone() {
+                return Poll::Ready(Ok(false)); // who has flushed has sent it
+            }
             ready!(self.poll_rest(&mut wire, context))?;
             match self.emit(&mut wire) {
                 None => return Poll::Ready(Ok(true)),
@@ -387,10 +395,12 @@ impl Shared {
         }
     }
 
-    fn note_look(&self) {
+    /// The task looks whether something is due.
+    fn look(&self) -> bool {
         let mut state = self.lock();
         state.is_notified = false;
         state.is_soon = true;
+        state.is_due()
     }
 
     fn try_wire(&self) -> Option<MutexGuard<'_, Wire>> {
@@ -405,20 +415,18 @@ impl Shared {
     pub(crate) fn push(&self) {
         let mut wire = match self.wire.try_lock() {
             Ok(wire) => wire,
-            Err(_) => return self.due.notify_one(),
+            Err(_) => return self.lock().notify(),
         };
         let task = wire.task();
         let pushed = task.map(|task| self.poll_push(&mut wire, &mut Context::from_waker(&task)));
         drop(wire);
         let is_done = matches!(pushed, Some(Poll::Ready(Ok(()))));
-        if !is_done || self.is_wanted.swap(false, Ordering::SeqCst) && self.is_due() {
-            self.due.notify_one();
+        if !is_done || self.is_wanted.swap(false, Ordering::SeqCst) {
+            let mut state = self.lock();
+            if !is_done || state.is_due() {
+                state.notify();
+            }
         }
-    }
-
-    fn is_due(&self) -> bool {
-        let state = self.lock();
-        state.session.due() || state.over.is_some() || !state.flushing.is_empty()
     }
 
     fn poll_push(&self, wire: &mut Wire, context: &mut Context<'_>) -> Poll<io::Result<()>> {
@@ -483,11 +491,10 @@ impl Shared {
 
     /// Waits until something is due. Memory goes back where nothing was for long, and there is no stream.
     async fn idle(&self, mut alarm: Pin<&mut Sleep>) {
-        let began = Instant::now();
-        while began.elapsed() < IDLE {
+        for _ in 0..LOOKS {
             tokio::select! {
                 biased;
-                () = self.due.notified() => return,
+                () = self.notified() => return,
                 // which is set anew only here, as that costs as much as a small write
                 () = alarm.as_mut() => alarm.as_mut().reset(Instant::now() + SOON),
             }
@@ -495,10 +502,27 @@ impl Shared {
                 return;
             }
         }
-        if !self.rests() {
-            return;
+        if self.rests() {
+            self.notified().await;
         }
-        self.due.notified().await;
+    }
+
+    async fn notified(&self) {
+        poll_fn(|context| {
+            let mut state = self.lock();
+            if state.is_notified {
+                return Poll::Ready(());
+            }
+            if !state
+                .task
+                .as_ref()
+                .map_or(false, |task| task.will_wake(context.waker()))
+            {
+                state.task = Some(context.waker().clone());
+            }
+            Poll::Pending
+        })
+        .await
     }
 
     /// Before it looks no more until it is woken, gives memory back. Nothing may be due then.
@@ -525,7 +549,7 @@ impl Shared {
         };
         let number = Waiting::new(self, |state| &mut state.pinging, ask).await?;
         let mut asked = Asked(self, Some(number));
-        self.due.notify_one();
+        self.lock().notify();
         let answer = |state: &mut State| {
             if state.session.ponged(number).unwrap_or(false) {
                 return Ok(Some(began.elapsed()));
@@ -571,7 +595,8 @@ impl Connection {
     {
         let state = State {
             session: Session::new(role, window, 0)?,
-            streams: HashMap::new(),
+            streams: BTreeMap::new(),
+            task: None,
             is_notified: false,
             is_soon: false,
             accepting: Waiters::default(),
@@ -600,7 +625,6 @@ impl Connection {
             wire: Mutex::new(Wire::new(writer)),
             is_wanted: AtomicBool::new(false),
             state: Mutex::new(state),
-            due: Notify::new(),
             emitted: Notify::new(),
         });
         let running = Running {
@@ -622,7 +646,7 @@ impl Connection {
                 Err(refused) if refused.name() == "OPENS_PENDING" => Ok(None),
                 opened => {
                     let id = opened?;
-                    self.0 .0.notify(state);
+                    state.notify();
                     Ok(Some(self.stream(state, id)))
                 }
             }
@@ -640,7 +664,7 @@ impl Connection {
                     // that it was accepted goes with its first bytes, or soon: the task woken beside one that is spawned for
                     // the stream would wake a second thread. Only one stream's waits so
                     if is_due || !state.is_soon {
-                        self.0 .0.notify(state);
+                        state.notify();
                     }
                     Ok(Some(self.stream(state, id)))
                 }
@@ -672,7 +696,7 @@ impl Connection {
         let mut state = self.0 .0.lock();
         state.check()?;
         state.session.go_away()?;
-        self.0 .0.notify(&mut state);
+        state.notify();
         Ok(())
     }
 

@@ -41,7 +41,7 @@ impl Stream {
         let mut state = self.shared.lock();
         match state.session.read(self.id, buffer) {
             Ok(Got::Bytes(count)) => {
-                self.shared.notify_if_due(&mut state); // there may be credit to send
+                state.notify_if_due(); // there may be credit to send
                 return Poll::Ready(Ok(count));
             }
             Ok(Got::End) => return Poll::Ready(Ok(0)),
@@ -49,7 +49,7 @@ impl Stream {
             Ok(Got::Wait) | Err(_) => state.check()?,
         }
         state.streams.entry(self.id).or_default().reader = Some(context.waker().clone());
-        self.shared.notify_if_due(&mut state); // the peer may wait to hear that the stream was accepted
+        state.notify_if_due(); // the peer may wait to hear that the stream was accepted
         Poll::Pending
     }
 
@@ -64,7 +64,7 @@ impl Stream {
             }
         };
         state.written(self.id);
-        self.shared.notify(&mut state);
+        state.notify();
         Poll::Ready(Ok(count))
     }
 
@@ -86,7 +86,7 @@ impl Stream {
         state.check()?;
         state.streams.entry(self.id).or_default().writer = Some(context.waker().clone());
         state.note_flush(self.id);
-        self.shared.notify(&mut state);
+        state.notify();
         Poll::Pending
     }
 
@@ -207,6 +207,6 @@ impl Drop for Stream {
         }
         state.tidy(self.id, false);
         state.opening.wake();
-        self.shared.notify_if_due(&mut state);
+        state.notify_if_due();
     }
 }

@@ -94,6 +94,11 @@ impl Wire {
         self.is_flushed
     }
 
+    /// Whether all of the block has gone, and was flushed.
+    pub(crate) fn has_gone(&self) -> bool {
+        self.from == self.to && self.is_flushed
+    }
+
     /// Has `fill` fill the block, of which all has gone.
     pub(crate) fn fill(&mut self, fill: impl FnOnce(&mut [u8]) -> usize) -> usize {
         self.from = 0;
