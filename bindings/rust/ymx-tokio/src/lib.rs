@@ -655,7 +655,7 @@ impl Connection {
     }
 
     /// Waits for a stream of the peer's. Once the peer has hung up, it still gives the streams that came before, and then
-    /// `ConnectionAborted`.
+    /// `ConnectionAborted`. The peer hears that a stream was accepted with its first bytes, or within 20 ms.
     pub async fn accept(&self) -> io::Result<Stream> {
         let ask = |state: &mut State| {
             let is_due = state.session.due();

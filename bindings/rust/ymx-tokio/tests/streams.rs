@@ -329,6 +329,18 @@ async fn flush_and_shutdown_wait_until_all_has_gone() {
     }
 }
 
+#[tokio::test]
+async fn what_is_written_goes_by_itself_as_there_is_room() {
+    let (near, mut far) = tokio::io::duplex(5);
+    let client = Connection::begin(Role::Client, LEAST_WINDOW, near).unwrap();
+    let mut stream = client.open().await.unwrap();
+    stream.write_all(&ZEROS[..1000]).await.unwrap();
+    // by the specification: a Window Update with SYN, and Data
+    let mut came = [0; 12 + 1012];
+    let read = tokio::time::timeout(Duration::from_secs(20), far.read_exact(&mut came)).await;
+    read.unwrap().unwrap();
+}
+
 /// The peer resets a stream whose last byte, or end, is under way: the session has given it, and there is no room for it.
 #[tokio::test]
 async fn a_reset_that_comes_after_the_last_byte_changes_nothing() {
