@@ -259,8 +259,10 @@ class StreamTransport(_FlowControlMixin):
         if not self._told:
             self._told = True
             self._why = reason
-            self._guarded("connection_lost", self._protocol.connection_lost, reason)
-            if self.is_brought:
+            if not self.is_brought:
+                self.streams.connection_lost(reason)
+            else:
+                self._guarded("connection_lost", self._protocol.connection_lost, reason)
                 self._protocol = _NOBODY  # so that what it holds goes with it, and waits for no collection
 
     def _guarded(self, name: str, call: Callable[..., Any], *words: Any) -> Any:
@@ -304,7 +306,9 @@ class StreamTransport(_FlowControlMixin):
                 self._leave()
 
     def _pass(self, data: bytes) -> None:
-        if isinstance(self._protocol, asyncio.BufferedProtocol):
+        if not self.is_brought:
+            self.streams.data_received(data)
+        elif isinstance(self._protocol, asyncio.BufferedProtocol):
             self._guarded("get_buffer", _feed_data_to_buffered_proto, self._protocol, data)
         else:
             self._guarded("data_received", cast(asyncio.Protocol, self._protocol).data_received, data)
@@ -313,8 +317,9 @@ class StreamTransport(_FlowControlMixin):
         if self._end_is_told or self._closing:
             return
         self._end_is_told = True
-        goes_on = self._guarded("eof_received", cast(asyncio.Protocol, self._protocol).eof_received)
-        if self.is_brought and not goes_on:
+        if not self.is_brought:
+            self.streams.eof_received()
+        elif not self._guarded("eof_received", cast(asyncio.Protocol, self._protocol).eof_received):
             self.close()
 
     def _is_unwanted(self) -> bool:
