@@ -8,7 +8,7 @@ busybox-static cmake g++ make man-db musl-dev qemu-user strace tshark
 haproxy nginx openssh-server postgresql prometheus redis-server stunnel4 systemd
 golang-go golang-github-hashicorp-yamux-dev
 mypy python3-aiohttp python3-hypercorn python3-uvicorn python3-uvloop python3-websockets
-librust-futures-util-dev librust-hyper-dev librust-rustls-dev librust-tokio-dev
+librust-futures-util-dev librust-hyper-dev librust-rustls-dev librust-tokio-dev librust-tokio-rustls-dev
 '
 # asyncio's own tests, which have the number of the distribution's python3 in their package's name
 testsuite() {
