@@ -218,7 +218,7 @@ func TestAFloodOfPingsHoldsUpNoRead(t *testing.T) {
 	good(t, err)
 	defer session.Close()
 
-	const count = 20000
+	const count = 40000
 	frame := func(kind byte, flags uint16, id, length uint32) []byte {
 		header := make([]byte, headerSize)
 		header[1] = kind
