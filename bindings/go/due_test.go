@@ -32,7 +32,7 @@ func TestCreditGoesOutBehindADeadline(t *testing.T) {
 	}
 }
 
-// The same where the stream is reset right after that Read: neither the reset nor the answer to a ping stays behind.
+// The same where the stream is reset right after that Read: neither the reset nor the answer to a ping is left unsent.
 func TestAResetGoesOutBehindADeadline(t *testing.T) {
 	for _, begin := range []func(*testing.T, *Config) (*Session, *Session){overTCP, overPipe} {
 		client, server := begin(t, quiet())

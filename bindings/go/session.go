@@ -53,7 +53,7 @@ type Session struct {
 	pings     map[uint32]*ping
 	block     *[blockSize]byte // for what is emitted; nil while nothing is
 	rest      []byte           // what of it the connection has not taken
-	next      *[blockSize]byte // for what goes out behind it; nil while nothing does
+	next      *[blockSize]byte // for what goes out after it; nil while nothing does
 	filled    int              // how many bytes stand there
 	called    int              // how many bytes those have who were called to put theirs there, and have not come yet
 	out       outgoing
@@ -386,7 +386,7 @@ func (s *Session) takeBlock() {
 	}
 }
 
-// giveBlock gives it back, and the one behind it, once the connection has taken all, or takes no more.
+// giveBlock gives it back, and the one after it, once the connection has taken all, or takes no more.
 func (s *Session) giveBlock() {
 	if s.busy || len(s.rest) > 0 && !s.over {
 		return
@@ -416,7 +416,7 @@ func (s *Session) through(id uint32, bytes []byte) int {
 	return taken
 }
 
-// ahead has bytes of a stream go into frames while somebody writes those before them, behind what is due, and says how many. There
+// ahead has bytes of a stream go into frames while somebody writes those before them, after what is due, and says how many. There
 // is room for them.
 func (s *Session) ahead(id uint32, bytes []byte) int {
 	if s.next == nil {

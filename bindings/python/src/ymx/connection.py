@@ -160,7 +160,7 @@ class Connection(asyncio.Protocol):
             pass
 
     async def ping(self) -> float:
-        """Asks the peer for a sign of life, and returns how many seconds its answer took. Refused("PINGS_PENDING")
+        """Pings the peer, and returns how many seconds its answer took. Refused("PINGS_PENDING")
         where 16 answers are awaited, ConnectionLost where the connection ends before."""
         self._check_loop()
         self._check()

@@ -154,7 +154,7 @@ class Session:
         return good(_library.shrink_spare(self._at)) == 1
 
     def ping(self) -> int:
-        """Asks the peer for a sign of life, and returns the ping's number."""
+        """Pings the peer, and returns the ping's number."""
         return good(_library.ping(self._at))
 
     def ponged(self, number: int) -> bool:

@@ -107,7 +107,7 @@ class Session:
         return Stream(*_wait(self._connection.accept_stream(), timeout))
 
     def ping(self, timeout: Optional[float] = None) -> float:
-        """Asks the peer for a sign of life, and returns how many seconds its answer took."""
+        """Pings the peer, and returns how many seconds its answer took."""
         return _wait(self._connection.ping(), timeout)
 
     def go_away(self) -> None:

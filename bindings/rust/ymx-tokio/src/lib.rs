@@ -679,7 +679,7 @@ impl Connection {
         Stream::new(&self.0 .0, id)
     }
 
-    /// Asks the peer for a sign of life, and says how long its answer took. It waits while 16 answers are awaited.
+    /// Pings the peer, and says how long its answer took. It waits while 16 answers are awaited.
     pub async fn ping(&self) -> io::Result<Duration> {
         self.0 .0.ping().await
     }

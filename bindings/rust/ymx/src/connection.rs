@@ -137,7 +137,7 @@ enum Ping {
     GivenUp, // nobody waits for it any more
 }
 
-/// The ping behind the last byte of a connection that was closed here. Its answer says that all came.
+/// The ping after the last byte of a connection that was closed here. Its answer says that all came.
 #[derive(Clone, Copy, PartialEq, Eq)]
 enum Farewell {
     Unsaid,
@@ -151,7 +151,7 @@ struct Both {
     id: u32,
     readable: Condvar,
     writable: Condvar,
-    halves: Mutex<Halves>, // locked behind the state, or alone
+    halves: Mutex<Halves>, // locked after the state, or alone
 }
 
 impl fmt::Debug for Both {
@@ -378,7 +378,7 @@ impl Connection {
         }
     }
 
-    /// Asks the peer for a sign of life, and says how long its answer took. It waits while 16 answers are awaited.
+    /// Pings the peer, and says how long its answer took. It waits while 16 answers are awaited.
     pub fn ping(&self) -> io::Result<Duration> {
         self.0.ping(Until::ever())
     }
@@ -415,7 +415,7 @@ impl Connection {
         Ok(())
     }
 
-    /// For how long nothing may go on behind `close`: 10 seconds, if it isn't set.
+    /// For how long nothing may go on after `close`: 10 seconds, if it isn't set.
     pub fn set_linger(&self, linger: Duration) {
         self.0.lock().linger = linger;
     }
@@ -884,7 +884,7 @@ impl WriteHalf {
         self.timeout = timeout;
     }
 
-    /// Ends this side of the stream, behind the last byte, and says whether it could. The peer reads an end then, and
+    /// Ends this side of the stream, after the last byte, and says whether it could. The peer reads an end then, and
     /// nowhere else.
     pub fn finish(self) -> io::Result<()> {
         self.stream.finish()

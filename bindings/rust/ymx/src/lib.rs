@@ -210,7 +210,7 @@ impl Session {
         good(unsafe { ymx_open(self.0.as_ptr()) }).map(|id| id as u32)
     }
 
-    /// How many streams may be opened now, one behind another: at 0 `open` is refused.
+    /// How many streams may be opened now, one after another: at 0 `open` is refused.
     pub fn opens_left(&self) -> usize {
         good(unsafe { ymx_opens_left(self.0.as_ptr()) }).unwrap_or(0)
     }
@@ -266,7 +266,7 @@ impl Session {
         }
     }
 
-    /// How many bytes wait on a stream: those that `unread` gives, and those behind them.
+    /// How many bytes wait on a stream: those that `unread` gives, and those after them.
     pub fn unread_count(&self, id: u32) -> usize {
         good(unsafe { ymx_unread_count(self.0.as_ptr(), id) }).unwrap_or(0)
     }
@@ -382,7 +382,7 @@ impl Session {
         good(unsafe { ymx_pass(self.0.as_ptr(), bytes.as_ptr().cast(), bytes.len()) })
     }
 
-    /// Asks the peer for a sign of life, and returns the ping's number.
+    /// Pings the peer, and returns the ping's number.
     pub fn ping(&mut self) -> Result<u32, Refused> {
         good(unsafe { ymx_ping(self.0.as_ptr()) }).map(|number| number as u32)
     }
