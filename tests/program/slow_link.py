@@ -18,8 +18,10 @@ from beside import Peer
 from raw import ACK, ANY, PING, Program, accept, call, frame, listen
 from silence import question
 
-# How many bytes the line carries in a second, and how many a user sends.
+# How many bytes the line carries in a second, and what a user sends.
 RATE, MANY = 40_000, random.Random(41).randbytes(300_000)
+# The same of a line over which no answer to a ping comes for longer than a peer may be silent, though bytes get on.
+SLOWEST, FEW = 5_000, MANY[:100_000]
 # How many bytes are passed on at once, and the segments of a line that is no loopback.
 PIECE, SEGMENT = 2_048, 1_448
 # How many bytes the far side of the line holds that weren't passed on, and after how many seconds of silence an end asks its peer.
@@ -33,8 +35,8 @@ KEYSTROKE, STAYS = 0.3, 4
 class SlowLine:
     """A relay to this address, whose side of a connection holds so many bytes. For so many seconds it takes nothing."""
 
-    def __init__(self, place, room, closed):
-        self.place, self.closed = place, closed
+    def __init__(self, place, room, rate, closed):
+        self.place, self.rate, self.closed = place, rate, closed
         self.listener = socket.socket()
         self.listener.setsockopt(socket.SOL_SOCKET, socket.SO_RCVBUF, room)
         self.listener.setsockopt(socket.IPPROTO_TCP, socket.TCP_MAXSEG, SEGMENT)
@@ -55,7 +57,7 @@ class SlowLine:
             while piece := giver.recv(PIECE):
                 taker.sendall(piece)
                 passed += len(piece)
-                due += len(piece) / RATE
+                due += len(piece) / self.rate
                 if self.closed and passed >= CLOSED_AFTER:
                     due, self.closed = due + self.closed, 0
                 time.sleep(max(0, due - time.monotonic()))
@@ -81,9 +83,9 @@ def end(connection):
         pass
 
 
-def send_all(connection):
+def send_all(connection, sent):
     try:
-        connection.sendall(MANY)
+        connection.sendall(sent)
         connection.shutdown(socket.SHUT_WR)
     except OSError:
         pass
@@ -92,14 +94,15 @@ def send_all(connection):
 class Upload:
     """A user's upload through both ends and such a line, in a thread of its own: what came, in the end, and why no more."""
 
-    def __init__(self, name, room, closed, words):
-        self.name, self.came, self.why = name, b"", "it lasts too long"
+    def __init__(self, sent, line, words):
+        room, rate, closed = line
+        self.name, self.sent, self.came, self.why = f"{' '.join(words)}, {room} bytes", sent, b"", "it lasts too long"
         target, address = listen()
         far = Program("remote", "-v", "--bind", ANY, "--target", address, *words)
-        line = SlowLine(far.place(), room, closed)
+        line = SlowLine(far.place(), room, rate, closed)
         near = Program("local", "-v", "--listen", ANY, "--peer", line.address, *words)
         self.user = call(near.place())
-        threading.Thread(target=send_all, args=(self.user,), daemon=True).start()
+        threading.Thread(target=send_all, args=(self.user, sent), daemon=True).start()
         self.service = accept(target)
         self.thread = threading.Thread(target=self.read, daemon=True)
         self.thread.start()
@@ -117,14 +120,21 @@ class Upload:
     def fault(self):
         """What is wrong with it, once it is over. Nothing where it is whole."""
         self.thread.join()
-        return "" if self.came == MANY else f"{self.name}: {len(self.came)} of {len(MANY)} bytes, and {self.why}"
+        return "" if self.came == self.sent else f"{self.name}: {len(self.came)} of {len(self.sent)} bytes, and {self.why}"
+
+
+def whole(begun):
+    """All of these uploads at once are whole."""
+    faults = [fault for it in begun if (fault := it.fault())]
+    assert not faults, "; ".join(faults)
 
 
 def uploads(option, closed):
-    """All of them at once are whole."""
-    begun = [Upload(f"{option} {seconds}, {room} bytes", room, closed * seconds, (option, str(seconds))) for seconds in PATIENCES for room in ROOMS]
-    faults = [fault for it in begun if (fault := it.fault())]
-    assert not faults, "; ".join(faults)
+    whole([Upload(MANY, (room, RATE, closed * seconds), (option, str(seconds))) for seconds in PATIENCES for room in ROOMS])
+
+
+def slowest_uploads():
+    whole([Upload(FEW, (room, SLOWEST, 0), ("--ping", "1")) for room in ROOMS[:2]])
 
 
 def a_program_that_hangs():
@@ -150,6 +160,7 @@ TESTS = (
     ("uploads with --ping", uploads, ("--ping", 0)),
     ("uploads with --ping while nothing is taken", uploads, ("--ping", CLOSED)),
     ("uploads with --keepalive", uploads, ("--keepalive", 0)),
+    ("the slowest uploads", slowest_uploads, ()),
     ("a program that hangs", a_program_that_hangs, ()),
 )
 
